@@ -1,0 +1,35 @@
+-- Every claim of the crate holds: the laws of proofs/Laws and proofs/Order, put together.
+use mathlib.Core.Path.{_≡_, sym, _∙_, subst}
+use mathlib.Core.Logic.{_≢_}
+use Prim.Native.Nat.{ℕ, _<_}
+use borrow.Author.Tests.{lt-ltb, ne-eqb}
+use Rattle.slots.specs.Words.{fields, parts}
+use Rattle.slots.specs.Pairs.{Pair, Less}
+use Rattle.slots.specs.Claims.{Claims, Words}
+use Rattle.slots.proofs.Laws.{word-same, word-across, word-else, length-store}
+use Rattle.slots.proofs.Order.{less-irreflexive, less-transitive, less-total}
+
+words : (w d : ℕ) → Words w d
+words w d =
+    record {
+      same = λ l i f v r h. word-same w d l i f v r (lt-ltb _ _ h);
+      across = λ l i f v j g n hf hg. word-across w d l i f v j g (ne-eqb _ _ n) (lt-ltb _ _ hf) (lt-ltb _ _ hg);
+      elsewhere = λ l i f v j g n hf hg. word-else w d l i f v j g n (lt-ltb _ _ hf) (lt-ltb _ _ hg);
+      kept = λ l i f v. length-store w l i f v;
+    }
+
+pub claims : Claims
+claims =
+    record {
+      cells = words fields;
+      names = words parts;
+      irreflexive = less-irreflexive;
+      transitive = less-transitive;
+      total = less-total;
+      not-both = λ p q h k. less-irreflexive p (less-transitive p q p h k);
+      not-equal = λ p q h e. less-irreflexive q (rw e at h);
+      get-one = λ l i f a b p q. p ∙ sym q;
+      put-one = λ l i f v a b p q. p ∙ sym q;
+      name-one = λ l i f a b p q. p ∙ sym q;
+      put-name-one = λ l i f v a b p q. p ∙ sym q;
+    }

@@ -1,0 +1,4 @@
+pub mod Words
+pub mod Pairs
+pub mod Answers
+pub mod Claims

@@ -1,0 +1,70 @@
+// A slot is seven words of a lent slice of cells, and two of a lent slice of names.
+// Reads and writes are total: where there is no such word a read answers null (a name: 0) and a write does nothing,
+// so that no function above needs a bound on a link.
+ghost use mathlib.Core.Path.{_≡_};
+ghost use Rattle.slots.specs.Words.{cell, write, nameOf, rename};
+
+pub const NULL: u32 = 4294967295;
+
+// The fields of a slot, by their place in its seven words.
+pub const PLACE: u32 = 0;
+
+pub const STATE: u32 = 1;
+
+pub const PARENT: u32 = 2;
+
+pub const LEFT: u32 = 3;
+
+pub const RIGHT: u32 = 4;
+
+pub const PREV: u32 = 5;
+
+pub const NEXT: u32 = 6;
+
+// The states of a slot.
+pub const FREE: u32 = 0;
+
+pub const BLACK: u32 = 1;
+
+pub const RED: u32 = 2;
+
+// The parts of a slot's name.
+pub const HASH: u32 = 0;
+
+pub const KEY: u32 = 1;
+
+// The field f of slot i; null where there is no such word.
+pub fn get(cells: &[u32], i: u32, f: u32) -> u32
+    ensures { λ r. ⌜ r ≡ cell (now (cells .entry)) i f ⌝ }
+{
+    let k = 7 * (i as usize) + (f as usize);
+    if k < cells.len() { cells[k] } else { NULL }
+}
+
+// Writes v to the field f of slot i; nothing where there is no such word.
+pub fn put(cells: &mut [u32], i: u32, f: u32, v: u32)
+    ensures { λ _. ⌜ now (cells .exit) ≡ write (now (cells .entry)) i f v ⌝ }
+{
+    let k = 7 * (i as usize) + (f as usize);
+    if k < cells.len() {
+        cells[k] = v;
+    }
+}
+
+// The part f of slot i's name, its hash or its key; 0 where there is no such word.
+pub fn name(names: &[u64], i: u32, f: u32) -> u64
+    ensures { λ r. ⌜ r ≡ nameOf (now (names .entry)) i f ⌝ }
+{
+    let k = 2 * (i as usize) + (f as usize);
+    if k < names.len() { names[k] } else { 0 }
+}
+
+// Writes the part f of slot i's name; nothing where there is no such word.
+pub fn put_name(names: &mut [u64], i: u32, f: u32, v: u64)
+    ensures { λ _. ⌜ now (names .exit) ≡ rename (now (names .entry)) i f v ⌝ }
+{
+    let k = 2 * (i as usize) + (f as usize);
+    if k < names.len() {
+        names[k] = v;
+    }
+}
