@@ -59,7 +59,11 @@ found names cells root hash key = searched names cells (slotsOf names) root hash
 -- The search follows the link p once it has visited k slots: the root first, and from a slot the link that the look names.
 pub data Follows (names cells : List ℕ) (root hash key : ℕ) : ℕ → ℕ → Type 0 where
   start : Follows names cells root hash key 0 root
-  step : {k p q : ℕ} → Follows names cells root hash key k p → p < slotsOf names → looked names cells p hash key ≡ on q
+  step : {k p q : ℕ}
+      → Follows names cells root hash key k p
+      → p ≢ null
+      → p < slotsOf names
+      → looked names cells p hash key ≡ on q
       → Follows names cells root hash key (suc k) q
 
 -- "9 Lost: a read follows a link neither null nor a slot, or would visit one slot more than there are slots."
@@ -69,3 +73,18 @@ pub record Lost (names cells : List ℕ) (root hash key : ℕ) : Type 0 where
   pub follows : Follows names cells root hash key visited link
   pub solid : link ≢ null
   pub astray : (slotsOf names ≤ link) ⊎ (slotsOf names ≤ visited)
+
+-- A slot followed to where the look says that the pair is here.
+pub record Here (names cells : List ℕ) (root hash key slot : ℕ) : Type 0 where
+  pub visited : ℕ
+  pub follows : Follows names cells root hash key visited slot
+  pub solid : slot ≢ null
+  pub inside : slot < slotsOf names
+  pub timely : visited < slotsOf names
+  pub look : looked names cells slot hash key ≡ here
+
+-- A null link followed while visits are left.
+pub record Missed (names cells : List ℕ) (root hash key : ℕ) : Type 0 where
+  pub visited : ℕ
+  pub follows : Follows names cells root hash key visited null
+  pub timely : visited ≤ slotsOf names

@@ -5,3 +5,4 @@ pub mod Insertion
 pub mod Deletion
 pub mod Removal
 pub mod Hanging
+pub mod Claims

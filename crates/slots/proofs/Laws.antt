@@ -121,3 +121,7 @@ side-field rightward f (inr h) = ne-eqb 4 f (omega arith)
 pub other-other : (σ : Side) → other (other σ) ≡ σ
 other-other leftward = refl
 other-other rightward = refl
+
+-- What can be read back is told apart.
+pub told-apart : {A B : Type 0} (f : A → B) (back : B → A) → ((a : A) → back (f a) ≡ a) → (a b : A) → f a ≡ f b → a ≡ b
+told-apart f back h a b e = sym (h a) ∙ ap back e ∙ h b

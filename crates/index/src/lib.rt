@@ -1,0 +1,3 @@
+// The live tree's entry points, on lent slices: names (a hash and a key to a slot), cells (seven words to a slot) and the header.
+pub mod find;
+mod fit;

@@ -1,0 +1,123 @@
+-- The loop's invariant: the search from here, with the visits that are left, has the answer of the whole search.
+use mathlib.Core.Path.{_≡_, refl, sym, ap, _∙_}
+use mathlib.Core.List.{List}
+use denote.Ref.{now}
+use Prim.Native.Nat.{ℕ, suc, _<_, _≤_, _^_, _/_}
+use borrow.Author.Needs.{needs}
+use lib.ListN.{length}
+use Rattle.redblack.specs.Find.{Look, found, searched, slotsOf}
+use Rattle.tree.specs.Find.{seenOf}
+use Rattle.tree.proofs.Searching.{ended, strayed, spent, met, onward}
+use Rattle.tree.proofs.find.find_tree_node.Statement.{statement}
+use Rattle.tree.proofs.find.find_tree_node.Tie as tie
+
+abbrev Inv-loop : tie.InvT-loop
+Inv-loop names cells root hash key slots p₀ visits₀ p visits =
+    (searched names cells visits p hash key .answer ≡ found names cells root hash key .answer)
+    × (p < 2 ^ 32)
+    × (visits ≤ length names / 2)
+    × (slots ≡ length names / 2)
+
+abbrev μ-loop : tie.MeasureT-loop
+μ-loop names cells root hash key slots p₀ visits₀ p visits = visits
+
+loop-holds : tie.Need-loop-holds Inv-loop μ-loop
+unfolding found
+loop-holds c = search needs
+
+cast-if1 : tie.Need-cast-if1 Inv-loop μ-loop
+cast-if1 c = search needs
+
+returns : tie.Need-returns Inv-loop μ-loop
+returns c =
+    let at-loop = c .before .before in
+    let a = at-loop .before .before .before .args in
+    strayed (now (a .names)) (now (a .cells)) (a .hash) (a .key) (at-loop .loop .p) (at-loop .loop .visits) (at-loop .loop .inv .0) (c .before .loop-test .taken) (c .if1 .taken)
+
+returns-2 : tie.Need-returns-2 Inv-loop μ-loop
+returns-2 c =
+    let in-loop = c .before .before in
+    let a = in-loop .before .before .before .before .args in
+    spent (now (a .names)) (now (a .cells)) (a .hash) (a .key) (in-loop .before .loop .p) (in-loop .before .loop .visits) (in-loop .before .loop .inv .0) (in-loop .loop-test .taken) (c .if2 .taken)
+
+sub-visits : tie.Need-sub-visits Inv-loop μ-loop
+sub-visits c = search needs
+
+look-requires : tie.Need-look-requires Inv-loop μ-loop
+look-requires c κs = search needs
+
+enum-known-seen : tie.Need-enum-known-seen Inv-loop μ-loop
+enum-known-seen c = search needs
+
+enum-told : tie.Need-enum-told Inv-loop μ-loop
+enum-told c = search needs
+
+returns-3 : tie.Need-returns-3 Inv-loop μ-loop
+returns-3 c =
+    let at-look = c .before .before in
+    let at-if1 = at-look .before .before in
+    let at-loop = at-if1 .before .before in
+    let a = at-loop .before .before .before .args in
+    met
+    (now (a .names))
+    (now (a .cells))
+    (a .hash)
+    (a .key)
+    (at-loop .loop .p)
+    (at-loop .loop .visits)
+    (at-loop .loop .inv .0)
+    (at-if1 .before .loop-test .taken)
+    (at-if1 .if1 .left)
+    (at-look .before .if2 .left)
+    (ap seenOf (sym (c .enum-told .given .1)) ∙ at-look .look .ensures)
+
+loop-less : tie.Need-loop-less Inv-loop μ-loop
+loop-less c = search needs
+
+loop-again : tie.Need-loop-again Inv-loop μ-loop
+loop-again c =
+    let at-look = c .before .before .before in
+    let at-if1 = at-look .before .before in
+    let at-loop = at-if1 .before .before in
+    let a = at-loop .before .before .before .args in (
+      onward
+          (now (a .names))
+          (now (a .cells))
+          (a .hash)
+          (a .key)
+          (at-loop .loop .p)
+          (at-loop .loop .visits)
+          (at-loop .loop .inv .0)
+          (at-if1 .before .loop-test .taken)
+          (at-if1 .if1 .left)
+          (at-look .before .if2 .left)
+          (ap seenOf (sym (c .before .seen .given .1)) ∙ at-look .look .ensures),
+      search needs,
+      search needs,
+      search needs,
+    )
+
+returns-4 : tie.Need-returns-4 Inv-loop μ-loop
+returns-4 c =
+    let at-loop = c .before in
+    let a = at-loop .before .before .before .args in
+    ended (now (a .names)) (now (a .cells)) (a .hash) (a .key) (at-loop .loop .p) (at-loop .loop .visits) (at-loop .loop .inv .0) (c .loop-test .left)
+
+pub find-tree-node-spec : {M : Type 1} → statement M
+find-tree-node-spec =
+    tie.close
+    (tie.spec
+    Inv-loop
+    μ-loop
+    loop-holds
+    cast-if1
+    returns
+    returns-2
+    sub-visits
+    look-requires
+    enum-known-seen
+    enum-told
+    returns-3
+    loop-less
+    loop-again
+    returns-4)

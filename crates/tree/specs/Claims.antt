@@ -1,0 +1,14 @@
+-- What crate `tree` proves beside its contracts: its answers are told apart by their numbers, and each public routine has one answer.
+use mathlib.Core.Path.{_≡_}
+use mathlib.Core.List.{List}
+use Prim.Native.Nat.{ℕ}
+use Rattle.slots.specs.Answers.{OneAnswer}
+use Rattle.redblack.specs.Find.{found}
+use Rattle.tree.specs.Find.{answerOf}
+use Rattle.tree.specs.declared.find.Found.{Found}
+
+pub record Claims : Type 0 where
+  -- no two answers of find_tree_node have one number and value
+  pub found-one-to-one : (a b : Found) → answerOf a ≡ answerOf b → a ≡ b
+  -- find_tree_node's promise allows one answer
+  pub find-tree-node-one : (names cells : List ℕ) (root hash key : ℕ) → OneAnswer (λ r. answerOf r ≡ found names cells root hash key .answer)

@@ -1,0 +1,2 @@
+// What live trees and frozen sets share: routines that read one tree from its root.
+pub mod find;
