@@ -1,2 +1,4 @@
 pub mod Finding
+pub mod Rotating
+pub mod Balancing
 pub mod Claims

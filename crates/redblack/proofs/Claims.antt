@@ -8,6 +8,7 @@ use Rattle.slots.specs.Words.{null}
 use Rattle.redblack.specs.Find.{decided}
 use Rattle.redblack.specs.Claims.{Looks, Finds, Claims}
 use Rattle.redblack.proofs.Found.{lost-nine, nine-lost, only-nine, here-given, given-here, missed-nothing, nothing-missed, look-followed, followed-look}
+use Rattle.redblack.proofs.Checking.{test-claims, check-claims}
 
 look : (at own l r hash key : ℕ) → Looks at own l r hash key
 unfolding decided
@@ -34,4 +35,4 @@ search-claims names cells root hash key =
     }
 
 pub claims : Claims
-claims = record { looks = look; finds = search-claims }
+claims = record { looks = look; finds = search-claims; tests = test-claims; checks = check-claims }

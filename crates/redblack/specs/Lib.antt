@@ -5,4 +5,8 @@ pub mod Insertion
 pub mod Deletion
 pub mod Removal
 pub mod Hanging
+pub mod Check
+pub mod Tree
+pub mod Shape
+pub mod Chain
 pub mod Claims

@@ -1,12 +1,16 @@
 -- Every claim of the crate holds: an answer is read back off its number and value.
 use mathlib.Core.Path.{_≡_, refl, sym, _∙_}
-use Prim.Native.Nat.{ℕ}
+use Prim.Native.Nat.{ℕ, _+_, _-_}
+use native.Mathlib.Omega.{arith}
 use lib.Dec.{eqb}
 use Rattle.slots.specs.Words.{pick}
 use Rattle.slots.specs.Answers.{Answer, Value, some, none}
 use Rattle.slots.proofs.Laws.{told-apart}
 use Rattle.tree.specs.Find.{answerOf}
+use Rattle.tree.specs.Check.{checkedOf}
 use Rattle.tree.specs.Claims.{Claims}
+use Rattle.tree.specs.declared.check.Checked.{Checked}
+use Rattle.tree.specs.declared.check.Checked.the-variants.{Passes, Fails, Lost as Strays}
 use Rattle.tree.specs.declared.find.Found.{Found}
 use Rattle.tree.specs.declared.find.Found.the-variants.{At, Nothing, Lost}
 
@@ -19,8 +23,26 @@ reads-back (At slot) = refl
 reads-back Nothing = refl
 reads-back Lost = refl
 
-one-to-one : (a b : Found) → answerOf a ≡ answerOf b → a ≡ b
-one-to-one = told-apart answerOf (λ a. readBack (a .number) (a .value)) reads-back
+found-one-to-one : (a b : Found) → answerOf a ≡ answerOf b → a ≡ b
+found-one-to-one = told-apart answerOf (λ a. readBack (a .number) (a .value)) reads-back
+
+abbrev checkedBack : ℕ → Value → Checked
+checkedBack number (some slot) = Fails (number - 100) slot
+checkedBack number none = pick (eqb number 0) Passes Strays
+
+checks-back : (r : Checked) → checkedBack (checkedOf r .number) (checkedOf r .value) ≡ r
+checks-back Passes = refl
+checks-back (Fails t slot) = let z : 100 + t - 100 ≡ t = omega arith in rw z
+checks-back Strays = refl
+
+checked-one-to-one : (a b : Checked) → checkedOf a ≡ checkedOf b → a ≡ b
+checked-one-to-one = told-apart checkedOf (λ a. checkedBack (a .number) (a .value)) checks-back
 
 pub claims : Claims
-claims = record { found-one-to-one = one-to-one; find-tree-node-one = λ names cells root hash key a b p q. one-to-one a b (p ∙ sym q) }
+claims =
+    record {
+      found-one-to-one = found-one-to-one;
+      find-tree-node-one = λ names cells root hash key a b p q. found-one-to-one a b (p ∙ sym q);
+      checked-one-to-one = checked-one-to-one;
+      check-invariants-one = λ names cells root a b p q. checked-one-to-one a b (p ∙ sym q);
+    }

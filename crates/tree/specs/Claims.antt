@@ -4,7 +4,10 @@ use mathlib.Core.List.{List}
 use Prim.Native.Nat.{ℕ}
 use Rattle.slots.specs.Answers.{OneAnswer}
 use Rattle.redblack.specs.Find.{found}
+use Rattle.redblack.specs.Check.{checked}
 use Rattle.tree.specs.Find.{answerOf}
+use Rattle.tree.specs.Check.{checkedOf}
+use Rattle.tree.specs.declared.check.Checked.{Checked}
 use Rattle.tree.specs.declared.find.Found.{Found}
 
 pub record Claims : Type 0 where
@@ -12,3 +15,6 @@ pub record Claims : Type 0 where
   pub found-one-to-one : (a b : Found) → answerOf a ≡ answerOf b → a ≡ b
   -- find_tree_node's promise allows one answer
   pub find-tree-node-one : (names cells : List ℕ) (root hash key : ℕ) → OneAnswer (λ r. answerOf r ≡ found names cells root hash key .answer)
+  -- so for the source's check
+  pub checked-one-to-one : (a b : Checked) → checkedOf a ≡ checkedOf b → a ≡ b
+  pub check-invariants-one : (names cells : List ℕ) (root : ℕ) → OneAnswer (λ r. checkedOf r ≡ checked names cells root)

@@ -1,2 +1,3 @@
 pub mod Find
+pub mod Check
 pub mod Claims

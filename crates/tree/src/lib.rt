@@ -1,2 +1,3 @@
 // What live trees and frozen sets share: routines that read one tree from its root.
+pub mod check;
 pub mod find;

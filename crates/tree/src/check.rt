@@ -1,0 +1,255 @@
+// The source's check_invariants, on any words and from any root.
+use slots::HASH;
+use slots::LEFT;
+use slots::NEXT;
+use slots::NULL;
+use slots::PARENT;
+use slots::PREV;
+use slots::RED;
+use slots::RIGHT;
+use slots::STATE;
+use slots::get;
+use slots::name;
+ghost use mathlib.Core.Path.{_≡_};
+ghost use Rattle.redblack.specs.Find.{slotsOf};
+ghost use Rattle.tree.specs.Check.{walkOf, checkedOf};
+ghost use Rattle.redblack.specs.Check.{pointsBack, isChild, leftHash, rightHash, redSlot, notAllRed, firstFailing, inRange, linksIn, walked, checked};
+
+// The neighbour of i along the field f, if any, points back to i along the field g.
+fn points_back(cells: &[u32], i: u32, f: u32, g: u32) -> bool
+    ensures { λ r. ⌜ r ≡ pointsBack (now (cells .entry)) i f g ⌝ }
+{
+    let j = get(cells, i, f);
+    if j == NULL {
+        return true;
+    }
+    let back = get(cells, j, g);
+    if back == i {
+        return true;
+    }
+    false
+}
+
+// The parent of i, if any, has it as its left or its right child.
+fn is_child(cells: &[u32], i: u32) -> bool
+    ensures { λ r. ⌜ r ≡ isChild (now (cells .entry)) i ⌝ }
+{
+    let p = get(cells, i, PARENT);
+    if p == NULL {
+        return true;
+    }
+    let l = get(cells, p, LEFT);
+    if l == i {
+        return true;
+    }
+    let r = get(cells, p, RIGHT);
+    if r == i {
+        return true;
+    }
+    false
+}
+
+// The hash of i's left child, if any, is at most i's.
+fn left_hash(names: &[u64], cells: &[u32], i: u32) -> bool
+    ensures { λ r. ⌜ r ≡ leftHash (now (names .entry)) (now (cells .entry)) i ⌝ }
+{
+    let l = get(cells, i, LEFT);
+    if l == NULL {
+        return true;
+    }
+    let theirs = name(names, l, HASH);
+    let own = name(names, i, HASH);
+    if theirs <= own {
+        return true;
+    }
+    false
+}
+
+// The hash of i's right child, if any, is at least i's.
+fn right_hash(names: &[u64], cells: &[u32], i: u32) -> bool
+    ensures { λ r. ⌜ r ≡ rightHash (now (names .entry)) (now (cells .entry)) i ⌝ }
+{
+    let r = get(cells, i, RIGHT);
+    if r == NULL {
+        return true;
+    }
+    let own = name(names, i, HASH);
+    let theirs = name(names, r, HASH);
+    if own <= theirs {
+        return true;
+    }
+    false
+}
+
+fn is_red(cells: &[u32], i: u32) -> bool
+    ensures { λ r. ⌜ r ≡ redSlot (now (cells .entry)) i ⌝ }
+{
+    let state = get(cells, i, STATE);
+    if state == RED {
+        return true;
+    }
+    false
+}
+
+// i is not red, or lacks a child, or one of its two children is not red.
+fn not_all_red(cells: &[u32], i: u32) -> bool
+    ensures { λ r. ⌜ r ≡ notAllRed (now (cells .entry)) i ⌝ }
+{
+    let own = is_red(cells, i);
+    if !own {
+        return true;
+    }
+    let l = get(cells, i, LEFT);
+    if l == NULL {
+        return true;
+    }
+    let r = get(cells, i, RIGHT);
+    if r == NULL {
+        return true;
+    }
+    let lefts = is_red(cells, l);
+    if !lefts {
+        return true;
+    }
+    let rights = is_red(cells, r);
+    if !rights {
+        return true;
+    }
+    false
+}
+
+// The number of the first of the eight tests that fails at slot i; 0 where none does.
+fn first_failing(names: &[u64], cells: &[u32], i: u32) -> u32
+    ensures { λ r. ⌜ r ≡ firstFailing (now (names .entry)) (now (cells .entry)) i ⌝ }
+{
+    let t1 = points_back(cells, i, PREV, NEXT);
+    if !t1 {
+        return 1;
+    }
+    let t2 = points_back(cells, i, NEXT, PREV);
+    if !t2 {
+        return 2;
+    }
+    let t3 = is_child(cells, i);
+    if !t3 {
+        return 3;
+    }
+    let t4 = points_back(cells, i, LEFT, PARENT);
+    if !t4 {
+        return 4;
+    }
+    let t5 = left_hash(names, cells, i);
+    if !t5 {
+        return 5;
+    }
+    let t6 = points_back(cells, i, RIGHT, PARENT);
+    if !t6 {
+        return 6;
+    }
+    let t7 = right_hash(names, cells, i);
+    if !t7 {
+        return 7;
+    }
+    let t8 = not_all_red(cells, i);
+    if !t8 {
+        return 8;
+    }
+    0
+}
+
+// A link is null or names one of n slots.
+fn in_range(n: usize, link: u32) -> bool
+    ensures { λ r. ⌜ r ≡ inRange n link ⌝ }
+{
+    if link == NULL {
+        return true;
+    }
+    if (link as usize) < n {
+        return true;
+    }
+    false
+}
+
+// So is each of slot i's own five links.
+fn links_in(n: usize, cells: &[u32], i: u32) -> bool
+    ensures { λ r. ⌜ r ≡ linksIn n (now (cells .entry)) i ⌝ }
+{
+    let parent = in_range(n, get(cells, i, PARENT));
+    if !parent {
+        return false;
+    }
+    let left = in_range(n, get(cells, i, LEFT));
+    if !left {
+        return false;
+    }
+    let right = in_range(n, get(cells, i, RIGHT));
+    if !right {
+        return false;
+    }
+    let prev = in_range(n, get(cells, i, PREV));
+    if !prev {
+        return false;
+    }
+    in_range(n, get(cells, i, NEXT))
+}
+
+// What a visit comes to: all passes, with so many visits left; a test fails at a slot; or the walk is lost.
+enum Walk {
+    Passed(usize),
+    Failed(u32, u32),
+    Strayed,
+}
+
+// Visits the slot i, then its left subtree whole, then the right.
+fn visit(names: &[u64], cells: &[u32], i: u32, visits: usize) -> Walk
+    ensures { λ r. ⌜ walkOf r ≡ walked visits (now (names .entry)) (now (cells .entry)) i visits ⌝ }
+{
+    if i == NULL {
+        return Walk::Passed(visits);
+    }
+    let slots = names.len() / 2;
+    if slots <= i as usize {
+        return Walk::Strayed;
+    }
+    if visits == 0 {
+        return Walk::Strayed;
+    }
+    let named = links_in(slots, cells, i);
+    if !named {
+        return Walk::Strayed;
+    }
+    let test = first_failing(names, cells, i);
+    if test != 0 {
+        return Walk::Failed(test, i);
+    }
+    let l = get(cells, i, LEFT);
+    let left = visit(names, cells, l, visits - 1);
+    match left {
+        Walk::Passed(rest) => {
+            let r = get(cells, i, RIGHT);
+            visit(names, cells, r, rest)
+        }
+        Walk::Failed(t, at) => Walk::Failed(t, at),
+        Walk::Strayed => Walk::Strayed,
+    }
+}
+
+pub enum Checked {
+    Passes,
+    Fails(u32, u32),
+    Lost,
+}
+
+// The first failing test with its slot, or that all pass. Lost where the root or one of a visited slot's five links is out of
+// range, and where one slot more than there are would be visited.
+pub fn check_invariants(names: &[u64], cells: &[u32], root: u32) -> Checked
+    ensures { λ r. ⌜ checkedOf r ≡ checked (now (names .entry)) (now (cells .entry)) root ⌝ }
+{
+    let slots = names.len() / 2;
+    let walk = visit(names, cells, root, slots);
+    match walk {
+        Walk::Passed(_) => Checked::Passes,
+        Walk::Failed(test, slot) => Checked::Fails(test, slot),
+        Walk::Strayed => Checked::Lost,
+    }
+}
