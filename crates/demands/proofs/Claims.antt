@@ -1,6 +1,6 @@
 -- Every claim of the crate holds: the laws of the other files, put together.
 use Rattle.demands.specs.Claims.{Claims}
-use Rattle.demands.proofs.Find.{find-claims}
+use Rattle.demands.proofs.Reading.{find-claims, check-claims}
 
 pub claims : Claims
-claims = record { find = find-claims }
+claims = record { find = find-claims; check = check-claims }

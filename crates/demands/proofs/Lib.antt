@@ -1,3 +1,3 @@
 pub mod Fit
-pub mod Find
+pub mod Reading
 pub mod Claims

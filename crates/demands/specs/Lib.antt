@@ -1,3 +1,4 @@
 pub mod Live
 pub mod Find
+pub mod Check
 pub mod Claims

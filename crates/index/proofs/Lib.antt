@@ -1,4 +1,4 @@
-pub mod Finding
+pub mod Gate
 pub mod Rotating
 pub mod Balancing
 pub mod Claims

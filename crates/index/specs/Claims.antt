@@ -4,9 +4,13 @@ use Prim.Native.Nat.{ℕ}
 use Rattle.slots.specs.Answers.{OneAnswer}
 use Rattle.demands.specs.Live.{Live}
 use Rattle.demands.specs.Find.{finds}
-use Rattle.index.specs.Answers.{foundOf}
+use Rattle.demands.specs.Check.{checks}
+use Rattle.index.specs.Answers.{foundOf, checkedOf}
+use Rattle.index.specs.declared.check.Checked.{Checked}
 use Rattle.index.specs.declared.find.Found.{Found}
 
 pub record Claims : Type 0 where
   pub found-one-to-one : (a b : Found) → foundOf a ≡ foundOf b → a ≡ b
   pub find-one : (t : Live) (hash key : ℕ) → OneAnswer (λ r. foundOf r ≡ finds t hash key)
+  pub checked-one-to-one : (a b : Checked) → checkedOf a ≡ checkedOf b → a ≡ b
+  pub check-one : (t : Live) → OneAnswer (λ r. checkedOf r ≡ checks t)

@@ -4,7 +4,7 @@ use denote.Ref.{now}
 use borrow.Author.Needs.{needs}
 use borrow.Author.Tests.{not-true, not-false}
 use Rattle.tree.specs.Find.{answerOf}
-use Rattle.index.proofs.Finding.{unfit, searched}
+use Rattle.index.proofs.Gate.{find-unfit, find-fit}
 use Rattle.index.proofs.find.find.Statement.{statement}
 use Rattle.index.proofs.find.find.Tie as tie
 
@@ -14,7 +14,7 @@ fit-requires c κs = search needs
 returns : tie.Need-returns
 returns c =
     let at-fit = c .before in
-    unfit _ _ _ (at-fit .fit .ensures) (not-true (at-fit .fit .result) (c .if1 .taken))
+    find-unfit _ (at-fit .fit .ensures) _ _ (not-true (at-fit .fit .result) (c .if1 .taken))
 
 word-requires : tie.Need-word-requires
 word-requires c κs = search needs
@@ -37,11 +37,11 @@ returns-2 c =
     let at-word = at-search .before in
     let at-test = at-word .before in
     let at-fit = at-test .before in
-    searched
-    _
-    _
+    find-fit
     _
     (at-fit .fit .ensures)
+    _
+    _
     (not-false (at-fit .fit .result) (at-test .if1 .left))
     (at-word .word .ensures)
     (ap answerOf (sym (c .before .found .given .1)) ∙ at-search .find-tree-node .ensures)
@@ -52,11 +52,11 @@ returns-3 c =
     let at-word = at-search .before in
     let at-test = at-word .before in
     let at-fit = at-test .before in
-    searched
-    _
-    _
+    find-fit
     _
     (at-fit .fit .ensures)
+    _
+    _
     (not-false (at-fit .fit .result) (at-test .if1 .left))
     (at-word .word .ensures)
     (ap answerOf (sym (c .enum-told .given .1)) ∙ at-search .find-tree-node .ensures)
@@ -67,11 +67,11 @@ returns-4 c =
     let at-word = at-search .before in
     let at-test = at-word .before in
     let at-fit = at-test .before in
-    searched
-    _
-    _
+    find-fit
     _
     (at-fit .fit .ensures)
+    _
+    _
     (not-false (at-fit .fit .result) (at-test .if1 .left))
     (at-word .word .ensures)
     (ap answerOf (sym (c .enum-told2 .given .1)) ∙ at-search .find-tree-node .ensures)
