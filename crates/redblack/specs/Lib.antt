@@ -9,4 +9,7 @@ pub mod Check
 pub mod Tree
 pub mod Shape
 pub mod Chain
+pub mod Sided
+pub mod Balance
+pub mod Kept
 pub mod Claims

@@ -1,0 +1,175 @@
+-- A slot with at most one child goes. In a red-black tree it is bare below, or black over one red child, so its removal takes away no
+-- more than one black; a bare black slot stays in place while the way above it is mended for nothing in its place.
+use mathlib.Core.Path.{_≡_, refl, ap, _∙_, sym}
+use mathlib.Core.Logic.{_≢_}
+use mathlib.Core.List.{[], _∷_}
+use mathlib.Core.Bool.{true, false}
+use Prim.Native.Nat.{ℕ, _<_, _≤_}
+use native.Mathlib.Omega.{arith}
+use lib.ListN.{length}
+use lib.Dec.{eqb}
+use borrow.Author.Tests.{eq-eqb, ne-eqb}
+use Rattle.slots.specs.Words.{pick, null, parent, left, right, Colour, Side, other, toward, black, red, leftward, rightward}
+use Rattle.slots.proofs.Laws.{length-write}
+use Rattle.redblack.specs.Links.{Links, read, stored, painted, isRed}
+use Rattle.redblack.specs.Sided.{Sided, Way, top, upper, plug, slots, count, Site, bare, fork, none, home}
+use Rattle.redblack.specs.Balance.{RedBlack, Wants, Part, Outcome, void, dark, rosy, blackPart, redPart}
+use Rattle.redblack.specs.Deletion.{balancedDeletion}
+use Rattle.redblack.specs.Removal.{replaced, replacement, spliced, detached, dropped}
+use Rattle.redblack.specs.Kept.{Agree, up}
+use Rattle.redblack.proofs.Reading.{reads, roomy-cap, recap, solid}
+use Rattle.redblack.proofs.Frames.{hit-same, apart, count-upper, upper-count, cell-of, this-of, agree-trans, Moved, whole, rehang, root-else, not-root}
+use Rattle.redblack.proofs.Paint.{painting}
+use Rattle.redblack.proofs.Order.{slots-plug}
+use Rattle.redblack.proofs.Depth.{depth}
+use Rattle.redblack.proofs.Looks.{red-top, dark-top}
+use Rattle.redblack.proofs.Parts.{plug-black, plug-any, part-of}
+use Rattle.redblack.proofs.Seat.{rewire, heads-on, Seat, seat}
+use Rattle.redblack.proofs.Deletion.{turn-red, deletion-root, deletion-done, deletion}
+
+-- The slot in view, which is bare, leaves the tree.
+detached-site : {n : ℕ} {s : Links} {ρ : Side} {d : Colour} {p : ℕ} {C : Way} → Site n s C (fork ρ d bare p bare) → Site n (detached s p) C bare
+unfolding detached count
+detached-site {n} {s} {p = p} {C} h =
+    let k = cell-of (h .tree) in
+    let small = h .cap .small in
+    let S : Seat n s s (replaced s (upper C) p null) C null = seat null small (k .inside) (omega (arith, h .once p, hit-same p)) (h .cap) refl (λ l. record { same = λ f e. refl }) (h .way) in
+    let t = stored (replaced s (upper C) p null) p parent null in
+    let off : (j : ℕ) → j ≢ p → Agree (replaced s (upper C) p null) t j = λ j e. record { same = λ f l. simp reads } in
+    let v : Site n t C bare =
+    record {
+      cap = recap (S .cap) (simp length-write);
+      way = rewire (λ j. omega (arith, h .once j)) (λ j l z e. agree-trans (S .off j e) (off j (apart (omega (arith, h .once j)))))
+          (heads-on t null (h .way) refl (λ l. off (upper C) (apart (omega (arith, h .once (upper C), upper-count C (omega arith))))) (S .heads)) (h .way);
+      tree = none;
+      once = λ j. omega (arith, h .once j);
+    } in
+    rw (ap (λ (q : ℕ). stored (replaced s q p null) p parent null) (k .above)) v
+
+-- The slot p in view has one child, which takes its place.
+splicedBy : Links → ℕ → ℕ → ℕ → Links
+splicedBy s p x q = stored (stored (stored (replaced (stored s x parent q) q p x) p left null) p right null) p parent null
+
+spliced-site : {n : ℕ} {s : Links} {ρ σ : Side} {d e : Colour} {a b : Sided} {x p : ℕ} {C : Way} → Site n s C (fork ρ d (fork σ e a x b) p bare) → Site n (spliced s p x) C (fork σ e a x b)
+unfolding spliced splicedBy count
+spliced-site {n} {s} {ρ} {σ} {d} {e} {a} {b} {x} {p} {C} h =
+    let k = cell-of (h .tree) in
+    let kx = cell-of (this-of (h .tree)) in
+    let small = h .cap .small in
+    let xp : x ≢ p = apart (omega (arith, h .once x, hit-same x)) in
+    let xC : x ≢ upper C = apart (omega (arith, h .once x, hit-same x, count-upper x C (omega (arith, kx .inside)))) in
+    let s1 = stored s x parent (upper C) in
+    let up : (j : ℕ) → j ≢ x → Agree s s1 j = λ j z. record { same = λ f l. simp reads } in
+    let end : upper C < n → (upper C ≢ x) × (upper C ≢ p) = λ l. (λ z. xC (sym z), apart (omega (arith, h .once (upper C), upper-count C (omega arith)))) in
+    let S : Seat n s s1 (replaced s1 (upper C) p x) C x = seat x small (k .inside) (omega (arith, h .once p, hit-same p)) (recap (h .cap) (simp length-write)) refl (λ l. up (upper C) (end l .0)) (h .way) in
+    let t = splicedBy s p x (upper C) in
+    let off : (j : ℕ) → j ≢ p → Agree (replaced s1 (upper C) p x) t j = λ j z. record { same = λ f l. simp reads } in
+    let far : (j : ℕ) → j ≢ p → j ≢ upper C → j ≢ x → Agree s t j = λ j z f g. agree-trans (up j g) (agree-trans (S .off j f) (off j z)) in
+    let near : Agree s1 t x = agree-trans (S .off x xC) (off x xp) in
+    let moved : Moved s t x (upper C) = record { up = near .same parent refl ∙ simp (reads, roomy-cap x (h .cap) (kx .inside)); same = λ f l z. near .same f l ∙ simp reads } in
+    let v : Site n t C (fork σ e a x b) =
+    record {
+      cap = recap (S .cap) (simp length-write);
+      way = rewire (λ j. omega (arith, h .once j)) (λ j l z f. far j (apart (omega (arith, h .once j))) f (apart (omega (arith, h .once j))))
+          (heads-on t x (h .way) refl (λ l. off (upper C) (end l .1)) (S .heads)) (h .way);
+      tree = rehang (λ j l z f. far j (apart (omega (arith, h .once j))) (apart (omega (arith, h .once j, count-upper j C (omega arith)))) f) (λ l. moved) (λ j. omega (arith, h .once j)) (this-of (h .tree));
+      once = λ j. omega (arith, h .once j);
+    } in
+    rw (ap (splicedBy s p x) (k .above)) v
+
+-- Which slot stands in for p.
+replacement-none : (s : Links) (ρ : Side) (p : ℕ) → read s p (toward ρ) ≡ null → read s p (toward (other ρ)) ≡ null → replacement s p ≡ p
+unfolding replacement
+replacement-none s leftward p e f = rw (e, f)
+replacement-none s rightward p e f = rw (e, f)
+
+replacement-one : (s : Links) (ρ : Side) (p x : ℕ) → read s p (toward ρ) ≡ x → read s p (toward (other ρ)) ≡ null → eqb x null ≡ false → replacement s p ≡ x
+unfolding replacement
+replacement-one s leftward p x e f z = rw (e, z)
+replacement-one s rightward p x e f z = rw (f, e, z)
+
+-- `dropped` with the slot that stands in for p.
+droppedBy : ℕ → Links → ℕ → ℕ → Links
+droppedBy m s p x =
+    let s1 = pick (eqb x p) s (spliced s p x) in
+    let s2 = pick (isRed s p) s1 (balancedDeletion m s1 x) in
+    let s3 = pick (eqb x p) (detached s2 p) s2 in
+    pick (eqb (s3 .root) x) (painted s3 x black) s3
+
+dropped-by : (m : ℕ) (s : Links) (p x : ℕ) → replacement s p ≡ x → dropped m s p ≡ droppedBy m s p x
+unfolding dropped droppedBy
+dropped-by m s p x e = ap (droppedBy m s p) e
+
+dropped-red : (m : ℕ) (s : Links) (p : ℕ) → isRed s p ≡ true → (detached s p) .root ≢ p → droppedBy m s p p ≡ detached s p
+unfolding droppedBy
+dropped-red m s p f d = rw (eq-eqb p p refl, f, ne-eqb _ _ d)
+
+dropped-black : (m : ℕ) (s : Links) (p : ℕ) → isRed s p ≡ false → (detached (balancedDeletion m s p) p) .root ≢ p → droppedBy m s p p ≡ detached (balancedDeletion m s p) p
+unfolding droppedBy
+dropped-black m s p f d = rw (eq-eqb p p refl, f, ne-eqb _ _ d)
+
+dropped-one : (m : ℕ) (s : Links) (p x : ℕ) {t : Links} → x ≢ p → isRed s p ≡ false → balancedDeletion m (spliced s p x) x ≡ t → t .root ≢ x → droppedBy m s p x ≡ t
+unfolding droppedBy
+dropped-one m s p x {t} d f e g = rw (ne-eqb x p d, f, e, ne-eqb _ _ g)
+
+dropped-top : (m : ℕ) (s : Links) (p x : ℕ) {t : Links} → x ≢ p → isRed s p ≡ false → balancedDeletion m (spliced s p x) x ≡ t → t .root ≡ x → droppedBy m s p x ≡ painted t x black
+unfolding droppedBy
+dropped-top m s p x {t} d f e g = rw (ne-eqb x p d, f, e, eq-eqb _ _ g)
+
+-- What was detached is not the root.
+detached-root : {n : ℕ} {s : Links} {ρ : Side} {d : Colour} {p : ℕ} {C : Way} → Site n s C (fork ρ d bare p bare) → (detached s p) .root ≢ p
+unfolding count
+detached-root {p = p} h = root-else (detached-site h .way) (omega (arith, cell-of (h .tree) .inside, h .cap .small)) (omega (arith, h .once p, hit-same p))
+
+module _ {n : ℕ} {s : Links} {ρ : Side} {p : ℕ} {C : Way} (m : ℕ) (l : length C < m) where
+  bare-red : Wants 0 black C → Site n s C (fork ρ red bare p bare) → Outcome n (dropped m s p) (slots (plug C bare))
+  bare-red w h =
+      let k = cell-of (h .tree) in
+      let z = plug-any w void in
+      let e = dropped-by m s p p (replacement-none s ρ p (k .this) (k .that)) ∙ dropped-red m s p (red-top (h .tree)) (detached-root h) in
+      record { tree = plug C bare; height = z .0; site = rw e (whole C (detached-site h)); sound = z .1; same = refl }
+
+  bare-black : {e : Colour} → Wants 1 e C → Site n s C (fork ρ black bare p bare) → Outcome n (dropped m s p) (slots (plug C bare))
+  bare-black w h =
+      let k = cell-of (h .tree) in
+      let o = deletion m w void h l in
+      let e = dropped-by m s p p (replacement-none s ρ p (k .this) (k .that)) ∙ dropped-black m s p (dark-top (h .cap) (dark {σ = ρ} {i = p} void void) (h .tree)) (detached-root (o .site)) in
+      record { tree = plug (o .path) bare; height = o .height; site = rw e (whole (o .path) (detached-site (o .site))); sound = o .sound; same = o .same bare }
+
+-- A red child takes the place and the black: by the loop's first turn, or as the root, where the loop does not look.
+one-black : {n : ℕ} {s : Links} {ρ σ : Side} {p x : ℕ} (C : Way) (m : ℕ) → 0 < m → Site n s C (fork ρ black (fork σ red bare x bare) p bare) → Site n (dropped m s p) C (fork σ black bare x bare)
+unfolding count
+one-black {s = s} {ρ} {σ} {p} {x} [] m l h =
+    let k = cell-of (h .tree) in
+    let v = spliced-site h in
+    let xp : x ≢ p = apart (omega (arith, h .once x, hit-same x)) in
+    let top : (spliced s p x) .root ≡ x = elim (v .way) [ home e ↦ e ] in
+    let e = dropped-by m s p x (replacement-one s ρ p x (k .this) (k .that) (solid (cell-of (this-of (h .tree)) .inside) (h .cap .small)))
+    ∙ dropped-top m s p x xp (rw (k .hued)) (ap (balancedDeletion m (spliced s p x)) (sym top) ∙ deletion-root m (spliced s p x)) top in
+    rw e (painting black v)
+one-black {s = s} {ρ} {σ} {p} {x} (f ∷ C) m l h =
+    let k = cell-of (h .tree) in
+    let v = spliced-site h in
+    let xp : x ≢ p = apart (omega (arith, h .once x, hit-same x)) in
+    let e = dropped-by m s p x (replacement-one s ρ p x (k .this) (k .that) (solid (cell-of (this-of (h .tree)) .inside) (h .cap .small)))
+    ∙ dropped-one m s p x xp (rw (k .hued)) (deletion-done m (spliced s p x) x l (turn-red v)) (λ z. not-root v (sym z)) in
+    rw e (painting black v)
+
+-- The cases are all that a red-black tree leaves.
+pub dropping-part : {n : ℕ} {s : Links} {ρ : Side} {d : Colour} {a : Sided} {p : ℕ} {C : Way} (m : ℕ) → n ≤ m → Part C (fork ρ d a p bare) → Site n s C (fork ρ d a p bare) → Outcome n (dropped m s p) (slots (plug C a))
+unfolding slots
+dropping-part m l (blackPart w (dark void void)) h = bare-black m (omega (arith, depth h)) w h
+dropping-part {C = C} m l (blackPart w (dark (rosy {σ = σ} {i = x} void void) void)) h =
+    let z = plug-black w (dark {σ = σ} {i = x} void void) in
+    record {
+      tree = plug C (fork σ black bare x bare);
+      height = z .0;
+      site = whole C (one-black C m (omega (arith, depth h)) h);
+      sound = z .1;
+      same = slots-plug C (fork σ black bare x bare) (fork σ red bare x bare) refl;
+    }
+dropping-part m l (redPart w (rosy void void)) h = bare-red m (omega (arith, depth h)) w h
+
+-- The slot p in view, which has at most the child a, goes from a red-black tree.
+pub dropping : {n k : ℕ} {s : Links} {ρ : Side} {d : Colour} {a : Sided} {p : ℕ} {C : Way} (m : ℕ) → n ≤ m → RedBlack black k (plug C (fork ρ d a p bare)) → Site n s C (fork ρ d a p bare) → Outcome n (dropped m s p) (slots (plug C a))
+dropping {C = C} m l v h = dropping-part m l (part-of C v) h
