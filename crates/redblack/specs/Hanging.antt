@@ -39,3 +39,7 @@ hooked s x at =
 -- Hung, and balanced: in an empty tree x becomes the root and is black.
 unfoldable pub inserted : ℕ → Links → ℕ → Spot → Links
 inserted budget s x at = balancedInsertion budget (hooked s x at) x
+
+-- The spot where the order says that the pair hangs: under no slot where the tree is empty.
+unfoldable pub placed : ℕ → List ℕ → Links → ℕ → ℕ → Spot
+placed steps names s hash key = pick (eqb (s .root) null) (spot null left) (descended names (s .cells) steps (s .root) hash key)

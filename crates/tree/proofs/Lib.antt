@@ -1,3 +1,4 @@
 pub mod Searching
 pub mod Visiting
+pub mod Shaping
 pub mod Claims

@@ -1,3 +1,4 @@
 // What live trees and frozen sets share: routines that read one tree from its root.
 pub mod check;
 pub mod find;
+pub mod shape;
