@@ -7,10 +7,10 @@ use Prim.Native.Nat.{ℕ, _+_}
 use native.Mathlib.Omega.{arith}
 use Rattle.slots.specs.Words.{pick}
 use Rattle.slots.specs.Answers.{Answer, Value, some, none, given, nothing, refused}
-use Rattle.redblack.specs.Find.{found, slotsOf}
-use Rattle.redblack.specs.Check.{checked, walked, Walk, walkAnswer, passed, failed, strayed}
-use Rattle.redblack.specs.Claims.{Finds as Searches, Checks as Walkings}
-use Rattle.redblack.proofs.Claims.{claims}
+use Rattle.shape.specs.Find.{found, slotsOf}
+use Rattle.shape.specs.Check.{checked, walked, Walk, walkAnswer, passed, failed, strayed}
+use Rattle.shape.specs.Claims.{Finds as Searches, Checks as Walkings}
+use Rattle.shape.proofs.Claims.{claims}
 use Rattle.demands.specs.Live.{Live, Fit, rootOf, fits}
 use Rattle.demands.specs.Find.{finds}
 use Rattle.demands.specs.Check.{checks}
@@ -26,11 +26,9 @@ module _ (t : Live) (inner : Answer) where
   gated = pick (fits t) inner (refused 1)
 
   pub on-fit : Fit t → gated ≡ inner
-
   on-fit h = simp (fit-fits t h)
 
   pub off-fit : (Fit t → ⊥) → gated ≡ refused 1
-
   off-fit n = go (fits t) refl
     where
       go : (b : Bool) → fits t ≡ b → pick (fits t) inner (refused 1) ≡ refused 1
@@ -41,7 +39,6 @@ module _ (t : Live) (inner : Answer) where
   one-only n = (λ e h. n (sym (on-fit h) ∙ e), off-fit)
 
   pub others : {a : Answer} → (a ≡ refused 1 → ⊥) → {P : Type 0} → (inner ≡ a) ↔ P → (gated ≡ a) ↔ (Fit t × P)
-
   others {a} n {P} h = (λ e. go (fits t) refl e, λ f. on-fit (f .0) ∙ h .1 (f .1))
     where
       go : (b : Bool) → fits t ≡ b → gated ≡ a → Fit t × P
@@ -56,12 +53,12 @@ module _ (t : Live) (hash key : ℕ) where
   unfolding finds
   find-claims =
       let a = found (t .names) (t .cells) (rootOf t) hash key .answer in
-      record
-        { one = one-only t a (λ e. omega (arith, at-root .only-nine 1 (omega arith) e))
-        ; nine = others t a (λ e. omega (arith, number e)) (at-root .nine)
-        ; at = λ slot. others t a (λ e. omega (arith, number e)) (at-root .at slot)
-        ; none = others t a (λ e. omega (arith, number e)) (at-root .none)
-        }
+      record {
+        one = one-only t a (λ e. omega (arith, at-root .only-nine 1 (omega arith) e));
+        nine = others t a (λ e. omega (arith, number e)) (at-root .nine);
+        at = λ slot. others t a (λ e. omega (arith, number e)) (at-root .at slot);
+        none = others t a (λ e. omega (arith, number e)) (at-root .none);
+      }
 
 -- The walk's answer is never 1.
 walk-not-one : (o : Walk) → walkAnswer o ≡ refused 1 → ⊥
@@ -81,9 +78,9 @@ module _ (t : Live) where
   unfolding checks
   check-claims =
       let a = checked (t .names) (t .cells) (rootOf t) in
-      record
-        { one = one-only t a (check-not-one (t .names) (t .cells) (rootOf t))
-        ; nine = others t a (λ e. omega (arith, number e)) (from-root .nine)
-        ; passes = others t a (λ e. omega (arith, number e)) (from-root .passes)
-        ; fails = λ test slot. others t a (λ e. omega (arith, number e)) (from-root .fails test slot)
-        }
+      record {
+        one = one-only t a (check-not-one (t .names) (t .cells) (rootOf t));
+        nine = others t a (λ e. omega (arith, number e)) (from-root .nine);
+        passes = others t a (λ e. omega (arith, number e)) (from-root .passes);
+        fails = λ test slot. others t a (λ e. omega (arith, number e)) (from-root .fails test slot);
+      }

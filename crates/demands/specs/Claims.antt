@@ -3,8 +3,8 @@ use mathlib.Core.Path.{_≡_}
 use mathlib.Core.Logic.{_↔_}
 use Prim.Native.Nat.{ℕ, _+_}
 use Rattle.slots.specs.Answers.{Answer, some, given, nothing, refused}
-use Rattle.redblack.specs.Find.{Lost, Here, Missed}
-use Rattle.redblack.specs.Check.{Walk, passed, failed, strayed, Walks}
+use Rattle.shape.specs.Find.{Lost, Here, Missed}
+use Rattle.shape.specs.Check.{Walk, passed, failed, strayed, Walks}
 use Rattle.demands.specs.Live.{Live, Fit, rootOf, capacityOf}
 use Rattle.demands.specs.Find.{finds}
 use Rattle.demands.specs.Check.{checks}

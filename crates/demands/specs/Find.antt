@@ -2,7 +2,7 @@
 use Prim.Native.Nat.{ℕ}
 use Rattle.slots.specs.Words.{pick}
 use Rattle.slots.specs.Answers.{Answer, refused}
-use Rattle.redblack.specs.Find.{found}
+use Rattle.shape.specs.Find.{found}
 use Rattle.demands.specs.Live.{Live, rootOf, fits}
 
 unfoldable pub finds : Live → ℕ → ℕ → Answer

@@ -1,4 +1,2 @@
-pub mod Gate
 pub mod Rotating
 pub mod Balancing
-pub mod Claims

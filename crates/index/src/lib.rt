@@ -1,6 +1,3 @@
-// The live tree's entry points, on lent slices: names (a hash and a key to a slot), cells (seven words to a slot) and the header.
+// The live tree's entry points that write, on lent slices: names, cells, the header and the journal's lines.
 mod balance;
-pub mod check;
-pub mod find;
-mod fit;
 mod rotate;

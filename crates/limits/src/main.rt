@@ -1,7 +1,7 @@
 // Asks find at the limits of what it refuses, and prints each answer.
-use index::find::Found;
-use index::find::find;
 use libc::STDOUT_FILENO;
+use live::find::Found;
+use live::find::find;
 use slots::LEFT;
 use slots::NULL;
 use slots::RIGHT;

@@ -1,7 +1,3 @@
-pub mod Searching
-pub mod Found
-pub mod Walking
-pub mod Checking
 pub mod Reading
 pub mod Frames
 pub mod Paint
@@ -22,4 +18,3 @@ pub mod Removed
 pub mod Kept
 pub mod Outside
 pub mod Whole
-pub mod Claims

@@ -6,7 +6,6 @@ use Prim.Native.Nat.{ℕ}
 use Rattle.slots.specs.Words.{Colour, Side, leftward, rightward}
 use Rattle.redblack.specs.Sided.{Sided, Way, plug, slots, bare, fork, frame}
 use Rattle.redblack.specs.Balance.{Less, Beside}
-use Rattle.redblack.specs.Hanging.{before}
 
 -- What stands left and right of a place.
 record Split (C : Way) : Type 0 where

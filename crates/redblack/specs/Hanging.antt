@@ -1,9 +1,9 @@
 -- Where the order says that a pair hangs, and how a slot is hung there.
-use mathlib.Core.Bool.{Bool, true, false}
 use mathlib.Core.List.{List}
 use Prim.Native.Nat.{ℕ, zero, suc}
-use lib.Dec.{eqb, ltb}
+use lib.Dec.{eqb}
 use Rattle.slots.specs.Words.{null, pick, parent, left, right, cell, nameOf, hashPart, keyPart}
+use Rattle.slots.specs.Pairs.{before}
 use Rattle.redblack.specs.Links.{Links, read, stored}
 use Rattle.redblack.specs.Insertion.{balancedInsertion}
 
@@ -14,10 +14,6 @@ pub record Spot : Type 0 where
 
 abbrev pub spot : ℕ → ℕ → Spot
 spot p f = record { above = p; side = f }
-
--- Whether the pair (hash, key) comes before (at, own).
-abbrev pub before : ℕ → ℕ → ℕ → ℕ → Bool
-before hash key at own = pick (ltb hash at) true (pick (ltb at hash) false (ltb key own))
 
 abbrev pub sideFor : List ℕ → ℕ → ℕ → ℕ → ℕ
 sideFor names p hash key = pick (before hash key (nameOf names p hashPart) (nameOf names p keyPart)) left right

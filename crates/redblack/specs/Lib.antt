@@ -1,15 +1,9 @@
 pub mod Links
-pub mod Find
 pub mod Rotate
 pub mod Insertion
 pub mod Deletion
 pub mod Removal
 pub mod Hanging
-pub mod Check
-pub mod Tree
-pub mod Shape
-pub mod Chain
 pub mod Sided
 pub mod Balance
 pub mod Kept
-pub mod Claims

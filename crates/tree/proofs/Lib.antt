@@ -1,4 +1,4 @@
 pub mod Searching
 pub mod Visiting
-pub mod Shaping
+pub mod Ruling
 pub mod Claims

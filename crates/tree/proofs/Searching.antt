@@ -6,8 +6,8 @@ use Prim.Native.Nat.{ℕ, zero, suc, _<_, _≤_, _-_}
 use native.Mathlib.Numerals.{sub-one}
 use Rattle.slots.specs.Words.{null}
 use Rattle.slots.specs.Answers.{Answer, given, nothing, refused}
-use Rattle.redblack.specs.Find.{Look, here, on, looked, Search, ends, after, slotsOf, searched}
-use Rattle.redblack.proofs.Searching.{at-null, out-of-range, visits-spent, at-slot}
+use Rattle.shape.specs.Find.{Look, here, on, looked, Search, ends, after, slotsOf, searched}
+use Rattle.shape.proofs.Searching.{at-null, out-of-range, visits-spent, at-slot}
 
 answer : {s t : Search} → s ≡ t → s .answer ≡ t .answer
 answer e = ap (λ (s : Search). s .answer) e

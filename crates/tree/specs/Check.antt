@@ -1,7 +1,7 @@
 -- What the values of the check's enums mean.
 use Prim.Native.Nat.{_+_}
 use Rattle.slots.specs.Answers.{Answer, some, nothing, refused}
-use Rattle.redblack.specs.Check.{Walk as Walked, passed, failed, strayed}
+use Rattle.shape.specs.Check.{Walk as Walked, passed, failed, strayed}
 use Rattle.tree.specs.declared.check.Walk.{Walk}
 use Rattle.tree.specs.declared.check.Walk.the-variants.{Passed, Failed, Strayed}
 use Rattle.tree.specs.declared.check.Checked.{Checked}

@@ -3,8 +3,8 @@ use mathlib.Core.Path.{_≡_}
 use mathlib.Core.List.{List}
 use Prim.Native.Nat.{ℕ}
 use Rattle.slots.specs.Answers.{OneAnswer}
-use Rattle.redblack.specs.Find.{found}
-use Rattle.redblack.specs.Check.{checked}
+use Rattle.shape.specs.Find.{found}
+use Rattle.shape.specs.Check.{checked}
 use Rattle.tree.specs.Find.{answerOf}
 use Rattle.tree.specs.Check.{checkedOf}
 use Rattle.tree.specs.declared.check.Checked.{Checked}

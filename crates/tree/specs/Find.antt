@@ -1,6 +1,6 @@
 -- What the values of this crate's enums mean.
 use Rattle.slots.specs.Answers.{Answer, given, nothing, refused}
-use Rattle.redblack.specs.Find.{Look, here, on}
+use Rattle.shape.specs.Find.{Look, here, on}
 use Rattle.tree.specs.declared.find.Seen.{Seen}
 use Rattle.tree.specs.declared.find.Seen.the-variants.{Here, On}
 use Rattle.tree.specs.declared.find.Found.{Found}

@@ -1,4 +1,4 @@
 pub mod Find
 pub mod Check
-pub mod Shape
+pub mod Rules
 pub mod Claims

@@ -11,9 +11,9 @@ use slots::STATE;
 use slots::get;
 use slots::name;
 ghost use mathlib.Core.Path.{_≡_};
-ghost use Rattle.redblack.specs.Find.{slotsOf};
+ghost use Rattle.shape.specs.Find.{slotsOf};
 ghost use Rattle.tree.specs.Check.{walkOf, checkedOf};
-ghost use Rattle.redblack.specs.Check.{pointsBack, isChild, leftHash, rightHash, redSlot, notAllRed, firstFailing, inRange, linksIn, walked, checked};
+ghost use Rattle.shape.specs.Check.{pointsBack, isChild, leftHash, rightHash, redSlot, notAllRed, firstFailing, inRange, linksIn, walked, checked};
 
 // The neighbour of i along the field f, if any, points back to i along the field g.
 fn points_back(cells: &[u32], i: u32, f: u32, g: u32) -> bool

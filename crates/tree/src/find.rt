@@ -7,7 +7,7 @@ use slots::RIGHT;
 use slots::get;
 use slots::name;
 ghost use mathlib.Core.Path.{_≡_};
-ghost use Rattle.redblack.specs.Find.{decided, looked, found};
+ghost use Rattle.shape.specs.Find.{decided, looked, found};
 ghost use Rattle.tree.specs.Find.{seenOf, answerOf};
 
 // What a look at a slot says: the pair is here, or the search goes on along a link.

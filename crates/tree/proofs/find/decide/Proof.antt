@@ -1,6 +1,6 @@
 -- Each way out closes by the tests that led there.
 use borrow.Author.Tests.{lt-ltb, le-ltb, eq-eqb, ne-eqb}
-use Rattle.redblack.specs.Find.{decided}
+use Rattle.shape.specs.Find.{decided}
 use Rattle.tree.proofs.find.decide.Statement.{statement}
 use Rattle.tree.proofs.find.decide.Tie as tie
 

@@ -5,7 +5,7 @@ use denote.Ref.{now}
 use Prim.Native.Nat.{ℕ, suc, _<_, _≤_, _^_, _/_}
 use borrow.Author.Needs.{needs}
 use lib.ListN.{length}
-use Rattle.redblack.specs.Find.{Look, found, searched, slotsOf}
+use Rattle.shape.specs.Find.{Look, found, searched, slotsOf}
 use Rattle.tree.specs.Find.{seenOf}
 use Rattle.tree.proofs.Searching.{ended, strayed, spent, met, onward}
 use Rattle.tree.proofs.find.find_tree_node.Statement.{statement}

@@ -1,6 +1,6 @@
 -- The four reads are the words that the model reads, and `decide` decides on them.
 use mathlib.Core.Path.{refl}
-use Rattle.redblack.specs.Find.{looked}
+use Rattle.shape.specs.Find.{looked}
 use borrow.Author.Needs.{needs}
 use Rattle.tree.proofs.find.look.Statement.{statement}
 use Rattle.tree.proofs.find.look.Tie as tie

@@ -1,0 +1,49 @@
+-- Every claim of the crate holds: an answer is read back off its number and value.
+use mathlib.Core.Path.{_≡_, refl, sym, _∙_}
+use Prim.Native.Nat.{ℕ, _+_, _-_}
+use native.Mathlib.Omega.{arith}
+use lib.Dec.{eqb}
+use Rattle.slots.specs.Words.{pick}
+use Rattle.slots.specs.Answers.{Answer, Value, some, none}
+use Rattle.slots.proofs.Laws.{told-apart}
+use Rattle.live.specs.Answers.{foundOf, checkedOf}
+use Rattle.live.specs.Claims.{Claims}
+use Rattle.live.specs.declared.find.Found.{Found}
+use Rattle.live.specs.declared.find.Found.the-variants.{At, Nothing, Unfit, Lost}
+use Rattle.live.specs.declared.check.Checked.{Checked}
+use Rattle.live.specs.declared.check.Checked.the-variants.{Passes, Fails, Unfit as CheckUnfit, Lost as CheckLost}
+
+abbrev foundBack : ℕ → Value → Found
+foundBack number (some slot) = At slot
+foundBack number none = pick (eqb number 0) Nothing (pick (eqb number 1) Unfit Lost)
+
+found-back : (r : Found) → foundBack (foundOf r .number) (foundOf r .value) ≡ r
+found-back (At slot) = refl
+found-back Nothing = refl
+found-back Unfit = refl
+found-back Lost = refl
+
+found-one-to-one : (a b : Found) → foundOf a ≡ foundOf b → a ≡ b
+found-one-to-one = told-apart foundOf (λ a. foundBack (a .number) (a .value)) found-back
+
+abbrev checkedBack : ℕ → Value → Checked
+checkedBack number (some slot) = Fails (number - 100) slot
+checkedBack number none = pick (eqb number 0) Passes (pick (eqb number 1) CheckUnfit CheckLost)
+
+checked-back : (r : Checked) → checkedBack (checkedOf r .number) (checkedOf r .value) ≡ r
+checked-back Passes = refl
+checked-back (Fails test slot) = let z : 100 + test - 100 ≡ test = omega arith in rw z
+checked-back CheckUnfit = refl
+checked-back CheckLost = refl
+
+checked-one-to-one : (a b : Checked) → checkedOf a ≡ checkedOf b → a ≡ b
+checked-one-to-one = told-apart checkedOf (λ a. checkedBack (a .number) (a .value)) checked-back
+
+pub claims : Claims
+claims =
+    record {
+      found-one-to-one = found-one-to-one;
+      find-one = λ t hash key a b p q. found-one-to-one a b (p ∙ sym q);
+      checked-one-to-one = checked-one-to-one;
+      check-one = λ t a b p q. checked-one-to-one a b (p ∙ sym q);
+    }

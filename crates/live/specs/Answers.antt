@@ -1,0 +1,20 @@
+-- 01's number and value of each answer of this crate's entry points.
+use Prim.Native.Nat.{_+_}
+use Rattle.slots.specs.Answers.{Answer, some, given, nothing, refused}
+use Rattle.live.specs.declared.find.Found.{Found}
+use Rattle.live.specs.declared.find.Found.the-variants.{At, Nothing, Unfit, Lost}
+use Rattle.live.specs.declared.check.Checked.{Checked}
+use Rattle.live.specs.declared.check.Checked.the-variants.{Passes, Fails, Unfit as CheckUnfit, Lost as CheckLost}
+
+abbrev pub foundOf : Found → Answer
+foundOf (At slot) = given slot
+foundOf Nothing = nothing
+foundOf Unfit = refused 1
+foundOf Lost = refused 9
+
+-- The number of a failing test stands above 100.
+abbrev pub checkedOf : Checked → Answer
+checkedOf Passes = nothing
+checkedOf (Fails test slot) = record { number = 100 + test; value = some slot }
+checkedOf CheckUnfit = refused 1
+checkedOf CheckLost = refused 9

@@ -1,0 +1,16 @@
+-- What crate `live` proves beside its contracts: its answers are told apart by their numbers, and each entry point has one outcome.
+use mathlib.Core.Path.{_≡_}
+use Prim.Native.Nat.{ℕ}
+use Rattle.slots.specs.Answers.{OneAnswer}
+use Rattle.demands.specs.Live.{Live}
+use Rattle.demands.specs.Find.{finds}
+use Rattle.demands.specs.Check.{checks}
+use Rattle.live.specs.Answers.{foundOf, checkedOf}
+use Rattle.live.specs.declared.check.Checked.{Checked}
+use Rattle.live.specs.declared.find.Found.{Found}
+
+pub record Claims : Type 0 where
+  pub found-one-to-one : (a b : Found) → foundOf a ≡ foundOf b → a ≡ b
+  pub find-one : (t : Live) (hash key : ℕ) → OneAnswer (λ r. foundOf r ≡ finds t hash key)
+  pub checked-one-to-one : (a b : Checked) → checkedOf a ≡ checkedOf b → a ≡ b
+  pub check-one : (t : Live) → OneAnswer (λ r. checkedOf r ≡ checks t)

@@ -1,0 +1,32 @@
+// find: the slot that has a pair.
+use crate::fit::ROOT;
+use crate::fit::fit;
+use crate::fit::word;
+use tree::find::Found as Searched;
+use tree::find::find_tree_node;
+ghost use mathlib.Core.Path.{_≡_};
+ghost use Rattle.demands.specs.Live.{Live};
+ghost use Rattle.demands.specs.Find.{finds};
+ghost use Rattle.live.specs.Answers.{foundOf};
+
+pub enum Found {
+    At(u32),
+    Nothing,
+    Unfit,
+    Lost,
+}
+
+pub fn find(names: &[u64], cells: &[u32], head: &[u32], hash: u64, key: u64) -> Found
+    ensures { λ r. ⌜ foundOf r ≡ finds (record { names = now (names .entry); cells = now (cells .entry); head = now (head .entry) }) hash key ⌝ }
+{
+    if !fit(names, cells, head) {
+        return Found::Unfit;
+    }
+    let root = word(head, ROOT);
+    let found = find_tree_node(names, cells, root, hash, key);
+    match found {
+        Searched::At(slot) => Found::At(slot),
+        Searched::Nothing => Found::Nothing,
+        Searched::Lost => Found::Lost,
+    }
+}

@@ -1,0 +1,38 @@
+// Whether lent slices are a live tree's: their lengths, and a capacity of 1 to 4,096 slots.
+use slots::NULL;
+ghost use mathlib.Core.Path.{_≡_};
+ghost use Prim.Native.Nat.{ℕ};
+ghost use lib.ListN.{getD};
+ghost use Rattle.slots.specs.Words.{null};
+ghost use Rattle.demands.specs.Live.{Live, fits};
+
+pub const ROOT: usize = 0;
+
+pub fn fit(names: &[u64], cells: &[u32], head: &[u32]) -> bool
+    ensures { λ r. ⌜ r ≡ fits (record { names = now (names .entry); cells = now (cells .entry); head = now (head .entry) }) ⌝ }
+{
+    let n = names.len() / 2;
+    if n < 1 {
+        return false;
+    }
+    if 4096 < n {
+        return false;
+    }
+    if names.len() != 2 * n {
+        return false;
+    }
+    if cells.len() != 7 * n {
+        return false;
+    }
+    if head.len() != 3 {
+        return false;
+    }
+    true
+}
+
+// Word k of the header; null where there is no such word.
+pub fn word(head: &[u32], k: usize) -> u32
+    ensures { λ r. ⌜ r ≡ getD (now (head .entry)) k null ⌝ }
+{
+    if k < head.len() { head[k] } else { NULL }
+}

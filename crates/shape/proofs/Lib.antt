@@ -1,0 +1,14 @@
+pub mod Searching
+pub mod Found
+pub mod Walking
+pub mod Checking
+pub mod Rank
+pub mod Counting
+pub mod Reaching
+pub mod Visits
+pub mod Chaining
+pub mod Rising
+pub mod Colouring
+pub mod Levelling
+pub mod Sizing
+pub mod Claims

@@ -1,0 +1,6 @@
+pub mod Find
+pub mod Check
+pub mod Tree
+pub mod Rules
+pub mod Chain
+pub mod Claims

@@ -1,0 +1,48 @@
+-- Each way out closes by the reads and the tests that led there.
+use Rattle.shape.specs.Rules.{follows}
+use borrow.Author.Tests.{eq-eqb, ne-eqb}
+use borrow.Author.Needs.{needs}
+use Rattle.tree.proofs.rules.follow.Statement.{statement}
+use Rattle.tree.proofs.rules.follow.Tie as tie
+
+returns : tie.Need-returns
+unfolding follows
+returns c =
+    rw (eq-eqb _ _ (c .if1 .taken))
+
+name-requires : tie.Need-name-requires
+name-requires c κs = search needs
+
+name-requires-2 : tie.Need-name-requires-2
+name-requires-2 c κs = search needs
+
+name-requires-3 : tie.Need-name-requires-3
+name-requires-3 c κs = search needs
+
+name-requires-4 : tie.Need-name-requires-4
+name-requires-4 c κs = search needs
+
+comes-before-requires : tie.Need-comes-before-requires
+comes-before-requires c κs = search needs
+
+returns-2 : tie.Need-returns-2
+unfolding follows
+returns-2 c =
+    let c1 = c .before in
+    let c2 = c1 .before in
+    let c3 = c2 .before in
+    let c4 = c3 .before in
+    let c5 = c4 .before in
+    rw (ne-eqb _ _ (c5 .if1 .left), ← c4 .name .ensures, ← c3 .name2 .ensures, ← c2 .name3 .ensures, ← c1 .name4 .ensures, ← c .comes-before .ensures)
+
+pub follow-spec : {M : Type 1} → statement M
+follow-spec =
+    tie.close
+    (tie.spec
+    returns
+    name-requires
+    name-requires-2
+    name-requires-3
+    name-requires-4
+    comes-before-requires
+    returns-2)
