@@ -1,3 +1,5 @@
 pub mod Fit
 pub mod Reading
+pub mod Rules
+pub mod Sounding
 pub mod Claims

@@ -1,6 +1,8 @@
 -- What crate `demands` proves of the live tree, in one record. Every statement of the crate stands here.
 use mathlib.Core.Path.{_≡_}
 use mathlib.Core.Logic.{_↔_}
+use mathlib.Core.Bool.{true}
+use mathlib.Core.List.{List}
 use Prim.Native.Nat.{ℕ, _+_}
 use Rattle.slots.specs.Answers.{Answer, some, given, nothing, refused}
 use Rattle.shape.specs.Find.{Lost, Here, Missed}
@@ -8,6 +10,8 @@ use Rattle.shape.specs.Check.{Walk, passed, failed, strayed, Walks}
 use Rattle.demands.specs.Live.{Live, Fit, rootOf, capacityOf}
 use Rattle.demands.specs.Find.{finds}
 use Rattle.demands.specs.Check.{checks}
+use Rattle.demands.specs.Sound.{Sound, T1, T2, T3, T4, T5, T6, T7, rule1, rule2, rule3, rule4, rule5, rule6, rule7, sounds}
+use Rattle.shape.specs.Tree.{Tree}
 
 -- find on any words, for any pair.
 pub record Finds (t : Live) (hash key : ℕ) : Type 0 where
@@ -28,6 +32,20 @@ pub record Checks (t : Live) : Type 0 where
   pub passes : (checks t ≡ nothing) ↔ (Fit t × ((v : ℕ) × Walks (t .names) (t .cells) (rootOf t) (capacityOf t) (passed v)))
   pub fails : (test slot : ℕ) → (checks t ≡ record { number = 100 + test; value = some slot }) ↔ (Fit t × Walks (t .names) (t .cells) (rootOf t) (capacityOf t) (failed test slot))
 
+-- The full check on any words: "yes exactly if sound", and each rule's own test exactly where the rule holds, given those before it.
+pub record Sounds (t : Live) : Type 0 where
+  pub one : (sounds t ≡ refused 1) ↔ (Fit t → ⊥)
+  pub yes : (sounds t ≡ given 1) ↔ (Fit t × Sound t)
+  pub no : (sounds t ≡ given 0) ↔ (Fit t × (Sound t → ⊥))
+  pub rule-one : (rule1 t ≡ true) ↔ T1 t
+  pub rule-two : (rule2 t ≡ true) ↔ T2 t
+  pub rule-three : Fit t → T1 t → (rule3 t ≡ true) ↔ ((tree : Tree) × T3 t tree)
+  pub rule-four : Fit t → T1 t → {tree : Tree} → T3 t tree → (rule4 t ≡ true) ↔ T4 t tree
+  pub rule-five : Fit t → T1 t → {tree : Tree} → T3 t tree → (rule5 t ≡ true) ↔ T5 tree
+  pub rule-six : Fit t → T1 t → {tree : Tree} → T3 t tree → (rule6 t ≡ true) ↔ T6 tree
+  pub rule-seven : Fit t → T1 t → (rule7 t ≡ true) ↔ ((chain : List ℕ) × T7 t chain)
+
 pub record Claims : Type 0 where
   pub find : (t : Live) (hash key : ℕ) → Finds t hash key
   pub check : (t : Live) → Checks t
+  pub sound : (t : Live) → Sounds t

@@ -13,14 +13,14 @@ use Rattle.shape.specs.Find.{slotsOf}
 use Rattle.shape.specs.Check.{inRange, linksIn, firstFailing, Walk, passed, failed, strayed, onward, walked, Named, LinksNamed, Walks, absent, outside, spent, loose, fails, leftStops, both}
 
 -- A link in range is null or names a slot.
-named : (n l : ℕ) → inRange n l ≡ true → Named n l
+pub named : (n l : ℕ) → inRange n l ≡ true → Named n l
 named n l e = go (eqb l null) refl e
   where
     go : (b : Bool) → eqb l null ≡ b → pick b true (ltb l n) ≡ true → Named n l
     go true z e = inl (eqb-true l null z)
     go false z e = inr (ltb-true l n e)
 
-ranged : (n l : ℕ) → Named n l → inRange n l ≡ true
+pub ranged : (n l : ℕ) → Named n l → inRange n l ≡ true
 ranged n l (inl z) = simp (eq-eqb l null z)
 ranged n l (inr h) = go (eqb l null)
   where
