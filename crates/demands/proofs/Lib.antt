@@ -1,5 +1,6 @@
 pub mod Fit
 pub mod Reading
 pub mod Rules
+pub mod Passing
 pub mod Sounding
 pub mod Claims

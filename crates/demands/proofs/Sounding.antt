@@ -12,6 +12,7 @@ use Rattle.demands.specs.Sound.{Sound, T3, rule1, rule2, rule3, rule4, r
 use Rattle.demands.specs.Claims.{Sounds}
 use Rattle.demands.proofs.Fit.{both}
 use Rattle.demands.proofs.Rules.{and, rule-one, rule-two, rule-three, rule-four, rule-five, rule-six, rule-seven}
+use Rattle.demands.proofs.Passing.{sound-passes}
 use Rattle.demands.proofs.Reading.{gated, one-only, others}
 
 module _ {t : Live} (fit : Fit t) where
@@ -81,6 +82,7 @@ module _ (t : Live) where
         one = one-only t inner (not-one (sound t));
         yes = yes-exactly;
         no = no-exactly;
+        passes-too = λ f h. sound-passes f h;
         rule-one = rule-one t;
         rule-two = rule-two t;
         rule-three = λ f one. rule-three f one;

@@ -37,6 +37,8 @@ pub record Sounds (t : Live) : Type 0 where
   pub one : (sounds t ≡ refused 1) ↔ (Fit t → ⊥)
   pub yes : (sounds t ≡ given 1) ↔ (Fit t × Sound t)
   pub no : (sounds t ≡ given 0) ↔ (Fit t × (Sound t → ⊥))
+  -- "Passing check_invariants is not soundness", but a sound tree passes
+  pub passes-too : Fit t → Sound t → checks t ≡ nothing
   pub rule-one : (rule1 t ≡ true) ↔ T1 t
   pub rule-two : (rule2 t ≡ true) ↔ T2 t
   pub rule-three : Fit t → T1 t → (rule3 t ≡ true) ↔ ((tree : Tree) × T3 t tree)
