@@ -1,14 +1,21 @@
 -- Every claim of the crate holds: the laws of the other files, put together.
 use mathlib.Core.Path.{_≡_, sym}
 use mathlib.Core.List.{List}
-use Prim.Native.Nat.{ℕ, _<_, _≤_}
+use Prim.Native.Nat.{ℕ, _*_, _<_, _≤_}
 use native.Mathlib.Omega.{arith}
+use lib.ListN.{length}
 use borrow.Author.Tests.{eq-eqb, ne-eqb, lt-ltb, le-ltb}
 use Rattle.slots.specs.Words.{null}
-use Rattle.shape.specs.Find.{decided}
-use Rattle.shape.specs.Claims.{Looks, Finds, Claims}
+use Rattle.shape.specs.Find.{decided, slotsOf}
+use Rattle.shape.specs.Claims.{Looks, Finds, Rules, Chains, Claims}
 use Rattle.shape.proofs.Found.{lost-nine, nine-lost, only-nine, here-given, given-here, missed-nothing, nothing-missed, look-followed, followed-look}
 use Rattle.shape.proofs.Checking.{test-claims, check-claims}
+use Rattle.shape.proofs.Reaching.{reached-rooted, rooted-reached, rooted-unique}
+use Rattle.shape.proofs.Chaining.{chained-chain, chain-chained, chain-once, chain-unique}
+use Rattle.shape.proofs.Rising.{rises-rising}
+use Rattle.shape.proofs.Colouring.{coloured-coloured}
+use Rattle.shape.proofs.Levelling.{level-level}
+use Rattle.shape.proofs.Sizing.{tree-size}
 
 look : (at own l r hash key : ℕ) → Looks at own l r hash key
 unfolding decided
@@ -34,5 +41,26 @@ search-claims names cells root hash key =
       followed-look = followed-look names cells root hash key;
     }
 
+rule-claims : (names cells : List ℕ) (few : slotsOf names ≤ null) (ends : length cells ≤ 7 * null) (root : ℕ) → Rules names cells few ends root
+rule-claims names cells few ends root =
+    record {
+      size = λ m. tree-size names cells few ends root m;
+      reaches = reached-rooted (slotsOf names) cells few root;
+      reached-all = rooted-reached (slotsOf names) cells few root;
+      one-tree = rooted-unique (slotsOf names) cells few root;
+      four = λ h. rises-rising names cells few root h;
+      five = λ h. coloured-coloured (slotsOf names) cells few ends root h;
+      six = λ h. level-level (slotsOf names) cells few root h;
+    }
+
+chain-claims : (n : ℕ) (cells : List ℕ) (few : n ≤ null) (first : ℕ) → Chains n cells few first
+chain-claims n cells few first =
+    record {
+      walk = chained-chain n cells few first;
+      walked = chain-chained n cells few first;
+      once = λ h. chain-once n cells few first h;
+      one-chain = chain-unique n cells few;
+    }
+
 pub claims : Claims
-claims = record { looks = look; finds = search-claims; tests = test-claims; checks = check-claims }
+claims = record { looks = look; finds = search-claims; tests = test-claims; checks = check-claims; rules = rule-claims; chains = chain-claims }

@@ -9,21 +9,12 @@ use lib.ListN.{length}
 use Rattle.slots.specs.Words.{null, pick}
 use Rattle.slots.specs.Answers.{Value, none, some}
 use Rattle.shape.specs.Find.{slotsOf}
-use Rattle.shape.specs.Tree.{Tree, slots, Rooted, Rising, Coloured, Level}
+use Rattle.shape.specs.Tree.{Tree, slots, Rooted, Rising, Coloured, Level, Shaped}
 use Rattle.shape.specs.Rules.{then, reached, rises, coloured, level, treeSize}
 use Rattle.shape.proofs.Reaching.{refuted, reached-rooted, rooted-reached, rooted-most}
 use Rattle.shape.proofs.Rising.{rises-rising}
 use Rattle.shape.proofs.Colouring.{coloured-coloured}
 use Rattle.shape.proofs.Levelling.{level-level}
-
--- The tree of m slots that the words hold from a root, with T3 to T6.
-pub record Shaped (names cells : List ℕ) (root m : ℕ) : Type 0 where
-  pub tree : Tree
-  pub rooted : Rooted (slotsOf names) cells root tree
-  pub rising : Rising names (slots tree)
-  pub coloured : Coloured tree
-  pub level : Level tree
-  pub size : length (slots tree) ≡ m
 
 module _ (names cells : List ℕ) (small : slotsOf names ≤ null) (ends : length cells ≤ 7 * null) (root m : ℕ) where
   size-shaped : treeSize names cells root ≡ some m → Shaped names cells root m

@@ -3,12 +3,15 @@ use mathlib.Core.Path.{_≡_}
 use mathlib.Core.Logic.{_≢_, _↔_}
 use mathlib.Core.List.{List}
 use mathlib.Core.Bool.{true, false}
-use Prim.Native.Nat.{ℕ, _+_, _<_, _≤_}
+use Prim.Native.Nat.{ℕ, _+_, _-_, _*_, _<_, _≤_}
 use lib.ListN.{length, getD}
 use Rattle.slots.specs.Words.{null, parent, left, right, prev, next}
 use Rattle.slots.specs.Answers.{Answer, some, given, nothing, refused}
 use Rattle.shape.specs.Find.{here, on, decided, slotsOf, found, Follows, Lost, Here, Missed}
 use Rattle.shape.specs.Check.{test, firstFailing, Walk, passed, failed, strayed, checked, Back, Child, LeftHash, RightHash, NotAllRed, Walks}
+use Rattle.shape.specs.Tree.{Tree, slots, times, Rooted, Rising, Coloured, Level, Shaped}
+use Rattle.shape.specs.Rules.{reached, rises, coloured, level, treeSize}
+use Rattle.shape.specs.Chain.{Chain, chained}
 
 -- "Find is find_tree_node": what a look at a slot says, clause by clause. `at` and `own` are the slot's hash and key, l and r its children.
 pub record Looks (at own l r hash key : ℕ) : Type 0 where
@@ -63,8 +66,31 @@ pub record Checks (names cells : List ℕ) (root : ℕ) : Type 0 where
   pub fails : (t i : ℕ) → (checked names cells root ≡ record { number = 100 + t; value = some i }) ↔ Walks names cells root (slotsOf names) (failed t i)
   pub nine : (checked names cells root ≡ refused 9) ↔ Walks names cells root (slotsOf names) strayed
 
+-- The rules of one tree, on words in which slot null has no word: the check gives the number of slots exactly of a tree that obeys T3 to T6.
+pub record Rules (names cells : List ℕ) (few : slotsOf names ≤ null) (ends : length cells ≤ 7 * null) (root : ℕ) : Type 0 where
+  pub size : (m : ℕ) → (treeSize names cells root ≡ some m) ↔ Shaped names cells root m
+  -- T3 alone, with the visits that its walk leaves; and the tree is the only one
+  pub reaches : (rest : ℕ) → reached (slotsOf names) (slotsOf names) cells null root (slotsOf names) ≡ some rest
+      → (t : Tree) × Rooted (slotsOf names) cells root t × (length (slots t) + rest ≡ slotsOf names)
+  pub reached-all : {t : Tree} → Rooted (slotsOf names) cells root t
+      → reached (slotsOf names) (slotsOf names) cells null root (slotsOf names) ≡ some (slotsOf names - length (slots t))
+  pub one-tree : {t u : Tree} → Rooted (slotsOf names) cells root t → Rooted (slotsOf names) cells root u → t ≡ u
+  -- T4, T5 and T6 of that tree, each by its own test
+  pub four : {t : Tree} → Rooted (slotsOf names) cells root t → (rises names cells root ≡ true) ↔ Rising names (slots t)
+  pub five : {t : Tree} → Rooted (slotsOf names) cells root t → (coloured (slotsOf names) cells root ≡ true) ↔ Coloured t
+  pub six : {t : Tree} → Rooted (slotsOf names) cells root t → (level (slotsOf names) cells root ≡ true) ↔ Level t
+
+-- The chain of n slots from first: the walk ends exactly where there is one, it visits no slot twice, and there is only one.
+pub record Chains (n : ℕ) (cells : List ℕ) (few : n ≤ null) (first : ℕ) : Type 0 where
+  pub walk : (rest : ℕ) → chained n n cells null first ≡ some rest → (l : List ℕ) × Chain n cells null first l × (length l + rest ≡ n)
+  pub walked : {l : List ℕ} → Chain n cells null first l → chained n n cells null first ≡ some (n - length l)
+  pub once : {l : List ℕ} → Chain n cells null first l → (k : ℕ) → times k l ≤ 1
+  pub one-chain : {l m : List ℕ} → Chain n cells null first l → Chain n cells null first m → l ≡ m
+
 pub record Claims : Type 0 where
   pub looks : (at own l r hash key : ℕ) → Looks at own l r hash key
   pub finds : (names cells : List ℕ) (root hash key : ℕ) → Finds names cells root hash key
   pub tests : (names cells : List ℕ) (i : ℕ) → Tests names cells i
   pub checks : (names cells : List ℕ) (root : ℕ) → Checks names cells root
+  pub rules : (names cells : List ℕ) (few : slotsOf names ≤ null) (ends : length cells ≤ 7 * null) (root : ℕ) → Rules names cells few ends root
+  pub chains : (n : ℕ) (cells : List ℕ) (few : n ≤ null) (first : ℕ) → Chains n cells few first

@@ -2,9 +2,11 @@
 use mathlib.Core.Path.{_≡_}
 use mathlib.Core.List.{List, [], _∷_, _++_}
 use Prim.Native.Nat.{ℕ, zero, suc, _+_, _<_, _≤_}
+use lib.ListN.{length}
 use lib.Dec.{eqb}
 use Rattle.slots.specs.Words.{null, pick, state, parent, left, right, cell, Colour, black, red, code}
 use Rattle.slots.specs.Pairs.{Pair, pairOf, Less}
+use Rattle.shape.specs.Find.{slotsOf}
 
 -- Nothing, or a slot with its colour and the trees on its left and on its right.
 pub data Tree : Type 0 where
@@ -81,3 +83,12 @@ pub data Meets : Tree → ℕ → Type 0 where
 -- T6: "every way from the root to a null link meets equally many black slots."
 abbrev pub Level : Tree → Type 0
 Level t = (j k : ℕ) → Meets t j → Meets t k → j ≡ k
+
+-- The tree of m slots that the words hold from a root, with T3 to T6.
+pub record Shaped (names cells : List ℕ) (root m : ℕ) : Type 0 where
+  pub tree : Tree
+  pub rooted : Rooted (slotsOf names) cells root tree
+  pub rising : Rising names (slots tree)
+  pub coloured : Coloured tree
+  pub level : Level tree
+  pub size : length (slots tree) ≡ m

@@ -8,6 +8,11 @@ use Rattle.slots.specs.Answers.{Answer, Value, some, none}
 use Rattle.slots.proofs.Laws.{told-apart}
 use Rattle.tree.specs.Find.{answerOf}
 use Rattle.tree.specs.Check.{checkedOf}
+use Rattle.tree.specs.Rules.{restOf, sizeOf}
+use Rattle.tree.specs.declared.rules.Rest.{Rest}
+use Rattle.tree.specs.declared.rules.Rest.the-variants.{Left, Wrong}
+use Rattle.tree.specs.declared.rules.Size.{Size}
+use Rattle.tree.specs.declared.rules.Size.the-variants.{Slots, Broken}
 use Rattle.tree.specs.Claims.{Claims}
 use Rattle.tree.specs.declared.check.Checked.{Checked}
 use Rattle.tree.specs.declared.check.Checked.the-variants.{Passes, Fails, Lost as Strays}
@@ -38,6 +43,28 @@ checks-back Strays = refl
 checked-one-to-one : (a b : Checked) → checkedOf a ≡ checkedOf b → a ≡ b
 checked-one-to-one = told-apart checkedOf (λ a. checkedBack (a .number) (a .value)) checks-back
 
+abbrev restBack : Value → Rest
+restBack (some v) = Left v
+restBack none = Wrong
+
+rests-back : (r : Rest) → restBack (restOf r) ≡ r
+rests-back (Left v) = refl
+rests-back Wrong = refl
+
+rest-one-to-one : (a b : Rest) → restOf a ≡ restOf b → a ≡ b
+rest-one-to-one = told-apart restOf restBack rests-back
+
+abbrev sizeBack : Value → Size
+sizeBack (some m) = Slots m
+sizeBack none = Broken
+
+sizes-back : (r : Size) → sizeBack (sizeOf r) ≡ r
+sizes-back (Slots m) = refl
+sizes-back Broken = refl
+
+size-one-to-one : (a b : Size) → sizeOf a ≡ sizeOf b → a ≡ b
+size-one-to-one = told-apart sizeOf sizeBack sizes-back
+
 pub claims : Claims
 claims =
     record {
@@ -45,4 +72,13 @@ claims =
       find-tree-node-one = λ names cells root hash key a b p q. found-one-to-one a b (p ∙ sym q);
       checked-one-to-one = checked-one-to-one;
       check-invariants-one = λ names cells root a b p q. checked-one-to-one a b (p ∙ sym q);
+      rest-one-to-one = rest-one-to-one;
+      size-one-to-one = size-one-to-one;
+      comes-before-one = λ hash key at own a b p q. p ∙ sym q;
+      reach-one = λ n cells q i visits a b p r. rest-one-to-one a b (p ∙ sym r);
+      rising-one = λ names cells root a b p q. p ∙ sym q;
+      coloured-one = λ n cells root a b p q. p ∙ sym q;
+      level-one = λ n cells root a b p q. p ∙ sym q;
+      tree-size-one = λ names cells root a b p q. size-one-to-one a b (p ∙ sym q);
+      chain-one = λ n cells first a b p q. rest-one-to-one a b (p ∙ sym q);
     }
