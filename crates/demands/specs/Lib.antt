@@ -2,4 +2,8 @@ pub mod Live
 pub mod Find
 pub mod Check
 pub mod Sound
+pub mod Index
+pub mod Insert
+pub mod Remove
+pub mod Rollback
 pub mod Claims
