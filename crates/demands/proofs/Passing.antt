@@ -58,11 +58,11 @@ unfolding Less
 hash-least p q (inl h) = omega arith
 hash-least p q (inr h) = omega (arith, h .0)
 
-rising-after : {names : List ℕ} (a : List ℕ) (i : ℕ) (b : List ℕ) (k : ℕ) → Rising names (a ++ (i ∷ b)) → 1 ≤ times k b → Less (pairOf names i) (pairOf names k)
+pub rising-after : {names : List ℕ} (a : List ℕ) (i : ℕ) (b : List ℕ) (k : ℕ) → Rising names (a ++ (i ∷ b)) → 1 ≤ times k b → Less (pairOf names i) (pairOf names k)
 rising-after [] i b k (rise h r) z = below-at k h z
 rising-after (x ∷ a) i b k (rise h r) z = rising-after a i b k r z
 
-rising-before : {names : List ℕ} (a : List ℕ) (i : ℕ) (b : List ℕ) (k : ℕ) → Rising names (a ++ (i ∷ b)) → 1 ≤ times k a → Less (pairOf names k) (pairOf names i)
+pub rising-before : {names : List ℕ} (a : List ℕ) (i : ℕ) (b : List ℕ) (k : ℕ) → Rising names (a ++ (i ∷ b)) → 1 ≤ times k a → Less (pairOf names k) (pairOf names i)
 unfolding times
 rising-before [] i b k r z = absurd (omega arith)
 rising-before {names} (x ∷ a) i b k (rise h r) z =
@@ -72,11 +72,11 @@ below-front : {names : List ℕ} {p : Pair} (a b : List ℕ) → Below names p (
 below-front [] b h = Below.last
 below-front (x ∷ a) b (Below.before h r) = Below.before h (below-front a b r)
 
-rising-front : {names : List ℕ} (a b : List ℕ) → Rising names (a ++ b) → Rising names a
+pub rising-front : {names : List ℕ} (a b : List ℕ) → Rising names (a ++ b) → Rising names a
 rising-front [] b r = empty
 rising-front (x ∷ a) b (rise h r) = rise (below-front a b h) (rising-front a b r)
 
-rising-back : {names : List ℕ} (a b : List ℕ) → Rising names (a ++ b) → Rising names b
+pub rising-back : {names : List ℕ} (a b : List ℕ) → Rising names (a ++ b) → Rising names b
 rising-back [] b r = r
 rising-back (x ∷ a) b (rise h r) = rising-back a b r
 

@@ -151,7 +151,7 @@ rule-two t =
     (λ e. (let h = both (agree (eqb (rootOf t) null) (eqb (countOf t) 0)) _ e in record { root = agrees _ _ _ _ (h .0); first = agrees _ _ _ _ (h .1) }), λ h. and (agreed _ _ _ _ (h .root)) (agreed _ _ _ _ (h .first)))
 
 -- A slot with a colour is used.
-used-hued : (cells : List ℕ) (k : ℕ) (c : Colour) → cell cells k state ≡ code c → used cells k ≡ 1
+pub used-hued : (cells : List ℕ) (k : ℕ) (c : Colour) → cell cells k state ≡ code c → used cells k ≡ 1
 used-hued cells k black e = rw (ne-eqb (cell cells k state) free (omega arith))
 used-hued cells k red e = rw (ne-eqb (cell cells k state) free (omega arith))
 

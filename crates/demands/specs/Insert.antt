@@ -46,11 +46,11 @@ inserts ix hash key p =
     let x = lowestFree t in
     pick (fitsIndex ix)
     (pick (sound t)
-    (elim (soughtIn t hash key)
-      [ some slot ↦ outcome (record { number = 3; value = some slot }) ix
+    (elim (soughtIn t hash key) [
+      | some slot ↦ outcome (record { number = 3; value = some slot }) ix
       | none ↦ pick (eqb x null) (outcome (refused 5) ix)
           (pick (eqb (lengthOf (ix .lines)) (linesOf (ix .lines))) (outcome (refused 6) ix)
           (outcome (given x) (index (grown t x hash key p) (appended (ix .lines) 1 hash key p))))
-      ])
+    ])
     (outcome (refused 2) ix))
     (outcome (refused 1) ix)

@@ -2,6 +2,7 @@ pub mod Live
 pub mod Find
 pub mod Check
 pub mod Sound
+pub mod Built
 pub mod Index
 pub mod Insert
 pub mod Remove

@@ -30,11 +30,11 @@ wiped cells x =
 unfoldable pub shrunk : Live → ℕ → Live
 shrunk t x =
     let gone = removed (capacityOf t) (record { cells = unchained (t .cells) x; root = rootOf t }) x in
-    record
-      { names = rename (rename (t .names) x hashPart 0) x keyPart 0
-      ; cells = wiped (gone .cells) x
-      ; head = headed (t .head) (gone .root) (newFirst t x) (countOf t - 1)
-      }
+    record {
+      names = rename (rename (t .names) x hashPart 0) x keyPart 0;
+      cells = wiped (gone .cells) x;
+      head = headed (t .head) (gone .root) (newFirst t x) (countOf t - 1);
+    }
 
 -- "remove 1, 2, 4, 6": a refusal writes nothing.
 unfoldable pub removes : Index → ℕ → ℕ → Outcome
@@ -42,10 +42,10 @@ removes ix hash key =
     let t = ix .live in
     pick (fitsIndex ix)
     (pick (sound t)
-    (elim (soughtIn t hash key)
-      [ none ↦ outcome (refused 4) ix
+    (elim (soughtIn t hash key) [
+      | none ↦ outcome (refused 4) ix
       | some x ↦ pick (eqb (lengthOf (ix .lines)) (linesOf (ix .lines))) (outcome (refused 6) ix)
           (outcome (given x) (index (shrunk t x) (appended (ix .lines) 2 hash key (cell (t .cells) x place))))
-      ])
+    ])
     (outcome (refused 2) ix))
     (outcome (refused 1) ix)

@@ -54,9 +54,9 @@ rolls ix m =
     pick (fitsIndex ix)
     (pick (sound (ix .live))
     (pick (ltb (lengthOf (ix .lines)) m) (outcome (refused 7) ix)
-    (elim (unrolled c (ix .live) (ix .lines) m)
-      [ stays t ↦ outcome (given c) (index t (set (blanked c (ix .lines) m) 0 m))
+    (elim (unrolled c (ix .live) (ix .lines) m) [
+      | stays t ↦ outcome (given c) (index t (set (blanked c (ix .lines) m) 0 m))
       | misfit ↦ outcome (refused 8) ix
-      ]))
+    ]))
     (outcome (refused 2) ix))
     (outcome (refused 1) ix)

@@ -29,7 +29,7 @@ resumed m (done t) = t
 resumed m (more t y) = balancedDeletion m t y
 
 -- What a turn reads.
-turn-root : (s : Links) → deletionTurn s (s .root) ≡ done s
+pub turn-root : (s : Links) → deletionTurn s (s .root) ≡ done s
 unfolding deletionTurn
 turn-root s = go (eqb (s .root) null) refl
   where

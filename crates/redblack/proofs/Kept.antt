@@ -21,7 +21,7 @@ use Rattle.redblack.specs.Kept.{Link, Aside, Keeps, up, on}
 use Rattle.redblack.proofs.Reading.{state-side}
 
 -- A read after a write gives what was written, or what was there.
-read-write : (P : ℕ → Type 0) (l : List ℕ) (i g v k h : ℕ) → P v → P (cell l k h) → P (cell (write l i g v) k h)
+pub read-write : (P : ℕ → Type 0) (l : List ℕ) (i g v k h : ℕ) → P v → P (cell l k h) → P (cell (write l i g v) k h)
 unfolding cell write
 read-write P l i g v k h pv pc = go (ℕ-discrete (7 * k + h) (7 * i + g)) (decLt (7 * i + g) (length l))
   where

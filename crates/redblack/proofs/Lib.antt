@@ -18,3 +18,7 @@ pub mod Removed
 pub mod Kept
 pub mod Outside
 pub mod Whole
+pub mod Bridge
+pub mod Placing
+pub mod Plain
+pub mod Claims

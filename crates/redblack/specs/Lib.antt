@@ -7,3 +7,5 @@ pub mod Hanging
 pub mod Sided
 pub mod Balance
 pub mod Kept
+pub mod Holding
+pub mod Claims
