@@ -4,5 +4,7 @@ pub mod Rules
 pub mod Passing
 pub mod Building
 pub mod Seeking
+pub mod Listing
+pub mod Undoing
 pub mod Sounding
 pub mod Claims

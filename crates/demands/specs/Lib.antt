@@ -7,4 +7,6 @@ pub mod Index
 pub mod Insert
 pub mod Remove
 pub mod Rollback
+pub mod Contents
+pub mod Undoing
 pub mod Claims

@@ -6,12 +6,14 @@ use lib.Dec.{eqb}
 use Rattle.slots.specs.Words.{pick}
 use Rattle.slots.specs.Answers.{Answer, Value, some, none}
 use Rattle.slots.proofs.Laws.{told-apart}
-use Rattle.live.specs.Answers.{foundOf, checkedOf}
+use Rattle.live.specs.Answers.{foundOf, checkedOf, soundOf}
 use Rattle.live.specs.Claims.{Claims}
 use Rattle.live.specs.declared.find.Found.{Found}
 use Rattle.live.specs.declared.find.Found.the-variants.{At, Nothing, Unfit, Lost}
 use Rattle.live.specs.declared.check.Checked.{Checked}
 use Rattle.live.specs.declared.check.Checked.the-variants.{Passes, Fails, Unfit as CheckUnfit, Lost as CheckLost}
+use Rattle.live.specs.declared.sound.Soundness.{Soundness}
+use Rattle.live.specs.declared.sound.Soundness.the-variants.{Yes, No, Unfit as SoundUnfit}
 
 abbrev foundBack : ℕ → Value → Found
 foundBack number (some slot) = At slot
@@ -39,6 +41,18 @@ checked-back CheckLost = refl
 checked-one-to-one : (a b : Checked) → checkedOf a ≡ checkedOf b → a ≡ b
 checked-one-to-one = told-apart checkedOf (λ a. checkedBack (a .number) (a .value)) checked-back
 
+abbrev soundBack : Value → Soundness
+soundBack (some value) = pick (eqb value 1) Yes No
+soundBack none = SoundUnfit
+
+sound-back : (r : Soundness) → soundBack (soundOf r .value) ≡ r
+sound-back Yes = refl
+sound-back No = refl
+sound-back SoundUnfit = refl
+
+soundness-one-to-one : (a b : Soundness) → soundOf a ≡ soundOf b → a ≡ b
+soundness-one-to-one = told-apart soundOf (λ a. soundBack (a .value)) sound-back
+
 pub claims : Claims
 claims =
     record {
@@ -46,4 +60,6 @@ claims =
       find-one = λ t hash key a b p q. found-one-to-one a b (p ∙ sym q);
       checked-one-to-one = checked-one-to-one;
       check-one = λ t a b p q. checked-one-to-one a b (p ∙ sym q);
+      soundness-one-to-one = soundness-one-to-one;
+      sound-one = λ t a b p q. soundness-one-to-one a b (p ∙ sym q);
     }

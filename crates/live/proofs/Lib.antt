@@ -1,2 +1,3 @@
 pub mod Gate
+pub mod Slots
 pub mod Claims

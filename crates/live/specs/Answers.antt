@@ -5,6 +5,8 @@ use Rattle.live.specs.declared.find.Found.{Found}
 use Rattle.live.specs.declared.find.Found.the-variants.{At, Nothing, Unfit, Lost}
 use Rattle.live.specs.declared.check.Checked.{Checked}
 use Rattle.live.specs.declared.check.Checked.the-variants.{Passes, Fails, Unfit as CheckUnfit, Lost as CheckLost}
+use Rattle.live.specs.declared.sound.Soundness.{Soundness}
+use Rattle.live.specs.declared.sound.Soundness.the-variants.{Yes, No, Unfit as SoundUnfit}
 
 abbrev pub foundOf : Found → Answer
 foundOf (At slot) = given slot
@@ -18,3 +20,9 @@ checkedOf Passes = nothing
 checkedOf (Fails test slot) = record { number = 100 + test; value = some slot }
 checkedOf CheckUnfit = refused 1
 checkedOf CheckLost = refused 9
+
+-- Yes is 1, no is 0.
+abbrev pub soundOf : Soundness → Answer
+soundOf Yes = given 1
+soundOf No = given 0
+soundOf SoundUnfit = refused 1

@@ -5,12 +5,16 @@ use Rattle.slots.specs.Answers.{OneAnswer}
 use Rattle.demands.specs.Live.{Live}
 use Rattle.demands.specs.Find.{finds}
 use Rattle.demands.specs.Check.{checks}
-use Rattle.live.specs.Answers.{foundOf, checkedOf}
+use Rattle.demands.specs.Sound.{sounds}
+use Rattle.live.specs.Answers.{foundOf, checkedOf, soundOf}
 use Rattle.live.specs.declared.check.Checked.{Checked}
 use Rattle.live.specs.declared.find.Found.{Found}
+use Rattle.live.specs.declared.sound.Soundness.{Soundness}
 
 pub record Claims : Type 0 where
   pub found-one-to-one : (a b : Found) → foundOf a ≡ foundOf b → a ≡ b
   pub find-one : (t : Live) (hash key : ℕ) → OneAnswer (λ r. foundOf r ≡ finds t hash key)
   pub checked-one-to-one : (a b : Checked) → checkedOf a ≡ checkedOf b → a ≡ b
   pub check-one : (t : Live) → OneAnswer (λ r. checkedOf r ≡ checks t)
+  pub soundness-one-to-one : (a b : Soundness) → soundOf a ≡ soundOf b → a ≡ b
+  pub sound-one : (t : Live) → OneAnswer (λ r. soundOf r ≡ sounds t)

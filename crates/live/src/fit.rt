@@ -6,7 +6,12 @@ ghost use lib.ListN.{getD};
 ghost use Rattle.slots.specs.Words.{null};
 ghost use Rattle.demands.specs.Live.{Live, fits};
 
+// The words of the header, by their place.
 pub const ROOT: usize = 0;
+
+pub const FIRST: usize = 1;
+
+pub const COUNT: usize = 2;
 
 pub fn fit(names: &[u64], cells: &[u32], head: &[u32]) -> bool
     ensures { λ r. ⌜ r ≡ fits (record { names = now (names .entry); cells = now (cells .entry); head = now (head .entry) }) ⌝ }

@@ -3,3 +3,4 @@
 pub mod check;
 pub mod find;
 pub mod fit;
+pub mod sound;

@@ -1,4 +1,4 @@
--- The walks of T3 and T7 a visit at a time: T3's never hands back more visits than it was given, and fuel past the visits changes nothing.
+-- The walks of T3 and T7 a visit at a time: neither hands back more visits than it was given, and fuel past the visits changes nothing.
 use mathlib.Core.Path.{_≡_, refl, sym, ap, _∙_}
 use mathlib.Core.Logic.{_≢_}
 use mathlib.Core.Bool.{Bool, true, false}
@@ -148,3 +148,18 @@ module _ (n : ℕ) (cells : List ℕ) (q i : ℕ) where
   unfolding chained
   chain-on zero d l w e f g = absurd (w refl)
   chain-on (suc v) d l w e f g = rw (ne-eqb i null d, lt-ltb i n l, eq-eqb (cell cells i prev) q (sym e ∙ f), sub-one, g)
+
+-- A chain never hands back more visits than it was given.
+within-link : (v m : ℕ) (a b c : Bool) (t : Value) → (t ≡ some m → m ≤ v) → pick a (some (suc v)) (pick b (pick c t none) none) ≡ some m → m ≤ suc v
+within-link v m true b c t h e = omega (arith, some-is e)
+within-link v m false false c t h e = refuted e
+within-link v m false true false t h e = refuted e
+within-link v m false true true t h e = omega (arith, h e)
+
+pub chained-within : (n : ℕ) (cells : List ℕ) (v q i m : ℕ) → chained v n cells q i ≡ some m → m ≤ v
+unfolding chained
+chained-within n cells zero q i m e = within-null n cells (eqb i null) 0 m e
+chained-within n cells (suc v) q i m e =
+    within-link v m (eqb i null) (ltb i n) (eqb (cell cells i prev) q) (chained v n cells i (cell cells i next))
+    (λ h. chained-within n cells v i (cell cells i next) m h)
+    e

@@ -80,5 +80,7 @@ claims =
       coloured-one = λ n cells root a b p q. p ∙ sym q;
       level-one = λ n cells root a b p q. p ∙ sym q;
       tree-size-one = λ names cells root a b p q. size-one-to-one a b (p ∙ sym q);
+      in-range-one = λ n link a b p q. p ∙ sym q;
+      links-in-one = λ n cells i a b p q. p ∙ sym q;
       chain-one = λ n cells first a b p q. rest-one-to-one a b (p ∙ sym q);
     }

@@ -11,7 +11,7 @@ use Rattle.tree.specs.Rules.{restOf, sizeOf}
 use Rattle.tree.specs.declared.rules.Rest.{Rest}
 use Rattle.tree.specs.declared.rules.Size.{Size}
 use Rattle.shape.specs.Find.{found}
-use Rattle.shape.specs.Check.{checked}
+use Rattle.shape.specs.Check.{checked, inRange, linksIn}
 use Rattle.tree.specs.Find.{answerOf}
 use Rattle.tree.specs.Check.{checkedOf}
 use Rattle.tree.specs.declared.check.Checked.{Checked}
@@ -35,3 +35,5 @@ pub record Claims : Type 0 where
   pub level-one : (n : ℕ) (cells : List ℕ) (root : ℕ) → OneAnswer (λ r. r ≡ level n cells root)
   pub tree-size-one : (names cells : List ℕ) (root : ℕ) → OneAnswer (λ r. sizeOf r ≡ treeSize names cells root)
   pub chain-one : (n : ℕ) (cells : List ℕ) (first : ℕ) → OneAnswer (λ r. restOf r ≡ chained n n cells null first)
+  pub in-range-one : (n link : ℕ) → OneAnswer (λ r. r ≡ inRange n link)
+  pub links-in-one : (n : ℕ) (cells : List ℕ) (i : ℕ) → OneAnswer (λ r. r ≡ linksIn n cells i)

@@ -158,7 +158,7 @@ fn first_failing(names: &[u64], cells: &[u32], i: u32) -> u32
 }
 
 // A link is null or names one of n slots.
-fn in_range(n: usize, link: u32) -> bool
+pub fn in_range(n: usize, link: u32) -> bool
     ensures { λ r. ⌜ r ≡ inRange n link ⌝ }
 {
     if link == NULL {
@@ -171,7 +171,7 @@ fn in_range(n: usize, link: u32) -> bool
 }
 
 // So is each of slot i's own five links.
-fn links_in(n: usize, cells: &[u32], i: u32) -> bool
+pub fn links_in(n: usize, cells: &[u32], i: u32) -> bool
     ensures { λ r. ⌜ r ≡ linksIn n (now (cells .entry)) i ⌝ }
 {
     let parent = in_range(n, get(cells, i, PARENT));

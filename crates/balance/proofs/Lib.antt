@@ -1,0 +1,3 @@
+pub mod Rotating
+pub mod Balancing
+pub mod Claims

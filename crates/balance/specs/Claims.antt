@@ -1,0 +1,11 @@
+-- What crate `balance` proves beside its contracts: each public routine has one outcome.
+use mathlib.Core.Path.{_≡_}
+use Prim.Native.Nat.{ℕ}
+use Rattle.slots.specs.Answers.{OneAnswer}
+use Rattle.redblack.specs.Links.{Links}
+use Rattle.redblack.specs.Insertion.{balancedInsertion}
+use Rattle.redblack.specs.Deletion.{balancedDeletion}
+
+pub record Claims : Type 0 where
+  pub balance-insertion-one : (budget : ℕ) (s : Links) (x : ℕ) → OneAnswer (λ t. t ≡ balancedInsertion budget s x)
+  pub balance-deletion-one : (budget : ℕ) (s : Links) (x : ℕ) → OneAnswer (λ t. t ≡ balancedDeletion budget s x)

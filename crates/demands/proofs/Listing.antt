@@ -1,0 +1,125 @@
+-- Entries in order: in a list whose pairs strictly rise an entry has one place, so that to put it in and to take it out undo each other.
+use mathlib.Core.Path.{_≡_, refl, ap, sym, _∙_}
+use mathlib.Core.Logic.{_≢_, _⊎_, inl, inr, _↔_}
+use mathlib.Core.Bool.{Bool, true, false}
+use mathlib.Core.List.{List, [], _∷_, _++_, map}
+use Prim.Native.Nat.{ℕ, _<_, _≤_}
+use native.Mathlib.Decide.{ℕ-discrete}
+use native.Mathlib.Omega.{arith}
+use lib.Dec.{eqb, ltb}
+use borrow.Author.Tests.{eq-eqb, ne-eqb}
+use Rattle.slots.specs.Words.{pick}
+use Rattle.slots.specs.Pairs.{Pair, pair, pairOf, Less, before}
+use Rattle.slots.proofs.Order.{less-irreflexive, less-transitive}
+use Rattle.shape.specs.Tree.{Tree, slots, Below, Rising}
+use Rattle.shape.proofs.Rising.{before-less}
+use Rattle.demands.specs.Live.{Live}
+use Rattle.demands.specs.Contents.{Entry, entryOf, put, isPair, without, In, first, later, Lacks, empty, other}
+
+abbrev pub pairIn : Entry → Pair
+pairIn e = pair (e .hash) (e .key)
+
+-- Every entry of the list lies above e; the list strictly rises.
+pub data Above (e : Entry) : List Entry → Type 0 where
+  none : Above e []
+  more : {x : Entry} {l : List Entry} → Less (pairIn e) (pairIn x) → Above e l → Above e (x ∷ l)
+
+pub data Ascends : List Entry → Type 0 where
+  flat : Ascends []
+  step : {x : Entry} {l : List Entry} → Above x l → Ascends l → Ascends (x ∷ l)
+
+-- A rising list of slots gives a rising list of entries.
+above-map : (t : Live) (i : ℕ) {l : List ℕ} → Below (t .names) (pairOf (t .names) i) l → Above (entryOf t i) (map (entryOf t) l)
+above-map t i Below.last = none
+above-map t i (Below.before h b) = more h (above-map t i b)
+
+pub ascends-map : (t : Live) {l : List ℕ} → Rising (t .names) l → Ascends (map (entryOf t) l)
+ascends-map t Rising.empty = flat
+ascends-map t (Rising.rise {i} b r) = step (above-map t i b) (ascends-map t r)
+
+above-mid : {e : Entry} (y : Entry) (a b : List Entry) → Above e (a ++ (y ∷ b)) → Less (pairIn e) (pairIn y)
+above-mid y [] b (more h r) = h
+above-mid y (x ∷ a) b (more h r) = above-mid y a b r
+
+above-weak : {e : Entry} (y : Entry) (a b : List Entry) → Above e (a ++ (y ∷ b)) → Above e (a ++ b)
+above-weak y [] b (more h r) = r
+above-weak y (x ∷ a) b (more h r) = more h (above-weak y a b r)
+
+pub ascends-weak : (y : Entry) (a b : List Entry) → Ascends (a ++ (y ∷ b)) → Ascends (a ++ b)
+ascends-weak y [] b (step h r) = r
+ascends-weak y (x ∷ a) b (step h r) = step (above-weak y a b h) (ascends-weak y a b r)
+
+-- The tests of the order and of the pair.
+goes-before : (e x : Entry) → Less (pairIn e) (pairIn x) → before (e .hash) (e .key) (x .hash) (x .key) ≡ true
+goes-before e x h = before-less (e .hash) (e .key) (x .hash) (x .key) .1 h
+
+not-before : (e x : Entry) → Less (pairIn x) (pairIn e) → before (e .hash) (e .key) (x .hash) (x .key) ≡ false
+not-before e x h = go (before (e .hash) (e .key) (x .hash) (x .key)) refl
+  where
+    go : (b : Bool) → before (e .hash) (e .key) (x .hash) (x .key) ≡ b → before (e .hash) (e .key) (x .hash) (x .key) ≡ false
+    go true z = absurd (less-irreflexive (pairIn e) (less-transitive (pairIn e) (pairIn x) (pairIn e) (before-less (e .hash) (e .key) (x .hash) (x .key) .0 z) h))
+    go false z = z
+
+pub is-pair : (hash key : ℕ) (x : Entry) → x .hash ≡ hash → x .key ≡ key → isPair hash key x ≡ true
+is-pair hash key x e f = rw (eq-eqb (x .hash) hash e, eq-eqb (x .key) key f)
+
+pub not-pair : (hash key : ℕ) (x : Entry) → (x .hash ≡ hash → x .key ≡ key → ⊥) → isPair hash key x ≡ false
+not-pair hash key x n = go (ℕ-discrete (x .hash) hash) (ℕ-discrete (x .key) key)
+  where
+    go : Dec (x .hash ≡ hash) → Dec (x .key ≡ key) → isPair hash key x ≡ false
+    go (yes e) (yes f) = absurd (n e f)
+    go (yes e) (no f) = rw (eq-eqb (x .hash) hash e, ne-eqb (x .key) key f)
+    go (no e) f = rw (ne-eqb (x .hash) hash e)
+
+-- A pair below another is another pair.
+less-other : (e x : Entry) → Less (pairIn x) (pairIn e) → x .hash ≡ e .hash → x .key ≡ e .key → ⊥
+unfolding Less
+less-other e x (inl h) p q = omega arith
+less-other e x (inr h) p q = omega (arith, h .1)
+
+more-other : (e x : Entry) → Less (pairIn e) (pairIn x) → x .hash ≡ e .hash → x .key ≡ e .key → ⊥
+unfolding Less
+more-other e x (inl h) p q = omega arith
+more-other e x (inr h) p q = omega (arith, h .1)
+
+-- To put e in, where e stands between a and b in order.
+pub put-at : (e : Entry) (a b : List Entry) → Ascends (a ++ (e ∷ b)) → put e (a ++ b) ≡ a ++ (e ∷ b)
+unfolding put
+put-at e [] [] r = refl
+put-at e [] (x ∷ b) (step (more h k) r) = rw (goes-before e x h)
+put-at e (x ∷ a) b (step h r) = rw (not-before e x (above-mid e a b h)) (ap (λ (l : List Entry). x ∷ l) (put-at e a b r))
+
+-- To take its pair out.
+pub without-at : (e : Entry) (a b : List Entry) → Ascends (a ++ (e ∷ b)) → without (e .hash) (e .key) (a ++ (e ∷ b)) ≡ a ++ b
+unfolding without
+without-at e [] b r = rw (is-pair (e .hash) (e .key) e refl refl)
+without-at e (x ∷ a) b (step h r) = rw (not-pair (e .hash) (e .key) x (less-other e x (above-mid e a b h))) (ap (λ (l : List Entry). x ∷ l) (without-at e a b r))
+
+pub in-at : (e : Entry) (a b : List Entry) → In e (a ++ (e ∷ b))
+in-at e [] b = first
+in-at e (x ∷ a) b = later (in-at e a b)
+
+above-lacks : (e : Entry) {l : List Entry} → Above e l → Lacks (e .hash) (e .key) l
+above-lacks e none = empty
+above-lacks e (more {x} h r) = other (more-other e x h) (above-lacks e r)
+
+pub lacks-at : (e : Entry) (a b : List Entry) → Ascends (a ++ (e ∷ b)) → Lacks (e .hash) (e .key) (a ++ b)
+lacks-at e [] b (step h r) = above-lacks e h
+lacks-at e (x ∷ a) b (step h r) = other (less-other e x (above-mid e a b h)) (lacks-at e a b r)
+
+-- An entry of a rising list stands at one place, which its pair tells.
+pub record Placed (e : Entry) (l : List Entry) : Type 0 where
+  pub lower : List Entry
+  pub upper : List Entry
+  pub is : l ≡ lower ++ (e ∷ upper)
+
+pub in-placed : {e : Entry} {l : List Entry} → In e l → Placed e l
+in-placed {e} (first {l}) = record { lower = []; upper = l; is = refl }
+in-placed (later {x} i) = let h = in-placed i in record { lower = x ∷ h .lower; upper = h .upper; is = ap (λ (l : List Entry). x ∷ l) (h .is) }
+
+lacks-in : {hash key : ℕ} {e : Entry} {l : List Entry} → Lacks hash key l → In e l → e .hash ≡ hash → e .key ≡ key → ⊥
+lacks-in (other n k) first p q = n p q
+lacks-in (other n k) (later i) p q = lacks-in k i p q
+
+pub in-lacks : {hash key : ℕ} {e : Entry} {l : List Entry} → In e l → Lacks hash key l → e .hash ≡ hash → e .key ≡ key → ⊥
+in-lacks i k p q = lacks-in k i p q

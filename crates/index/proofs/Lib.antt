@@ -1,2 +1,0 @@
-pub mod Rotating
-pub mod Balancing
