@@ -144,3 +144,12 @@ module _ {t : Live} (fit : Fit t) (b : Built t) where
 
       first-is : (firstOf t ≡ null) ↔ (countOf t ≡ 0)
       first-is = let h = first-null (b .linked) in (λ e. b .count ∙ sym chained-same ∙ h .0 e, λ e. h .1 (chained-same ∙ sym (b .count) ∙ e))
+
+  -- Its tree and its chain are those it was built of.
+  pub built-tree : built-sound .tree ≡ b .tree
+  unfolding built-sound
+  built-tree = refl
+
+  pub built-chain : built-sound .chain ≡ b .chain
+  unfolding built-sound
+  built-chain = refl

@@ -3,8 +3,14 @@ pub mod Reading
 pub mod Rules
 pub mod Passing
 pub mod Building
+pub mod Frames
+pub mod Growing
+pub mod Shrinking
+pub mod Free
 pub mod Seeking
+pub mod Deciding
 pub mod Listing
 pub mod Undoing
+pub mod Journal
 pub mod Sounding
 pub mod Claims

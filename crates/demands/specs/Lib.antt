@@ -9,4 +9,5 @@ pub mod Remove
 pub mod Rollback
 pub mod Contents
 pub mod Undoing
+pub mod Calls
 pub mod Claims
