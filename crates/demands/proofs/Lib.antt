@@ -12,5 +12,6 @@ pub mod Deciding
 pub mod Listing
 pub mod Undoing
 pub mod Journal
+pub mod Holding
 pub mod Sounding
 pub mod Claims
