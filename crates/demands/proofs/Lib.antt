@@ -13,5 +13,6 @@ pub mod Listing
 pub mod Undoing
 pub mod Journal
 pub mod Holding
+pub mod Unrolling
 pub mod Sounding
 pub mod Claims
