@@ -14,6 +14,7 @@ use Rattle.slots.specs.Words.{pick}
 use Rattle.demands.specs.Live.{Live, fits}
 use Rattle.demands.specs.Index.{Index, FitIndex, fitsJournal, fitsIndex, lengthOf, linesOf, at, lineWord, kindWord, hashWord, keyWord, placeWord, lined, appended}
 use Rattle.demands.specs.Rollback.{blanked}
+use Rattle.demands.specs.Calls.{OneLine, BackTo}
 use Rattle.demands.proofs.Fit.{both, fits-fit, fit-fits}
 use Rattle.demands.proofs.Rules.{and}
 use Rattle.demands.proofs.Undoing.{SameLine}
@@ -110,6 +111,9 @@ module _ (lines : List ℕ) (kind hash key place : ℕ) (room : at (lengthOf lin
   pub appended-below : (j : ℕ) → 0 < j → j < at (lengthOf lines) 0 → getD (appended lines kind hash key place) j 0 ≡ getD lines j 0
   appended-below j l h = appended-word j l ∙ lined-other lines (lengthOf lines) kind hash key place j h
 
+  pub appended-past : (j : ℕ) → at (lengthOf lines) 3 < j → getD (appended lines kind hash key place) j 0 ≡ getD lines j 0
+  appended-past j l = appended-word j (omega arith) ∙ lined-past lines (lengthOf lines) kind hash key place j l
+
   pub appended-same : (k : ℕ) → k < lengthOf lines → SameLine lines (appended lines kind hash key place) k
   appended-same k l =
       record {
@@ -130,6 +134,19 @@ module _ (lines : List ℕ) (kind hash key place : ℕ) (room : at (lengthOf lin
 
   pub appended-place : lineWord (appended lines kind hash key place) (lengthOf lines) placeWord ≡ place
   appended-place = appended-word (at (lengthOf lines) placeWord) (omega arith) ∙ lined-place lines (lengthOf lines) kind hash key place room
+
+pub one-line : (lines : List ℕ) (kind hash key place : ℕ) → at (lengthOf lines) 3 < length lines → OneLine lines (appended lines kind hash key place) kind hash key place
+one-line lines kind hash key place room =
+    record
+      { long = appended-length lines kind hash key place room
+      ; count = appended-count lines kind hash key place room
+      ; kinds = appended-kind lines kind hash key place room
+      ; hashes = appended-hash lines kind hash key place room
+      ; keys = appended-key lines kind hash key place room
+      ; places = appended-place lines kind hash key place room
+      ; below = appended-below lines kind hash key place room
+      ; past = appended-past lines kind hash key place room
+      }
 
 -- Lines from m on cleared: those words are zero, and no other changes.
 pub blanked-length : (c : ℕ) (lines : List ℕ) (m : ℕ) → length (blanked c lines m) ≡ length lines
@@ -202,4 +219,16 @@ module _ (c : ℕ) (lines : List ℕ) (m : ℕ) (room : at (m + c) 0 ≤ length 
         hashes = rolled-below (at k hashWord) (omega arith) (omega arith);
         keys = rolled-below (at k keyWord) (omega arith) (omega arith);
         places = rolled-below (at k placeWord) (omega arith) (omega arith);
+      }
+
+pub back-to : (lines : List ℕ) (m : ℕ) → m ≤ lengthOf lines → at (lengthOf lines) 0 ≤ length lines → BackTo m lines (rolledLines (lengthOf lines - m) lines m)
+back-to lines m l room =
+    let e : m + (lengthOf lines - m) ≡ lengthOf lines = omega arith in
+    let fits : at (m + (lengthOf lines - m)) 0 ≤ length lines = rw e room in
+    record
+      { long = rolled-length (lengthOf lines - m) lines m fits
+      ; count = rolled-count (lengthOf lines - m) lines m fits
+      ; below = rolled-below (lengthOf lines - m) lines m fits
+      ; zeros = λ j a b. rolled-zero (lengthOf lines - m) lines m fits j a (rw e b)
+      ; past = λ j a. rolled-past (lengthOf lines - m) lines m fits j (rw e a)
       }

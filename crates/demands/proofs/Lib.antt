@@ -14,5 +14,8 @@ pub mod Undoing
 pub mod Journal
 pub mod Holding
 pub mod Unrolling
+pub mod Inserting
+pub mod Removing
+pub mod Rolling
 pub mod Sounding
 pub mod Claims

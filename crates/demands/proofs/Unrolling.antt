@@ -33,10 +33,13 @@ use Rattle.demands.proofs.Deciding.{Seen, there, absent, seen}
 use Rattle.demands.proofs.Holding.{grown-contents, shrunk-contents, contents-length, stands-in, in-stands, lacks-of, of-lacks}
 use Rattle.demands.proofs.Seeking.{found-at, found-none}
 
--- A sound tree has one list of contents.
+-- A sound tree has one tree, and so one list of contents.
+pub tree-one : {t : Live} → Fit t → (h g : Sound t) → h .tree ≡ g .tree
+tree-one {t} fit h g = rooted-unique (capacityOf t) (t .cells) (small fit) (rootOf t) (h .t3 .rooted) (g .t3 .rooted)
+
 pub contents-one : {t : Live} → Fit t → (h g : Sound t) → contents h ≡ contents g
 contents-one {t} fit h g =
-    ap (λ (u : Tree). Rattle.demands.specs.Contents.listed t u) (rooted-unique (capacityOf t) (t .cells) (small fit) (rootOf t) (h .t3 .rooted) (g .t3 .rooted))
+    ap (λ (u : Tree). Rattle.demands.specs.Contents.listed t u) (tree-one fit h g)
 
 pub grown-capacity : (t : Live) (x hash key p : ℕ) → capacityOf (grown t x hash key p) ≡ capacityOf t
 unfolding grown
