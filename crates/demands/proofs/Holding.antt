@@ -50,12 +50,12 @@ split t u x l k e h n keep =
     let same : map (entryOf u) (a ++ b) ≡ map (entryOf t) (a ++ b) = map-same t u (a ++ b) (λ j z. keep j (rw (h .rest) z)) in
     let low : map (entryOf u) a ≡ map (entryOf t) a = map-same t u a (λ j z. keep j (rw (h .rest) (omega (arith, times-append j a b)))) in
     let high : map (entryOf u) b ≡ map (entryOf t) b = map-same t u b (λ j z. keep j (rw (h .rest) (omega (arith, times-append j a b)))) in
-    record
-      { lower = map (entryOf t) a
-      ; upper = map (entryOf t) b
-      ; more = ap (map (entryOf u)) (h .whole) ∙ map-append u a (x ∷ b) ∙ (λ i. low i ++ (n i ∷ high i))
-      ; less = ap (map (entryOf t)) (h .rest) ∙ map-append t a b
-      }
+    record {
+      lower = map (entryOf t) a;
+      upper = map (entryOf t) b;
+      more = ap (map (entryOf u)) (h .whole) ∙ map-append u a (x ∷ b) ∙ (λ i. low i ++ (n i ∷ high i));
+      less = ap (map (entryOf t)) (h .rest) ∙ map-append t a b;
+    }
 
 module _ {t u : Live} {h : Sound t} {x hash key p : ℕ} (g : Grown t u h x hash key p) where
   grown-split : Split t u (slots (g .sound .tree)) (slots (h .tree)) (entry hash key p)

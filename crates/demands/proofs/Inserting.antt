@@ -1,6 +1,6 @@
 -- insert, by cases: the tests in 01's order settle which, and each answer is given in one of them only.
 use mathlib.Core.Path.{_≡_, refl, ap, sym, _∙_, subst}
-use mathlib.Core.Logic.{_≢_, _↔_}
+use mathlib.Core.Logic.{_≢_, _↔_, _⊎_, inl, inr}
 use mathlib.Core.Bool.{Bool, true, false, false≢true}
 use mathlib.Core.List.{List, _∷_}
 use Prim.Native.Nat.{ℕ, _+_, _*_, _<_, _≤_}
@@ -29,7 +29,7 @@ use Rattle.demands.proofs.Free.{LowestFree, lowest-free, none-free}
 use Rattle.demands.proofs.Deciding.{Seen, there, absent, seen}
 use Rattle.demands.proofs.Seeking.{found-at, found-none}
 use Rattle.demands.proofs.Holding.{grown-contents}
-use Rattle.demands.proofs.Unrolling.{tree-one}
+use Rattle.demands.proofs.Unrolling.{tree-one, grown-capacity}
 
 -- A test that is not true is false.
 pub false-of : (b : Bool) → (b ≡ true → ⊥) → b ≡ false
@@ -126,9 +126,11 @@ module _ (ix : Index) (hash key p : ℕ) where
       line f e s h n q (yes d) l = five f h n d (full-five e s q d)
       line f e s h n q (no d) (yes l) = six f h n d l (no-line-six e s q d l)
       line f e s h n q (no d) (no l) = taken f h n d l (done-given e s q d l)
+
       look : (f : FitIndex ix) (e : fitsIndex ix ≡ true) (s : sound (ix .live) ≡ true) (h : Sound (ix .live)) → Seen h hash key → Did
       look f e s h (there x z n q) = three f h x z n (present-three e s x q)
       look f e s h (absent n q) = line f e s h n q (ℕ-discrete (lowestFree (ix .live)) null) (ℕ-discrete (lengthOf (ix .lines)) (linesOf (ix .lines)))
+
       go : (a : Bool) → fitsIndex ix ≡ a → (b : Bool) → sound (ix .live) ≡ b → Did
       go false e b s = one (λ f. false≢true (sym e ∙ index-fits ix f)) (unfit-one e)
       go true e false s = let f = fits-index ix e in two f (unsound (f .tree) s) (damaged-two e s)
@@ -219,6 +221,7 @@ module _ (ix : Index) (hash key p : ℕ) where
     where
       left : {o : Outcome} → inserts ix hash key p ≡ o → inserts ix hash key p .left ≡ o .left
       left e = ap (λ (o : Outcome). o .left) e
+
       go : Did → inserts ix hash key p .left ≡ ix
       go (one n e) = left e
       go (two f n e) = left e
@@ -231,6 +234,7 @@ module _ (ix : Index) (hash key p : ℕ) where
   Leaves : Sound (ix .live) → ℕ → Outcome → Type 0
   Leaves h x o =
       (g : Sound (o .left .live)) × FitIndex (o .left) × (contents g ≡ put (entry hash key p) (contents h)) × (g .chain ≡ x ∷ h .chain) × OneLine (ix .lines) (o .left .lines) 1 hash key p
+      × (capacityOf (o .left .live) ≡ capacityOf (ix .live))
 
   line-more : FitIndex ix → lengthOf (ix .lines) ≢ linesOf (ix .lines) → OneLine (ix .lines) (appended (ix .lines) 1 hash key p) 1 hash key p
   line-more f l =
@@ -259,33 +263,57 @@ module _ (ix : Index) (hash key p : ℕ) where
               let y : lowestFree (ix .live) ≡ x = value-inj (sym (answer e) ∙ q) refl refl in
               let j = line-more f l in
               let fit : FitIndex (index (grown (ix .live) (lowestFree (ix .live)) hash key p) (appended (ix .lines) 1 hash key p)) =
-                  record
-                    { tree = grown-fit (f .tree) h (lowestFree (ix .live)) hash key p (w .inside) (w .unused)
-                    ; capacity = f .capacity
-                    ; most = f .most
-                    ; four = j .long ∙ f .four
-                    ; within = omega (arith, j .count, f .within, lines-capacity f)
-                    } in
-              subst (λ (o : Outcome). Leaves h x o) (sym e) (g .sound, fit, grown-contents g, g .chain ∙ ap (λ (i : ℕ). i ∷ h .chain) y, j)
+              record {
+                tree = grown-fit (f .tree) h (lowestFree (ix .live)) hash key p (w .inside) (w .unused);
+                capacity = f .capacity;
+                most = f .most;
+                four = j .long ∙ f .four;
+                within = omega (arith, j .count, f .within, lines-capacity f);
+              } in
+              subst (λ (o : Outcome). Leaves h x o) (sym e) (g .sound, fit, grown-contents g, g .chain ∙ ap (λ (i : ℕ). i ∷ h .chain) y, j, grown-capacity (ix .live) (lowestFree (ix .live)) hash key p)
 
   pub insert-claims : Inserts ix hash key p
   unfolding Leaves
   insert-claims =
-      record
-        { one = (one-then, λ n. answer (unfit-one (unfit-false ix n)))
-        ; two = (two-then, λ r. answer (damaged-two (index-fits ix (r .0)) (unsound-false ix (r .0) (r .1))))
-        ; three = λ slot. (three-then slot, λ r. (let h = r .1 .0 in
-            answer (present-three (index-fits ix (r .0)) (sound-yes (r .0 .tree) h) slot (sought-at (r .0 .tree) h hash key slot (r .1 .1) (r .1 .2)))))
-        ; five = (five-then, λ r. (let h = r .1 .0 in
-            answer (full-five (index-fits ix (r .0)) (sound-yes (r .0 .tree) h) (sought-none (r .0 .tree) h hash key (r .1 .1)) (none-free (ix .live) (small (r .0 .tree)) .1 (r .1 .2)))))
-        ; six = (six-then, λ r. (let h = r .1 .0 in
-            answer (no-line-six (index-fits ix (r .0)) (sound-yes (r .0 .tree) h) (sought-none (r .0 .tree) h hash key (r .1 .1)) (has-free (r .0) (r .1 .2 .0) (r .1 .2 .1)) (r .1 .3))))
-        ; accepted = λ x. (given-then x, λ r. (let h = r .1 .0 in
-            answer (done-given (index-fits ix (r .0)) (sound-yes (r .0 .tree) h) (sought-none (r .0 .tree) h hash key (r .1 .1)) (has-free (r .0) x (r .1 .2)) (omega (arith, r .1 .3)))
-            ∙ ap given (lowest-is (r .0 .tree) x (r .1 .2))))
-        ; nothing-written = nothing-written
-        ; done = done
-        }
+      record {
+        one = (one-then, λ n. answer (unfit-one (unfit-false ix n)));
+        two = (two-then, λ r. answer (damaged-two (index-fits ix (r .0)) (unsound-false ix (r .0) (r .1))));
+        three = λ slot. (
+          three-then slot,
+          λ r. (let h = r .1 .0 in
+              answer (present-three (index-fits ix (r .0)) (sound-yes (r .0 .tree) h) slot (sought-at (r .0 .tree) h hash key slot (r .1 .1) (r .1 .2)))),
+        );
+        five = (
+          five-then,
+          λ r. (let h = r .1 .0 in
+              answer (full-five (index-fits ix (r .0)) (sound-yes (r .0 .tree) h) (sought-none (r .0 .tree) h hash key (r .1 .1)) (none-free (ix .live) (small (r .0 .tree)) .1 (r .1 .2)))),
+        );
+        six = (
+          six-then,
+          λ r. (let h = r .1 .0 in
+              answer (no-line-six (index-fits ix (r .0)) (sound-yes (r .0 .tree) h) (sought-none (r .0 .tree) h hash key (r .1 .1)) (has-free (r .0) (r .1 .2 .0) (r .1 .2 .1)) (r .1 .3))),
+        );
+        accepted = λ x. (
+          given-then x,
+          λ r. (let h = r .1 .0 in
+              answer (done-given (index-fits ix (r .0)) (sound-yes (r .0 .tree) h) (sought-none (r .0 .tree) h hash key (r .1 .1)) (has-free (r .0) x (r .1 .2)) (omega (arith, r .1 .3)))
+              ∙ ap given (lowest-is (r .0 .tree) x (r .1 .2))),
+        );
+        nothing-written = nothing-written;
+        done = done;
+      }
     where
       has-free : FitIndex ix → (x : ℕ) → Lowest (ix .live) x → lowestFree (ix .live) ≢ null
       has-free f x l e = none-free (ix .live) (small (f .tree)) .0 e x (l .inside) (l .unused)
+
+  -- Refused, or given a slot.
+  pub insert-settled : (inserts ix hash key p .answer .number ≢ 0) ⊎ ((x : ℕ) × (inserts ix hash key p .answer ≡ given x))
+  insert-settled = go did
+    where
+      go : Did → (inserts ix hash key p .answer .number ≢ 0) ⊎ ((x : ℕ) × (inserts ix hash key p .answer ≡ given x))
+      go (one n e) = inl (λ q. omega (arith, number (answer e)))
+      go (two f n e) = inl (λ q. omega (arith, number (answer e)))
+      go (three f h x z n e) = inl (λ q. omega (arith, number (answer e)))
+      go (five f h n d e) = inl (λ q. omega (arith, number (answer e)))
+      go (six f h n d l e) = inl (λ q. omega (arith, number (answer e)))
+      go (taken f h n d l e) = inr (lowestFree (ix .live), answer e)

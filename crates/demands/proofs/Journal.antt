@@ -137,16 +137,16 @@ module _ (lines : List ℕ) (kind hash key place : ℕ) (room : at (lengthOf lin
 
 pub one-line : (lines : List ℕ) (kind hash key place : ℕ) → at (lengthOf lines) 3 < length lines → OneLine lines (appended lines kind hash key place) kind hash key place
 one-line lines kind hash key place room =
-    record
-      { long = appended-length lines kind hash key place room
-      ; count = appended-count lines kind hash key place room
-      ; kinds = appended-kind lines kind hash key place room
-      ; hashes = appended-hash lines kind hash key place room
-      ; keys = appended-key lines kind hash key place room
-      ; places = appended-place lines kind hash key place room
-      ; below = appended-below lines kind hash key place room
-      ; past = appended-past lines kind hash key place room
-      }
+    record {
+      long = appended-length lines kind hash key place room;
+      count = appended-count lines kind hash key place room;
+      kinds = appended-kind lines kind hash key place room;
+      hashes = appended-hash lines kind hash key place room;
+      keys = appended-key lines kind hash key place room;
+      places = appended-place lines kind hash key place room;
+      below = appended-below lines kind hash key place room;
+      past = appended-past lines kind hash key place room;
+    }
 
 -- Lines from m on cleared: those words are zero, and no other changes.
 pub blanked-length : (c : ℕ) (lines : List ℕ) (m : ℕ) → length (blanked c lines m) ≡ length lines
@@ -225,10 +225,10 @@ pub back-to : (lines : List ℕ) (m : ℕ) → m ≤ lengthOf lines → at (leng
 back-to lines m l room =
     let e : m + (lengthOf lines - m) ≡ lengthOf lines = omega arith in
     let fits : at (m + (lengthOf lines - m)) 0 ≤ length lines = rw e room in
-    record
-      { long = rolled-length (lengthOf lines - m) lines m fits
-      ; count = rolled-count (lengthOf lines - m) lines m fits
-      ; below = rolled-below (lengthOf lines - m) lines m fits
-      ; zeros = λ j a b. rolled-zero (lengthOf lines - m) lines m fits j a (rw e b)
-      ; past = λ j a. rolled-past (lengthOf lines - m) lines m fits j (rw e a)
-      }
+    record {
+      long = rolled-length (lengthOf lines - m) lines m fits;
+      count = rolled-count (lengthOf lines - m) lines m fits;
+      below = rolled-below (lengthOf lines - m) lines m fits;
+      zeros = λ j a b. rolled-zero (lengthOf lines - m) lines m fits j a (rw e b);
+      past = λ j a. rolled-past (lengthOf lines - m) lines m fits j (rw e a);
+    }

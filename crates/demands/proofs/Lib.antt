@@ -17,5 +17,7 @@ pub mod Unrolling
 pub mod Inserting
 pub mod Removing
 pub mod Rolling
+pub mod Demanding
+pub mod Finding
 pub mod Sounding
 pub mod Claims

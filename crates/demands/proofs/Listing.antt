@@ -1,9 +1,10 @@
 -- Entries in order: in a list whose pairs strictly rise an entry has one place, so that to put it in and to take it out undo each other.
-use mathlib.Core.Path.{_≡_, refl, ap, sym, _∙_}
+use mathlib.Core.Path.{_≡_, refl, ap, sym, _∙_, subst}
 use mathlib.Core.Logic.{_≢_, _⊎_, inl, inr, _↔_}
 use mathlib.Core.Bool.{Bool, true, false}
 use mathlib.Core.List.{List, [], _∷_, _++_, map}
-use Prim.Native.Nat.{ℕ, _<_, _≤_}
+use Prim.Native.Nat.{ℕ, suc, _+_, _<_, _≤_}
+use lib.ListN.{length, length-append}
 use native.Mathlib.Decide.{ℕ-discrete}
 use native.Mathlib.Omega.{arith}
 use lib.Dec.{eqb, ltb}
@@ -123,3 +124,82 @@ lacks-in (other n k) (later i) p q = lacks-in k i p q
 
 pub in-lacks : {hash key : ℕ} {e : Entry} {l : List Entry} → In e l → Lacks hash key l → e .hash ≡ hash → e .key ≡ key → ⊥
 in-lacks i k p q = lacks-in k i p q
+
+-- To put an entry in: it is there, the others stay, and to take its pair out gives the list back.
+pub in-put : (e : Entry) (l : List Entry) → In e (put e l)
+unfolding put
+in-put e [] = first
+in-put e (x ∷ l) = go (before (e .hash) (e .key) (x .hash) (x .key)) (in-put e l)
+  where
+    go : (b : Bool) → In e (put e l) → In e (pick b (e ∷ (x ∷ l)) (x ∷ put e l))
+    go true i = first
+    go false i = later i
+
+pub without-put : (e : Entry) (l : List Entry) → Lacks (e .hash) (e .key) l → without (e .hash) (e .key) (put e l) ≡ l
+unfolding put without
+without-put e [] k = rw (is-pair (e .hash) (e .key) e refl refl)
+without-put e (x ∷ l) (other n k) = go (before (e .hash) (e .key) (x .hash) (x .key)) (without-put e l k)
+  where
+    go : (b : Bool) → without (e .hash) (e .key) (put e l) ≡ l → without (e .hash) (e .key) (pick b (e ∷ (x ∷ l)) (x ∷ put e l)) ≡ x ∷ l
+    go true q = rw (is-pair (e .hash) (e .key) e refl refl)
+    go false q = rw (not-pair (e .hash) (e .key) x n) (ap (λ (r : List Entry). x ∷ r) q)
+
+-- What stands in a list that was put to, or taken from.
+in-case : {e : Entry} {m : List Entry} → In e m → (x : Entry) (l : List Entry) → m ≡ x ∷ l → (e ≡ x) ⊎ In e l
+in-case {e} (first {l = k}) x l q = let z : e ≡ x = cc in inl z
+in-case {e} (later {x = y} {l = k} i) x l q = let z : k ≡ l = cc in inr (subst (λ (r : List Entry). In e r) z i)
+
+pub put-all : (P : Entry → Type 0) (e : Entry) (l : List Entry) → P e → ((x : Entry) → In x l → P x) → (x : Entry) → In x (put e l) → P x
+unfolding put
+put-all P e [] p h x i = go (in-case i e [] refl)
+  where
+    go : (x ≡ e) ⊎ In x [] → P x
+    go (inl q) = rw q p
+    go (inr j) = h x j
+put-all P e (y ∷ l) p h x i = go (before (e .hash) (e .key) (y .hash) (y .key)) i (λ j. put-all P e l p (λ z w. h z (later w)) x j)
+  where
+    head : (x ≡ e) ⊎ In x (y ∷ l) → P x
+    head (inl q) = rw q p
+    head (inr j) = h x j
+
+    rest : (In x (put e l) → P x) → (x ≡ y) ⊎ In x (put e l) → P x
+    rest again (inl q) = h x (subst (λ (r : Entry). In r (y ∷ l)) (sym q) first)
+    rest again (inr j) = again j
+
+    go : (b : Bool) → In x (pick b (e ∷ (y ∷ l)) (y ∷ put e l)) → (In x (put e l) → P x) → P x
+    go true j again = head (in-case j e (y ∷ l) refl)
+    go false j again = rest again (in-case j y (put e l) refl)
+
+pub without-in : (hash key : ℕ) (l : List Entry) (x : Entry) → In x (without hash key l) → In x l
+unfolding without
+without-in hash key [] x i = i
+without-in hash key (y ∷ l) x i = go (isPair hash key y) i (λ j. without-in hash key l x j)
+  where
+    rest : (In x (without hash key l) → In x l) → (x ≡ y) ⊎ In x (without hash key l) → In x (y ∷ l)
+    rest again (inl q) = subst (λ (r : Entry). In r (y ∷ l)) (sym q) first
+    rest again (inr j) = later (again j)
+
+    go : (b : Bool) → In x (pick b l (y ∷ without hash key l)) → (In x (without hash key l) → In x l) → In x (y ∷ l)
+    go true j again = later j
+    go false j again = rest again (in-case j y (without hash key l) refl)
+
+-- To take an entry of a rising list out: its pair is gone, and to put it back gives the list again.
+module _ (e : Entry) (l : List Entry) (r : Ascends l) (i : In e l) where
+  split-at : Placed e l
+  split-at = in-placed i
+
+  rises : Ascends (split-at .lower ++ (e ∷ split-at .upper))
+  rises = rw (split-at .is) at r
+
+  less : without (e .hash) (e .key) l ≡ split-at .lower ++ split-at .upper
+  less = ap (without (e .hash) (e .key)) (split-at .is) ∙ without-at e (split-at .lower) (split-at .upper) rises
+
+  pub lacks-without : Lacks (e .hash) (e .key) (without (e .hash) (e .key) l)
+  lacks-without = rw less (lacks-at e (split-at .lower) (split-at .upper) rises)
+
+  pub put-without : put e (without (e .hash) (e .key) l) ≡ l
+  put-without = ap (put e) less ∙ put-at e (split-at .lower) (split-at .upper) rises ∙ sym (split-at .is)
+
+  pub length-without : suc (length (without (e .hash) (e .key) l)) ≡ length l
+  length-without =
+      omega (arith, ap length less, ap length (split-at .is), length-append (split-at .lower) (split-at .upper), length-append (split-at .lower) (e ∷ split-at .upper))

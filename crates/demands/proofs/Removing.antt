@@ -1,6 +1,6 @@
 -- remove, by cases: the tests in 01's order settle which, and each answer is given in one of them only.
 use mathlib.Core.Path.{_≡_, refl, ap, sym, _∙_, subst}
-use mathlib.Core.Logic.{_≢_, _↔_}
+use mathlib.Core.Logic.{_≢_, _↔_, _⊎_, inl, inr}
 use mathlib.Core.Bool.{Bool, true, false, false≢true}
 use mathlib.Core.List.{List}
 use Prim.Native.Nat.{ℕ, _+_, _*_, _<_, _≤_}
@@ -15,7 +15,7 @@ use Rattle.slots.specs.Answers.{Answer, Value, some, none, given, refused}
 use Rattle.shape.specs.Tree.{Tree}
 use Rattle.redblack.specs.Balance.{Less}
 use Rattle.redblack.specs.Holding.{Has, Stands}
-use Rattle.demands.specs.Live.{Live, Fit}
+use Rattle.demands.specs.Live.{Live, Fit, capacityOf}
 use Rattle.demands.specs.Sound.{Sound, sound}
 use Rattle.demands.specs.Index.{Index, index, FitIndex, Outcome, outcome, fitsIndex, lengthOf, linesOf, appended, at}
 use Rattle.demands.specs.Insert.{soughtIn}
@@ -28,7 +28,7 @@ use Rattle.demands.proofs.Journal.{fits-index, index-fits, lines-capaci
 use Rattle.demands.proofs.Shrinking.{shrunk-fit, shrunk-sound}
 use Rattle.demands.proofs.Deciding.{Seen, there, absent, seen}
 use Rattle.demands.proofs.Holding.{shrunk-contents}
-use Rattle.demands.proofs.Unrolling.{tree-one}
+use Rattle.demands.proofs.Unrolling.{tree-one, shrunk-capacity}
 use Rattle.demands.proofs.Inserting.{number, value-inj, unfit-false, unsound-false, sought-at, sought-none}
 
 module _ (ix : Index) (hash key : ℕ) where
@@ -72,9 +72,11 @@ module _ (ix : Index) (hash key : ℕ) where
           → soughtIn (ix .live) hash key ≡ some x → Dec (lengthOf (ix .lines) ≡ linesOf (ix .lines)) → Did
       line f e s h x z n q (yes l) = six f h x z n l (no-line-six e s x q l)
       line f e s h x z n q (no l) = taken f h x z n l (done-given e s x q l)
+
       look : (f : FitIndex ix) (e : fitsIndex ix ≡ true) (s : sound (ix .live) ≡ true) (h : Sound (ix .live)) → Seen h hash key → Did
       look f e s h (there x z n q) = line f e s h x z n q (ℕ-discrete (lengthOf (ix .lines)) (linesOf (ix .lines)))
       look f e s h (absent n q) = four f h n (absent-four e s q)
+
       go : (a : Bool) → fitsIndex ix ≡ a → (b : Bool) → sound (ix .live) ≡ b → Did
       go false e b s = one (λ f. false≢true (sym e ∙ index-fits ix f)) (unfit-one e)
       go true e false s = let f = fits-index ix e in two f (unsound (f .tree) s) (damaged-two e s)
@@ -144,6 +146,7 @@ module _ (ix : Index) (hash key : ℕ) where
     where
       left : {o : Outcome} → removes ix hash key ≡ o → removes ix hash key .left ≡ o .left
       left e = ap (λ (o : Outcome). o .left) e
+
       go : Did → removes ix hash key .left ≡ ix
       go (one n e) = left e
       go (two f n e) = left e
@@ -155,7 +158,7 @@ module _ (ix : Index) (hash key : ℕ) where
   Leaves : Sound (ix .live) → ℕ → Outcome → Type 0
   Leaves h x o =
       (g : Sound (o .left .live)) × FitIndex (o .left) × (contents g ≡ without hash key (contents h)) × Less x (h .chain) (g .chain)
-      × OneLine (ix .lines) (o .left .lines) 2 hash key (cell (ix .live .cells) x place)
+      × OneLine (ix .lines) (o .left .lines) 2 hash key (cell (ix .live .cells) x place) × (capacityOf (o .left .live) ≡ capacityOf (ix .live))
 
   done : (x : ℕ) → removes ix hash key .answer ≡ given x → (h : Sound (ix .live)) → Leaves h x (removes ix hash key)
   unfolding Leaves
@@ -170,14 +173,15 @@ module _ (ix : Index) (hash key : ℕ) where
           let g = shrunk-sound (f .tree) h y s in
           let j = one-line (ix .lines) 2 hash key (cell (ix .live .cells) y place) room in
           let fit : FitIndex (index (shrunk (ix .live) y) (appended (ix .lines) 2 hash key (cell (ix .live .cells) y place))) =
-              record
-                { tree = shrunk-fit (f .tree) h y s
-                ; capacity = f .capacity
-                ; most = f .most
-                ; four = j .long ∙ f .four
-                ; within = omega (arith, j .count, f .within, lines-capacity f)
-                } in
-          subst (λ (o : Outcome). Leaves h y o) (sym e) (g .sound, fit, shrunk-contents g ∙ ap (λ (r : Pair). without (r .hash) (r .key) (contents h)) n, g .chain, j)
+          record {
+            tree = shrunk-fit (f .tree) h y s;
+            capacity = f .capacity;
+            most = f .most;
+            four = j .long ∙ f .four;
+            within = omega (arith, j .count, f .within, lines-capacity f);
+          } in
+          subst (λ (o : Outcome). Leaves h y o) (sym e) (g .sound, fit, shrunk-contents g ∙ ap (λ (r : Pair). without (r .hash) (r .key) (contents h)) n, g .chain, j, shrunk-capacity (ix .live) y)
+
       go : Did → Leaves h x (removes ix hash key)
       go (one n e) = absurd (omega (arith, clash e q))
       go (two f n e) = absurd (omega (arith, clash e q))
@@ -188,14 +192,31 @@ module _ (ix : Index) (hash key : ℕ) where
   pub remove-claims : Removes ix hash key
   unfolding Leaves
   remove-claims =
-      record
-        { one = (one-then, λ n. answer (unfit-one (unfit-false ix n)))
-        ; two = (two-then, λ r. answer (damaged-two (index-fits ix (r .0)) (unsound-false ix (r .0) (r .1))))
-        ; four = (four-then, λ r. (let h = r .1 .0 in answer (absent-four (index-fits ix (r .0)) (sound-yes (r .0 .tree) h) (sought-none (r .0 .tree) h hash key (r .1 .1)))))
-        ; six = (six-then, λ r. (let h = r .1 .0 in let a = r .1 .1 in
-            answer (no-line-six (index-fits ix (r .0)) (sound-yes (r .0 .tree) h) (a .slot) (sought-at (r .0 .tree) h hash key (a .slot) (a .stands) (a .named)) (r .1 .2))))
-        ; accepted = λ x. (given-then x, λ r. (let h = r .1 .0 in
-            answer (done-given (index-fits ix (r .0)) (sound-yes (r .0 .tree) h) x (sought-at (r .0 .tree) h hash key x (r .1 .1) (r .1 .2)) (omega (arith, r .1 .3)))))
-        ; nothing-written = nothing-written
-        ; done = done
-        }
+      record {
+        one = (one-then, λ n. answer (unfit-one (unfit-false ix n)));
+        two = (two-then, λ r. answer (damaged-two (index-fits ix (r .0)) (unsound-false ix (r .0) (r .1))));
+        four = (four-then, λ r. (let h = r .1 .0 in answer (absent-four (index-fits ix (r .0)) (sound-yes (r .0 .tree) h) (sought-none (r .0 .tree) h hash key (r .1 .1)))));
+        six = (
+          six-then,
+          λ r. (let h = r .1 .0 in let a = r .1 .1 in
+              answer (no-line-six (index-fits ix (r .0)) (sound-yes (r .0 .tree) h) (a .slot) (sought-at (r .0 .tree) h hash key (a .slot) (a .stands) (a .named)) (r .1 .2))),
+        );
+        accepted = λ x. (
+          given-then x,
+          λ r. (let h = r .1 .0 in
+              answer (done-given (index-fits ix (r .0)) (sound-yes (r .0 .tree) h) x (sought-at (r .0 .tree) h hash key x (r .1 .1) (r .1 .2)) (omega (arith, r .1 .3)))),
+        );
+        nothing-written = nothing-written;
+        done = done;
+      }
+
+  -- Refused, or given a slot.
+  pub remove-settled : (removes ix hash key .answer .number ≢ 0) ⊎ ((x : ℕ) × (removes ix hash key .answer ≡ given x))
+  remove-settled = go did
+    where
+      go : Did → (removes ix hash key .answer .number ≢ 0) ⊎ ((x : ℕ) × (removes ix hash key .answer ≡ given x))
+      go (one n e) = inl (λ q. omega (arith, number (answer e)))
+      go (two f n e) = inl (λ q. omega (arith, number (answer e)))
+      go (four f h n e) = inl (λ q. omega (arith, number (answer e)))
+      go (six f h y z n l e) = inl (λ q. omega (arith, number (answer e)))
+      go (taken f h y z n l e) = inr (y, answer e)

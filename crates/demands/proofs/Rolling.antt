@@ -1,6 +1,6 @@
 -- rollback, by cases: the tests in 01's order settle which, and each answer is given in one of them only.
 use mathlib.Core.Path.{_≡_, refl, ap, sym, _∙_, subst}
-use mathlib.Core.Logic.{_≢_, _↔_}
+use mathlib.Core.Logic.{_≢_, _↔_, _⊎_, inl, inr}
 use mathlib.Core.Bool.{Bool, true, false, false≢true}
 use mathlib.Core.List.{List}
 use Prim.Native.Nat.{ℕ, _+_, _-_, _*_, _<_, _≤_}
@@ -82,9 +82,11 @@ module _ (ix : Index) (m : ℕ) where
           → (o : Undo) → unrolled count (ix .live) (ix .lines) m ≡ o → Did
       undo f e s h l (stays t) q = taken f h l t q (done-given e s t l q)
       undo f e s h l misfit q = eight f h l (λ r. not-stays (sym q ∙ of-fits f h l r .1)) (misfit-eight e s l q)
+
       look : (f : FitIndex ix) (e : fitsIndex ix ≡ true) (s : sound (ix .live) ≡ true) (h : Sound (ix .live)) → Dec (lengthOf (ix .lines) < m) → Did
       look f e s h (yes l) = seven f h l (mark-seven e s l)
       look f e s h (no l) = undo f e s h (omega arith) (unrolled count (ix .live) (ix .lines) m) refl
+
       go : (a : Bool) → fitsIndex ix ≡ a → (b : Bool) → sound (ix .live) ≡ b → Did
       go false e b s = one (λ f. false≢true (sym e ∙ index-fits ix f)) (unfit-one e)
       go true e false s = let f = fits-index ix e in two f (unsound (f .tree) s) (damaged-two e s)
@@ -154,6 +156,7 @@ module _ (ix : Index) (m : ℕ) where
     where
       left : {o : Outcome} → rolls ix m ≡ o → rolls ix m .left ≡ o .left
       left e = ap (λ (o : Outcome). o .left) e
+
       go : Did → rolls ix m .left ≡ ix
       go (one n e) = left e
       go (two f n e) = left e
@@ -165,7 +168,7 @@ module _ (ix : Index) (m : ℕ) where
   Leaves : Sound (ix .live) → Outcome → Type 0
   Leaves h o =
       (g : Sound (o .left .live)) × FitIndex (o .left) × Undoes (capacityOf (ix .live)) (ix .lines) m (lengthOf (ix .lines)) (contents h) (contents g)
-      × BackTo m (ix .lines) (o .left .lines)
+      × BackTo m (ix .lines) (o .left .lines) × (capacityOf (o .left .live) ≡ capacityOf (ix .live))
 
   done : (c : ℕ) → rolls ix m .answer ≡ given c → (h : Sound (ix .live)) → Leaves h (rolls ix m)
   unfolding Leaves
@@ -177,8 +180,9 @@ module _ (ix : Index) (m : ℕ) where
           let r = fits-of f h l t s in
           let b : BackTo m (ix .lines) (rolledLines count (ix .lines) m) = back-to (ix .lines) m l (omega (arith, f .within, f .four)) in
           let fit : FitIndex (index t (rolledLines count (ix .lines) m)) =
-              record { tree = r .fit; capacity = f .capacity; most = f .most; four = b .long ∙ f .four; within = omega (arith, b .count, f .within) } in
-          subst (λ (o : Outcome). Leaves h o) (sym e) (r .sound, fit, r .undoes, b)
+          record { tree = r .fit; capacity = f .capacity; most = f .most; four = b .long ∙ f .four; within = omega (arith, b .count, f .within) } in
+          subst (λ (o : Outcome). Leaves h o) (sym e) (r .sound, fit, r .undoes, b, r .capacity)
+
       go : Did → Leaves h (rolls ix m)
       go (one n e) = absurd (omega (arith, clash e q))
       go (two f n e) = absurd (omega (arith, clash e q))
@@ -189,17 +193,23 @@ module _ (ix : Index) (m : ℕ) where
   pub rollback-claims : Rolls ix m
   unfolding Leaves
   rollback-claims =
-      record
-        { one = (one-then, λ n. answer (unfit-one (unfit-false ix n)))
-        ; two = (two-then, λ r. answer (damaged-two (index-fits ix (r .0)) (unsound-false ix (r .0) (r .1))))
-        ; seven = (seven-then, λ r. answer (mark-seven (index-fits ix (r .0)) (sound-yes (r .0 .tree) (r .1)) (r .2)))
-        ; eight = (eight-then, λ r. (let h = r .2 .0 in
-            answer (misfit-eight (index-fits ix (r .0)) (sound-yes (r .0 .tree) h) (r .1) (no-undo (r .0) h (r .1) (r .2 .1)))))
-        ; accepted = λ c. (given-then c, λ r. (let h = r .3 .0 in let u = of-fits (r .0) h (r .1) (r .3 .1) in
-            answer (done-given (index-fits ix (r .0)) (sound-yes (r .0 .tree) h) (u .0) (r .1) (u .1)) ∙ ap given (sym (r .2))))
-        ; nothing-written = nothing-written
-        ; done = done
-        }
+      record {
+        one = (one-then, λ n. answer (unfit-one (unfit-false ix n)));
+        two = (two-then, λ r. answer (damaged-two (index-fits ix (r .0)) (unsound-false ix (r .0) (r .1))));
+        seven = (seven-then, λ r. answer (mark-seven (index-fits ix (r .0)) (sound-yes (r .0 .tree) (r .1)) (r .2)));
+        eight = (
+          eight-then,
+          λ r. (let h = r .2 .0 in
+              answer (misfit-eight (index-fits ix (r .0)) (sound-yes (r .0 .tree) h) (r .1) (no-undo (r .0) h (r .1) (r .2 .1)))),
+        );
+        accepted = λ c. (
+          given-then c,
+          λ r. (let h = r .3 .0 in let u = of-fits (r .0) h (r .1) (r .3 .1) in
+              answer (done-given (index-fits ix (r .0)) (sound-yes (r .0 .tree) h) (u .0) (r .1) (u .1)) ∙ ap given (sym (r .2))),
+        );
+        nothing-written = nothing-written;
+        done = done;
+      }
     where
       no-undo : FitIndex ix → (h : Sound (ix .live)) → m ≤ lengthOf (ix .lines) → (Fits (capacityOf (ix .live)) (ix .lines) m (lengthOf (ix .lines)) (contents h) → ⊥)
           → unrolled count (ix .live) (ix .lines) m ≡ misfit
@@ -208,3 +218,14 @@ module _ (ix : Index) (m : ℕ) where
           go : (o : Undo) → unrolled count (ix .live) (ix .lines) m ≡ o → unrolled count (ix .live) (ix .lines) m ≡ misfit
           go (stays t) e = let r = fits-of f h l t e in absurd (n (contents (r .sound), r .undoes))
           go misfit e = e
+
+  -- Refused, or given the lines undone.
+  pub rollback-settled : (rolls ix m .answer .number ≢ 0) ⊎ ((c : ℕ) × (rolls ix m .answer ≡ given c))
+  rollback-settled = go did
+    where
+      go : Did → (rolls ix m .answer .number ≢ 0) ⊎ ((c : ℕ) × (rolls ix m .answer ≡ given c))
+      go (one n e) = inl (λ q. omega (arith, number (answer e)))
+      go (two f n e) = inl (λ q. omega (arith, number (answer e)))
+      go (seven f h l e) = inl (λ q. omega (arith, number (answer e)))
+      go (eight f h l n e) = inl (λ q. omega (arith, number (answer e)))
+      go (taken f h l t s e) = inr (lengthOf (ix .lines) - m, answer e)

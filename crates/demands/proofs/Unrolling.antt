@@ -83,10 +83,14 @@ free-room {t} fit h = (to, from)
     to d =
         let f = lowest-free t d in
         omega (arith, contents-length h, h .t1 .count, tally-fewer (capacityOf t) (lowestFree t) (used (t .cells)) (used-most (t .cells)) (f .inside) (rw (eq-eqb (cell (t .cells) (lowestFree t) state) free (f .unused))))
+
     from : length (contents h) < capacityOf t → lowestFree t ≢ null
     from l e =
         let n = none-free t (small fit) .0 e in
         omega (arith, contents-length h, h .t1 .count, tally-all (capacityOf t) (used (t .cells)) (λ k w. rw (ne-eqb (cell (t .cells) k state) free (n k w))))
+
+pub contents-most : {t : Live} → Fit t → (h : Sound t) → length (contents h) ≤ capacityOf t
+contents-most {t} fit h = omega (arith, contents-length h, h .t1 .count, tally-most (capacityOf t) (used (t .cells)) (used-most (t .cells)))
 
 -- A tree that a line's undoing leaves, with its contents.
 pub record Left (t u : Live) (l : List Entry) : Type 0 where
@@ -100,22 +104,22 @@ module _ {t : Live} (fit : Fit t) (h : Sound t) where
   grows hash key p n d =
       let f = lowest-free t d in
       let g = grown-sound fit h (lowestFree t) hash key p (f .inside) (f .unused) n in
-      record
-        { fit = grown-fit fit h (lowestFree t) hash key p (f .inside) (f .unused)
-        ; sound = g .sound
-        ; capacity = grown-capacity t (lowestFree t) hash key p
-        ; holds = grown-contents g
-        }
+      record {
+        fit = grown-fit fit h (lowestFree t) hash key p (f .inside) (f .unused);
+        sound = g .sound;
+        capacity = grown-capacity t (lowestFree t) hash key p;
+        holds = grown-contents g;
+      }
 
   pub shrinks : (x hash key : ℕ) → 1 ≤ times x (slots (h .tree)) → pairOf (t .names) x ≡ pair hash key → Left t (shrunk t x) (without hash key (contents h))
   shrinks x hash key z e =
       let g = shrunk-sound fit h x z in
-      record
-        { fit = shrunk-fit fit h x z
-        ; sound = g .sound
-        ; capacity = shrunk-capacity t x
-        ; holds = shrunk-contents g ∙ ap (λ (p : Pair). without (p .hash) (p .key) (contents h)) e
-        }
+      record {
+        fit = shrunk-fit fit h x z;
+        sound = g .sound;
+        capacity = shrunk-capacity t x;
+        holds = shrunk-contents g ∙ ap (λ (p : Pair). without (p .hash) (p .key) (contents h)) e;
+      }
 
 stays-is : {t u : Live} → stays t ≡ stays u → t ≡ u
 stays-is e = cc
@@ -141,6 +145,7 @@ module _ {t : Live} (fit : Fit t) (h : Sound t) (lines : List ℕ) (k : ℕ) whe
           let same : shrunk t x ≡ u = stays-is (rw (eq-eqb (cell (t .cells) x place) (lineWord lines k placeWord) p) at q) in
           took one (subst (λ (r : Entry). In r (contents h)) is (stands-in h x z)) (subst (λ (v : Live). Left t v (without (lineWord lines k hashWord) (lineWord lines k keyWord) (contents h))) same (shrinks fit h x (lineWord lines k hashWord) (lineWord lines k keyWord) z n))
       placed x z n (no p) q = absurd (not-stays (rw (ne-eqb (cell (t .cells) x place) (lineWord lines k placeWord) p) at q))
+
       go : Seen h (lineWord lines k hashWord) (lineWord lines k keyWord) → Stepped h lines k u
       go (there x z n s) = placed x z n (ℕ-discrete (cell (t .cells) x place) (lineWord lines k placeWord)) (rw s at e)
       go (absent n s) = absurd (not-stays (rw s at e))
@@ -155,9 +160,10 @@ module _ {t : Live} (fit : Fit t) (h : Sound t) (lines : List ℕ) (k : ℕ) whe
       placed n (no d) (no f) q = absurd (not-stays (rw (ne-eqb (lowestFree t) null d, le-ltb (lineWord lines k placeWord) 4294967296 (omega arith)) at q))
       placed n (no d) (yes f) q =
           let same : grown t (lowestFree t) (lineWord lines k hashWord) (lineWord lines k keyWord) (lineWord lines k placeWord) ≡ u =
-              stays-is (rw (ne-eqb (lowestFree t) null d, lt-ltb (lineWord lines k placeWord) 4294967296 f) at q) in
+          stays-is (rw (ne-eqb (lowestFree t) null d, lt-ltb (lineWord lines k placeWord) 4294967296 f) at q) in
           gave two (lacks-of h (lineWord lines k hashWord) (lineWord lines k keyWord) n) (free-room fit h .0 d) f
           (subst (λ (v : Live). Left t v (put (lineEntry lines k) (contents h))) same (grows fit h (lineWord lines k hashWord) (lineWord lines k keyWord) (lineWord lines k placeWord) n d))
+
       go : Seen h (lineWord lines k hashWord) (lineWord lines k keyWord) → Stepped h lines k u
       go (there x z n s) = absurd (not-stays (rw s at e))
       go (absent n s) = placed n (ℕ-discrete (lowestFree t) null) (decLt (lineWord lines k placeWord) 4294967296) (rw s at e)
@@ -178,7 +184,7 @@ module _ {t : Live} (fit : Fit t) (h : Sound t) (lines : List ℕ) (k : ℕ) whe
       let s = in-stands h i in
       let named : pairOf (t .names) (s .slot) ≡ pair (lineWord lines k hashWord) (lineWord lines k keyWord) = λ j. pair (s .is j .hash) (s .is j .key) in
       let f : soughtIn t (lineWord lines k hashWord) (lineWord lines k keyWord) ≡ some (s .slot) =
-          ap (λ (r : Rattle.slots.specs.Answers.Answer). r .value) (found-at fit h (lineWord lines k hashWord) (lineWord lines k keyWord) (s .slot) (s .stands) named) in
+      ap (λ (r : Rattle.slots.specs.Answers.Answer). r .value) (found-at fit h (lineWord lines k hashWord) (lineWord lines k keyWord) (s .slot) (s .stands) named) in
       let p : cell (t .cells) (s .slot) place ≡ lineWord lines k placeWord = ap (λ (r : Entry). r .at) (s .is) in
       (shrunk t (s .slot), rw (eq-eqb (lineWord lines k kindWord) 1 one, f, eq-eqb (cell (t .cells) (s .slot) place) (lineWord lines k placeWord) p))
 
@@ -187,9 +193,10 @@ module _ {t : Live} (fit : Fit t) (h : Sound t) (lines : List ℕ) (k : ℕ) whe
   unfolding undone soughtIn
   step-gave two l r w =
       let f : soughtIn t (lineWord lines k hashWord) (lineWord lines k keyWord) ≡ none =
-          ap (λ (r : Rattle.slots.specs.Answers.Answer). r .value) (found-none fit h (lineWord lines k hashWord) (lineWord lines k keyWord) (of-lacks h (lineWord lines k hashWord) (lineWord lines k keyWord) l)) in
-      (grown t (lowestFree t) (lineWord lines k hashWord) (lineWord lines k keyWord) (lineWord lines k placeWord),
-        rw (ne-eqb (lineWord lines k kindWord) 1 (omega arith), eq-eqb (lineWord lines k kindWord) 2 two, f, ne-eqb (lowestFree t) null (free-room fit h .1 r), lt-ltb (lineWord lines k placeWord) 4294967296 w))
+      ap (λ (r : Rattle.slots.specs.Answers.Answer). r .value) (found-none fit h (lineWord lines k hashWord) (lineWord lines k keyWord) (of-lacks h (lineWord lines k hashWord) (lineWord lines k keyWord) l)) in (
+        grown t (lowestFree t) (lineWord lines k hashWord) (lineWord lines k keyWord) (lineWord lines k placeWord),
+        rw (ne-eqb (lineWord lines k kindWord) 1 (omega arith), eq-eqb (lineWord lines k kindWord) 2 two, f, ne-eqb (lowestFree t) null (free-room fit h .1 r), lt-ltb (lineWord lines k placeWord) 4294967296 w),
+      )
 
 -- So many lines undone.
 unrolled-on : (c : ℕ) (t v : Live) (lines : List ℕ) (m : ℕ) → undone t lines (m + c) ≡ stays v → unrolled (suc c) t lines m ≡ unrolled c v lines m

@@ -94,8 +94,8 @@ pub record Inserts (ix : Index) (hash key p : ℕ) : Type 0 where
   -- accepted: sound after, with exactly this entry more; "the chain the new slot and then the old chain"; exactly one line more, of kind 1
   pub done : (x : ℕ) → inserts ix hash key p .answer ≡ given x → (h : Sound (ix .live))
       → (g : Sound (inserts ix hash key p .left .live)) × FitIndex (inserts ix hash key p .left)
-        × (contents g ≡ put (entry hash key p) (contents h)) × (g .chain ≡ x ∷ h .chain)
-        × OneLine (ix .lines) (inserts ix hash key p .left .lines) 1 hash key p
+      × (contents g ≡ put (entry hash key p) (contents h)) × (g .chain ≡ x ∷ h .chain)
+      × OneLine (ix .lines) (inserts ix hash key p .left .lines) 1 hash key p × (capacityOf (inserts ix hash key p .left .live) ≡ capacityOf (ix .live))
 
 -- remove on any words.
 pub record Removes (ix : Index) (hash key : ℕ) : Type 0 where
@@ -112,8 +112,8 @@ pub record Removes (ix : Index) (hash key : ℕ) : Type 0 where
   -- accepted: sound after, with exactly this pair's entry gone; the chain without the slot; exactly one line more, of kind 2, with the place it had
   pub done : (x : ℕ) → removes ix hash key .answer ≡ given x → (h : Sound (ix .live))
       → (g : Sound (removes ix hash key .left .live)) × FitIndex (removes ix hash key .left)
-        × (contents g ≡ without hash key (contents h)) × Less x (h .chain) (g .chain)
-        × OneLine (ix .lines) (removes ix hash key .left .lines) 2 hash key (cell (ix .live .cells) x place)
+      × (contents g ≡ without hash key (contents h)) × Less x (h .chain) (g .chain)
+      × OneLine (ix .lines) (removes ix hash key .left .lines) 2 hash key (cell (ix .live .cells) x place) × (capacityOf (removes ix hash key .left .live) ≡ capacityOf (ix .live))
 
 -- rollback on any words.
 pub record Rolls (ix : Index) (m : ℕ) : Type 0 where
@@ -127,13 +127,13 @@ pub record Rolls (ix : Index) (m : ℕ) : Type 0 where
   -- accepted exactly else, and it answers the lines undone
   pub accepted : (c : ℕ) → (rolls ix m .answer ≡ given c)
       ↔ (FitIndex ix × (m ≤ lengthOf (ix .lines)) × (c ≡ lengthOf (ix .lines) - m)
-        × ((h : Sound (ix .live)) × Fits (capacityOf (ix .live)) (ix .lines) m (lengthOf (ix .lines)) (contents h)))
+      × ((h : Sound (ix .live)) × Fits (capacityOf (ix .live)) (ix .lines) m (lengthOf (ix .lines)) (contents h)))
   pub nothing-written : (rolls ix m .answer .number ≢ 0) → rolls ix m .left ≡ ix
   -- accepted: sound after, the contents are those that undoing gives, and the journal is back at the mark
   pub done : (c : ℕ) → rolls ix m .answer ≡ given c → (h : Sound (ix .live))
       → (g : Sound (rolls ix m .left .live)) × FitIndex (rolls ix m .left)
-        × Undoes (capacityOf (ix .live)) (ix .lines) m (lengthOf (ix .lines)) (contents h) (contents g)
-        × BackTo m (ix .lines) (rolls ix m .left .lines)
+      × Undoes (capacityOf (ix .live)) (ix .lines) m (lengthOf (ix .lines)) (contents h) (contents g)
+      × BackTo m (ix .lines) (rolls ix m .left .lines) × (capacityOf (rolls ix m .left .live) ≡ capacityOf (ix .live))
 
 -- Demand 3: "Take a sound tree and a journal within 01's limits, and note the journal's length. Make any inserts and removes on them,
 -- refused ones too, and rollbacks to that mark or later ones; nothing else writes the two. A rollback to the mark is then accepted, the tree

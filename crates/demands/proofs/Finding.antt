@@ -1,0 +1,55 @@
+-- find on a sound tree, from the law of the search there; and that the contents of a sound tree are one list.
+use mathlib.Core.Path.{_≡_, refl, ap, sym, _∙_, subst}
+use mathlib.Core.Logic.{_↔_}
+use Prim.Native.Nat.{ℕ, _≤_}
+use native.Mathlib.Omega.{arith}
+use Rattle.slots.specs.Pairs.{pair, pairOf}
+use Rattle.slots.specs.Answers.{Answer, Value, some, none, given, nothing, refused}
+use Rattle.shape.specs.Find.{found}
+use Rattle.redblack.specs.Holding.{Has, Stands}
+use Rattle.demands.specs.Live.{Live, Fit, rootOf}
+use Rattle.demands.specs.Sound.{Sound}
+use Rattle.demands.specs.Find.{finds}
+use Rattle.demands.specs.Claims.{FindsSound, Holds}
+use Rattle.demands.proofs.Reading.{on-fit}
+use Rattle.demands.proofs.Seeking.{found-at, found-none}
+use Rattle.demands.proofs.Deciding.{Seen, there, absent, seen}
+use Rattle.demands.proofs.Holding.{contents-length}
+use Rattle.demands.proofs.Unrolling.{contents-one}
+use Rattle.demands.proofs.Inserting.{number, value-inj}
+
+none-some : {x : ℕ} → none ≡ some x → ⊥
+none-some e = let z : _≡_ {A = ℕ} 0 1 = cc in omega arith
+
+module _ {t : Live} (fit : Fit t) (h : Sound t) (hash key : ℕ) where
+  is : finds t hash key ≡ found (t .names) (t .cells) (rootOf t) hash key .answer
+  unfolding finds
+  is = on-fit t (found (t .names) (t .cells) (rootOf t) hash key .answer) fit
+
+  at-slot : (x : ℕ) → Stands x (h .tree) → pairOf (t .names) x ≡ pair hash key → finds t hash key ≡ given x
+  at-slot x z n = is ∙ found-at fit h hash key x z n
+
+  at-none : (Has (t .names) (h .tree) hash key → ⊥) → finds t hash key ≡ nothing
+  at-none n = is ∙ found-none fit h hash key n
+
+  pub find-sound-claims : FindsSound t fit h hash key
+  find-sound-claims = record { at = λ slot. (to slot, λ r. at-slot slot (r .0) (r .1)); none = (lacks, at-none); never-nine = λ e. nine e (seen fit h hash key) }
+    where
+      to : (slot : ℕ) → finds t hash key ≡ given slot → Stands slot (h .tree) × (pairOf (t .names) slot ≡ pair hash key)
+      to slot e = go (seen fit h hash key)
+        where
+          go : Seen h hash key → Stands slot (h .tree) × (pairOf (t .names) slot ≡ pair hash key)
+          go (there x z n s) =
+              let y : x ≡ slot = value-inj (sym (at-slot x z n) ∙ e) refl refl in
+              (subst (λ (k : ℕ). Stands k (h .tree)) y z, subst (λ (k : ℕ). pairOf (t .names) k ≡ pair hash key) y n)
+          go (absent n s) = absurd (none-some (ap (λ (a : Answer). a .value) (sym (at-none n) ∙ e)))
+
+      lacks : finds t hash key ≡ nothing → Has (t .names) (h .tree) hash key → ⊥
+      lacks e a = none-some (ap (λ (r : Answer). r .value) (sym e ∙ at-slot (a .slot) (a .stands) (a .named)))
+
+      nine : finds t hash key ≡ refused 9 → Seen h hash key → ⊥
+      nine e (there x z n s) = omega (arith, number (sym (at-slot x z n) ∙ e))
+      nine e (absent n s) = omega (arith, number (sym (at-none n) ∙ e))
+
+pub hold-claims : (t : Live) (fit : Fit t) → Holds t fit
+hold-claims t fit = record { one = contents-one fit; rising = λ h. h .t4; many = contents-length }

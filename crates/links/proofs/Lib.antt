@@ -1,0 +1,4 @@
+pub mod Walks
+pub mod Placing
+pub mod Unlinking
+pub mod Claims

@@ -1,0 +1,45 @@
+-- What the steps of a descent and of the hanging come to, on plain values: each law takes the equations that the calls give, in the order of the code.
+use mathlib.Core.Path.{_≡_, refl}
+use mathlib.Core.List.{List}
+use mathlib.Core.Logic.{_≢_}
+use Prim.Native.Nat.{ℕ}
+use Rattle.slots.specs.Words.{null, parent, left, right, write}
+use Rattle.slots.proofs.Laws.{pick-eq, pick-ne}
+use Rattle.redblack.specs.Links.{Links}
+use Rattle.redblack.specs.Insertion.{balancedInsertion}
+use Rattle.redblack.specs.Hanging.{Spot, spot, sideFor, descended, hooked, inserted, placed}
+use Rattle.links.specs.Spots.{links, spotOf}
+use Rattle.links.specs.declared.place.Spot as code
+use Rattle.links.proofs.Walks.{Walk}
+
+-- The descent is a walk by the side where the pair belongs.
+pub descent : (names cells : List ℕ) (hash key : ℕ)
+    → Walk cells (λ p. sideFor names p hash key) spot (λ n p. descended names cells n p hash key)
+unfolding descended
+descent names cells hash key = record { spent = λ p. refl; unrolled = λ n p. refl }
+
+-- The tree is empty, is not.
+module _ (steps : ℕ) (names : List ℕ) (s : Links) (hash key : ℕ) where
+  pub empty : s .root ≡ null → spot null left ≡ placed steps names s hash key
+  unfolding placed
+  empty h = rw (pick-eq _ _ h)
+
+  pub full : {w : Spot} → s .root ≢ null → w ≡ descended names (s .cells) steps (s .root) hash key → w ≡ placed steps names s hash key
+  unfolding placed
+  full n e = rw (pick-ne _ _ n) e
+
+module _ (l : List ℕ) (x above side : ℕ) where
+  pub hook : {l1 l2 l3 l4 : List ℕ}
+      → l1 ≡ write l x parent above → l2 ≡ write l1 x left null → l3 ≡ write l2 x right null → l4 ≡ write l3 above side x
+      → (root : ℕ) → links l4 root ≡ hooked (links l root) x (spot above side)
+  unfolding hooked
+  hook e1 e2 e3 e4 root = rw (← e1, ← e2, ← e3, ← e4)
+
+module _ (budget : ℕ) (names : List ℕ) (s : Links) (x hash key : ℕ) where
+  pub hang : {at : code.Spot} {l : List ℕ} {w : Links}
+      → spotOf at ≡ placed budget names s hash key
+      → ((root : ℕ) → links l root ≡ hooked (links (s .cells) root) x (spotOf at))
+      → w ≡ balancedInsertion budget (links l (s .root)) x
+      → w ≡ inserted budget s x (placed budget names s hash key)
+  unfolding inserted
+  hang e1 e2 e3 = rw (← e1, ← e2 (s .root)) e3

@@ -1,0 +1,78 @@
+-- The loop's invariant: the model from here equals the model from the start, and the steps left fall by one a turn.
+use mathlib.Core.Path.{_≡_}
+use Prim.Native.Nat.{_<_, _^_}
+use denote.Ref.{now}
+use borrow.Author.Needs.{needs}
+use Rattle.redblack.specs.Hanging.{descended}
+use Rattle.links.proofs.Placing.{descent}
+use Rattle.links.proofs.Walks.{bottom, ended, down}
+use Rattle.links.proofs.place.descend.Statement.{statement}
+use Rattle.links.proofs.place.descend.Tie as tie
+
+abbrev Inv-loop : tie.InvT-loop
+Inv-loop names cells p hash key steps at₀ rest₀ at rest =
+    (descended names cells rest at hash key ≡ descended names cells steps p hash key) × (at < 2 ^ 32)
+
+abbrev μ-loop : tie.MeasureT-loop
+μ-loop names cells p hash key steps at₀ rest₀ at rest = rest
+
+loop-holds : tie.Need-loop-holds Inv-loop μ-loop
+loop-holds c = search needs
+
+side-for-requires : tie.Need-side-for-requires Inv-loop μ-loop
+side-for-requires c κs = search needs
+
+get-requires : tie.Need-get-requires Inv-loop μ-loop
+get-requires c κs = search needs
+
+returns : tie.Need-returns Inv-loop μ-loop
+returns c =
+    let c1 = c .before in
+    let c2 = c1 .before in
+    let c3 = c2 .before in
+    let c4 = c3 .before in
+    let a = c4 .before .before .before .args in
+    ended (descent (now (a .names)) (now (a .cells)) (a .hash) (a .key)) (c4 .loop .inv .0) (c3 .loop-test .taken) (c2 .side-for .ensures) (c1 .get .ensures) (c .if1 .taken)
+
+sub-rest : tie.Need-sub-rest Inv-loop μ-loop
+sub-rest c = search needs
+
+loop-less : tie.Need-loop-less Inv-loop μ-loop
+loop-less c = search needs
+
+loop-again : tie.Need-loop-again Inv-loop μ-loop
+loop-again c =
+    let c1 = c .before in
+    let c2 = c1 .before in
+    let c3 = c2 .before in
+    let c4 = c3 .before in
+    let a = c4 .before .before .before .args in (
+      down (descent (now (a .names)) (now (a .cells)) (a .hash) (a .key)) (c4 .loop .inv .0) (c3 .loop-test .taken) (c2 .side-for .ensures) (c1 .get .ensures) (c .if1 .left),
+      search needs,
+    )
+
+side-for-requires-2 : tie.Need-side-for-requires-2 Inv-loop μ-loop
+side-for-requires-2 c κs = search needs
+
+returns-2 : tie.Need-returns-2 Inv-loop μ-loop
+returns-2 c =
+    let c1 = c .before in
+    let c2 = c1 .before in
+    let a = c2 .before .before .before .args in
+    bottom (descent (now (a .names)) (now (a .cells)) (a .hash) (a .key)) (c2 .loop .inv .0) (c1 .loop-test .left) (c .side-for2 .ensures)
+
+pub descend-spec : {M : Type 1} → statement M
+descend-spec =
+    tie.close
+    (tie.spec
+    Inv-loop
+    μ-loop
+    loop-holds
+    side-for-requires
+    get-requires
+    returns
+    sub-rest
+    loop-less
+    loop-again
+    side-for-requires-2
+    returns-2)

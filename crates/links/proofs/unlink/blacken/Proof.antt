@@ -1,0 +1,31 @@
+-- The write is made where `blackened` makes it.
+use denote.Ref.{now}
+use Rattle.links.specs.Spots.{links}
+use Rattle.links.proofs.Unlinking.{at-root, not-root}
+use borrow.Author.Needs.{needs}
+use Rattle.links.proofs.unlink.blacken.Statement.{statement}
+use Rattle.links.proofs.unlink.blacken.Tie as tie
+
+put-requires : tie.Need-put-requires
+put-requires c κs = search needs
+
+same-length : tie.Need-same-length
+same-length c = search needs
+
+returns : tie.Need-returns
+returns c =
+    let c1 = c .before .before in
+    let c2 = c1 .before .before in
+    let a = c2 .before .before .args in
+    at-root (links (now (a .cells)) (a .root)) (a .x)
+    (c2 .if1 .taken)
+    (c1 .put .ensures)
+
+returns-2 : tie.Need-returns-2
+returns-2 c =
+    let a = c .before .before .args in
+    not-root (links (now (a .cells)) (a .root)) (a .x)
+    (c .if1 .left)
+
+pub blacken-spec : {M : Type 1} → statement M
+blacken-spec = tie.close (tie.spec put-requires same-length returns returns-2)

@@ -1,0 +1,16 @@
+-- The colour written is the one that the test of red picks.
+use borrow.Author.Needs.{needs}
+use Rattle.links.proofs.unlink.colour.Statement.{statement}
+use Rattle.links.proofs.unlink.colour.Tie as tie
+
+is-red-requires : tie.Need-is-red-requires
+is-red-requires c κs = search needs
+
+returns : tie.Need-returns
+returns c = rw (← c .before .is-red .ensures, c .if1 .taken)
+
+returns-2 : tie.Need-returns-2
+returns-2 c = rw (← c .before .is-red .ensures, c .if1 .left)
+
+pub colour-spec : {M : Type 1} → statement M
+colour-spec = tie.close (tie.spec is-red-requires returns returns-2)

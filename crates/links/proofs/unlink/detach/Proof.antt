@@ -1,0 +1,33 @@
+-- The read, the replacing and the write are those of `detached`.
+use denote.Ref.{now}
+use Rattle.links.specs.Spots.{links}
+use Rattle.links.proofs.Unlinking.{detach}
+use borrow.Author.Needs.{needs}
+use Rattle.links.proofs.unlink.detach.Statement.{statement}
+use Rattle.links.proofs.unlink.detach.Tie as tie
+
+get-requires : tie.Need-get-requires
+get-requires c κs = search needs
+
+replace-requires : tie.Need-replace-requires
+replace-requires c κs = search needs
+
+put-requires : tie.Need-put-requires
+put-requires c κs = search needs
+
+same-length : tie.Need-same-length
+same-length c = search needs
+
+returns : tie.Need-returns
+returns c =
+    let c1 = c .before .before in
+    let c2 = c1 .before .before .before .before in
+    let c3 = c2 .before .before in
+    let a = c3 .before .before .before .args in
+    detach (links (now (a .cells)) (a .root)) (a .p)
+    (c3 .get .ensures)
+    (c2 .replace .ensures)
+    (c1 .put .ensures)
+
+pub detach-spec : {M : Type 1} → statement M
+detach-spec = tie.close (tie.spec get-requires replace-requires put-requires same-length returns)

@@ -1,0 +1,13 @@
+-- The test is on the word that `get` reads.
+use borrow.Author.Needs.{needs}
+use Rattle.links.proofs.unlink.is_red.Statement.{statement}
+use Rattle.links.proofs.unlink.is_red.Tie as tie
+
+get-requires : tie.Need-get-requires
+get-requires c κs = search needs
+
+returns : tie.Need-returns
+returns c = cc (c .get .ensures)
+
+pub is-red-spec : {M : Type 1} → statement M
+is-red-spec = tie.close (tie.spec get-requires returns)

@@ -1,0 +1,71 @@
+-- The writes are those of `lowered`, on each side of its test and under any root.
+use denote.Ref.{now}
+use Rattle.links.proofs.Unlinking.{child, deeper}
+use borrow.Author.Needs.{needs}
+use Rattle.links.proofs.unlink.lower.Statement.{statement}
+use Rattle.links.proofs.unlink.lower.Tie as tie
+
+put-requires : tie.Need-put-requires
+put-requires c κs = search needs
+
+put-requires-2 : tie.Need-put-requires-2
+put-requires-2 c κs = search needs
+
+same-length : tie.Need-same-length
+same-length c = search needs
+
+returns : tie.Need-returns
+returns c =
+    let c1 = c .before .before in
+    let c2 = c1 .before .before .before .before in
+    let c3 = c2 .before .before in
+    let a = c3 .before .before .args in
+    child (now (a .cells)) (a .p) (a .t) (a .pr) (a .tp)
+    (c3 .if1 .taken)
+    (c2 .put .ensures)
+    (c1 .put2 .ensures)
+
+put-requires-3 : tie.Need-put-requires-3
+put-requires-3 c κs = search needs
+
+relink-requires : tie.Need-relink-requires
+relink-requires c κs = search needs
+
+put-requires-4 : tie.Need-put-requires-4
+put-requires-4 c κs = search needs
+
+put-requires-5 : tie.Need-put-requires-5
+put-requires-5 c κs = search needs
+
+same-length-2 : tie.Need-same-length-2
+same-length-2 c = search needs
+
+returns-2 : tie.Need-returns-2
+returns-2 c =
+    let c1 = c .before .before in
+    let c2 = c1 .before .before .before .before in
+    let c3 = c2 .before .before .before .before in
+    let c4 = c3 .before .before .before .before in
+    let c5 = c4 .before .before in
+    let a = c5 .before .before .args in
+    deeper (now (a .cells)) (a .p) (a .t) (a .pr) (a .tp)
+    (c5 .if1 .left)
+    (c4 .put3 .ensures)
+    (c3 .relink .ensures)
+    (c2 .put4 .ensures)
+    (c1 .put5 .ensures)
+
+pub lower-spec : {M : Type 1} → statement M
+lower-spec =
+    tie.close
+    (tie.spec
+    put-requires
+    put-requires-2
+    same-length
+    returns
+    put-requires-3
+    relink-requires
+    put-requires-4
+    put-requires-5
+    same-length-2
+    returns-2)

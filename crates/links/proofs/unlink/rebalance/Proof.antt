@@ -1,0 +1,19 @@
+-- The balancing is left out where `rebalanced` leaves it out.
+use borrow.Author.Needs.{needs}
+use Rattle.links.proofs.unlink.rebalance.Statement.{statement}
+use Rattle.links.proofs.unlink.rebalance.Tie as tie
+
+returns : tie.Need-returns
+returns c = rw (c .if1 .taken)
+
+balance-deletion-requires : tie.Need-balance-deletion-requires
+balance-deletion-requires c κs = search needs
+
+same-length : tie.Need-same-length
+same-length c = search needs
+
+returns-2 : tie.Need-returns-2
+returns-2 c = rw (c .before .before .before .before .if1 .left) (c .before .before .balance-deletion .ensures)
+
+pub rebalance-spec : {M : Type 1} → statement M
+rebalance-spec = tie.close (tie.spec returns balance-deletion-requires same-length returns-2)

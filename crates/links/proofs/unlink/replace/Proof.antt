@@ -1,0 +1,31 @@
+-- `replace` goes as `replaced` does, on each side of its test.
+use denote.Ref.{now}
+use Rattle.links.specs.Spots.{links}
+use Rattle.links.proofs.Unlinking.{rootward, under}
+use borrow.Author.Needs.{needs}
+use Rattle.links.proofs.unlink.replace.Statement.{statement}
+use Rattle.links.proofs.unlink.replace.Tie as tie
+
+returns : tie.Need-returns
+returns c =
+    let a = c .before .before .args in
+    rootward (links (now (a .cells)) (a .root)) (a .q) (a .p) (a .x)
+    (c .if1 .taken)
+
+relink-requires : tie.Need-relink-requires
+relink-requires c κs = search needs
+
+same-length : tie.Need-same-length
+same-length c = search needs
+
+returns-2 : tie.Need-returns-2
+returns-2 c =
+    let c1 = c .before .before in
+    let c2 = c1 .before .before in
+    let a = c2 .before .before .args in
+    under (links (now (a .cells)) (a .root)) (a .q) (a .p) (a .x)
+    (c2 .if1 .left)
+    (c1 .relink .ensures)
+
+pub replace-spec : {M : Type 1} → statement M
+replace-spec = tie.close (tie.spec returns relink-requires same-length returns-2)

@@ -1,0 +1,203 @@
+// A slot leaves the tree, and the tree is balanced.
+use balance::balance::balance_deletion;
+use slots::BLACK;
+use slots::LEFT;
+use slots::NULL;
+use slots::PARENT;
+use slots::RED;
+use slots::RIGHT;
+use slots::STATE;
+use slots::get;
+use slots::put;
+ghost use mathlib.Core.Path.{_≡_};
+ghost use Prim.Native.Nat.{ℕ};
+ghost use lib.Dec.{eqb};
+ghost use Rattle.slots.specs.Words.{pick, state, red, black, code, cell};
+ghost use Rattle.redblack.specs.Removal.{replaced, lowered, traded, replacement, spliced, detached, dropped, leftmost, removed};
+ghost use Rattle.links.specs.Spots.{relinked, rebalanced, blackened};
+
+// Whether slot i is red: a state other than red is not.
+fn is_red(cells: &[u32], i: u32) -> bool
+    ensures { λ r. ⌜ r ≡ eqb (cell (now (cells .entry)) i state) 2 ⌝ }
+{
+    get(cells, i, STATE) == RED
+}
+
+// The colour of slot i, as it is written: red or black, and never a copy of the word.
+fn colour(cells: &[u32], i: u32) -> u32
+    ensures { λ r. ⌜ r ≡ code (pick (eqb (cell (now (cells .entry)) i state) 2) red black) ⌝ }
+{
+    if is_red(cells, i) { RED } else { BLACK }
+}
+
+// q's link to p leads to x: the left one where p stands on the left, else the right one. The root, whatever it is, stays.
+fn relink(cells: &mut [u32], q: u32, p: u32, x: u32)
+    ensures { λ _. ⌜ ((root : ℕ) → record { cells = now (cells .exit); root = root } ≡ relinked (record { cells = now (cells .entry); root = root }) q p x) ⌝ }
+{
+    if get(cells, q, LEFT) == p {
+        put(cells, q, LEFT, x);
+    } else {
+        put(cells, q, RIGHT, x);
+    }
+}
+
+// q's child p is replaced by x; with no q, x is the root. Returns the root.
+fn replace(cells: &mut [u32], root: u32, q: u32, p: u32, x: u32) -> u32
+    ensures { λ top. ⌜ record { cells = now (cells .exit); root = top } ≡ replaced (record { cells = now (cells .entry); root = root }) q p x ⌝ }
+{
+    if q == NULL {
+        return x;
+    }
+    relink(cells, q, p, x);
+    root
+}
+
+// p goes where its successor t stands: under t where t is its right child pr, else under t's parent tp, and t takes the
+// right child. The root, whatever it is, stays.
+fn lower(cells: &mut [u32], p: u32, t: u32, pr: u32, tp: u32)
+    ensures { λ _. ⌜ ((root : ℕ) → record { cells = now (cells .exit); root = root } ≡ lowered (record { cells = now (cells .entry); root = root }) p t pr tp) ⌝ }
+{
+    if t == pr {
+        put(cells, p, PARENT, t);
+        put(cells, t, RIGHT, p);
+        return;
+    }
+    put(cells, p, PARENT, tp);
+    relink(cells, tp, t, p);
+    put(cells, t, RIGHT, pr);
+    put(cells, pr, PARENT, t);
+}
+
+// With two children, successor and slot trade positions and colours. t is the successor; what is read is read before a
+// link changes. Returns the root.
+fn trade(cells: &mut [u32], root: u32, p: u32, t: u32) -> u32
+    ensures { λ top. ⌜ record { cells = now (cells .exit); root = top } ≡ traded (record { cells = now (cells .entry); root = root }) p t ⌝ }
+{
+    let high = colour(cells, p);
+    let low = colour(cells, t);
+    let pl = get(cells, p, LEFT);
+    let tr = get(cells, t, RIGHT);
+    let pp = get(cells, p, PARENT);
+    let pr = get(cells, p, RIGHT);
+    let tp = get(cells, t, PARENT);
+    put(cells, t, STATE, high);
+    put(cells, p, STATE, low);
+    lower(cells, p, t, pr, tp);
+    put(cells, p, LEFT, NULL);
+    put(cells, p, RIGHT, tr);
+    put(cells, tr, PARENT, p);
+    put(cells, t, LEFT, pl);
+    put(cells, pl, PARENT, t);
+    put(cells, t, PARENT, pp);
+    replace(cells, root, pp, p, t)
+}
+
+// The one child takes the slot's position, or the slot stands as its own replacement.
+fn replacement(cells: &[u32], p: u32) -> u32
+    ensures { λ r. ⌜ ((root : ℕ) → r ≡ replacement (record { cells = now (cells .entry); root = root }) p) ⌝ }
+{
+    let low = get(cells, p, LEFT);
+    if low == NULL {
+        let high = get(cells, p, RIGHT);
+        if high == NULL {
+            return p;
+        }
+        return high;
+    }
+    low
+}
+
+// The replacement x takes the position of p, and p keeps no link to the tree. Returns the root.
+fn splice(cells: &mut [u32], root: u32, p: u32, x: u32) -> u32
+    ensures { λ top. ⌜ record { cells = now (cells .exit); root = top } ≡ spliced (record { cells = now (cells .entry); root = root }) p x ⌝ }
+{
+    let pp = get(cells, p, PARENT);
+    put(cells, x, PARENT, pp);
+    let top = replace(cells, root, pp, p, x);
+    put(cells, p, LEFT, NULL);
+    put(cells, p, RIGHT, NULL);
+    put(cells, p, PARENT, NULL);
+    top
+}
+
+// The slot that stood as its own replacement leaves its parent; with none, the tree is empty. Returns the root.
+fn detach(cells: &mut [u32], root: u32, p: u32) -> u32
+    ensures { λ top. ⌜ record { cells = now (cells .exit); root = top } ≡ detached (record { cells = now (cells .entry); root = root }) p ⌝ }
+{
+    let pp = get(cells, p, PARENT);
+    let top = replace(cells, root, pp, p, NULL);
+    put(cells, p, PARENT, NULL);
+    top
+}
+
+// If the removed slot is now black, balance_deletion starts at the replacement x. Where it is red, as redness says,
+// nothing is to be done. Returns the root.
+fn rebalance(cells: &mut [u32], root: u32, x: u32, redness: bool, budget: u32) -> u32
+    ensures { λ top. ⌜ record { cells = now (cells .exit); root = top } ≡ rebalanced budget (record { cells = now (cells .entry); root = root }) x redness ⌝ }
+{
+    if redness {
+        return root;
+    }
+    balance_deletion(cells, root, x, budget)
+}
+
+// A replacement that became the root is painted black.
+fn blacken(cells: &mut [u32], root: u32, x: u32)
+    ensures { λ _. ⌜ record { cells = now (cells .exit); root = root } ≡ blackened (record { cells = now (cells .entry); root = root }) x ⌝ }
+{
+    if root == x {
+        put(cells, x, STATE, BLACK);
+    }
+}
+
+// p, with at most one child, goes: its replacement takes its position, the tree is balanced, and a slot that stood as
+// its own replacement is detached. Returns the root.
+fn drop_slot(cells: &mut [u32], root: u32, p: u32, budget: u32) -> u32
+    ensures { λ top. ⌜ record { cells = now (cells .exit); root = top } ≡ dropped budget (record { cells = now (cells .entry); root = root }) p ⌝ }
+{
+    let x = replacement(cells, p);
+    let red = is_red(cells, p);
+    if x == p {
+        let low = rebalance(cells, root, x, red, budget);
+        let top = detach(cells, low, p);
+        blacken(cells, top, x);
+        return top;
+    }
+    let low = splice(cells, root, p, x);
+    let top = rebalance(cells, low, x, red, budget);
+    blacken(cells, top, x);
+    top
+}
+
+// The leftmost slot from q down, at most so many steps.
+fn leftmost(cells: &[u32], q: u32, budget: u32) -> u32
+    ensures { λ r. ⌜ ((root : ℕ) → r ≡ leftmost budget (record { cells = now (cells .entry); root = root }) q) ⌝ }
+{
+    let mut at = q;
+    let mut rest = budget;
+    while 0 < rest {
+        let next = get(cells, at, LEFT);
+        if next == NULL {
+            return at;
+        }
+        at = next;
+        rest -= 1;
+    }
+    at
+}
+
+// The slot p leaves the tree, after it traded with its successor where it has two children. Returns the root.
+pub fn unlink_slot(cells: &mut [u32], root: u32, p: u32, budget: u32) -> u32
+    ensures { λ top. ⌜ record { cells = now (cells .exit); root = top } ≡ removed budget (record { cells = now (cells .entry); root = root }) p ⌝ }
+{
+    if get(cells, p, LEFT) == NULL {
+        return drop_slot(cells, root, p, budget);
+    }
+    let pr = get(cells, p, RIGHT);
+    if pr == NULL {
+        return drop_slot(cells, root, p, budget);
+    }
+    let t = leftmost(cells, pr, budget);
+    let low = trade(cells, root, p, t);
+    drop_slot(cells, low, p, budget)
+}
