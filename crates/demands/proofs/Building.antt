@@ -60,9 +60,6 @@ hue-used black = omega arith
 hue-used red = omega arith
 
 module _ {t : Live} (fit : Fit t) (b : Built t) where
-  n : ℕ
-  n = capacityOf t
-
   member : (k : ℕ) → k < capacityOf t → (P : Type 0) → (times k (slots (b .tree)) ≡ 0 → P) → (1 ≤ times k (slots (b .tree)) → P) → P
   member k l P none some = go (ℕ-discrete (times k (slots (b .tree))) 0)
     where

@@ -15,6 +15,22 @@ pub both : (a b : Bool) → pick a b false ≡ true → (a ≡ true) × (b ≡ t
 both true b e = (refl, e)
 both false b e = absurd (false≢true e)
 
+-- The capacity is half the names.
+pub half : {t : Live} (h : Fit t) → capacityOf t ≡ h .capacity
+half h = omega (arith, h .two)
+
+pub fit-fits : (t : Live) → Fit t → fits t ≡ true
+unfolding fits
+fit-fits t h =
+    simp (
+      half h,
+      le-leb 1 (h .capacity) (h .least),
+      le-leb (h .capacity) 4096 (h .most),
+      eq-eqb (length (t .names)) (2 * h .capacity) (h .two),
+      eq-eqb (length (t .cells)) (7 * h .capacity) (h .seven),
+      eq-eqb (length (t .head)) 3 (h .three),
+    )
+
 pub fits-fit : (t : Live) → fits t ≡ true → Fit t
 unfolding fits
 fits-fit t e =
@@ -31,22 +47,6 @@ fits-fit t e =
       seven = eqb-true (length (t .cells)) (7 * n) (h4 .0);
       three = eqb-true (length (t .head)) 3 (h4 .1);
     }
-
--- The capacity is half the names.
-pub half : {t : Live} (h : Fit t) → capacityOf t ≡ h .capacity
-half h = omega (arith, h .two)
-
-pub fit-fits : (t : Live) → Fit t → fits t ≡ true
-unfolding fits
-fit-fits t h =
-    simp (
-      half h,
-      le-leb 1 (h .capacity) (h .least),
-      le-leb (h .capacity) 4096 (h .most),
-      eq-eqb (length (t .names)) (2 * h .capacity) (h .two),
-      eq-eqb (length (t .cells)) (7 * h .capacity) (h .seven),
-      eq-eqb (length (t .head)) 3 (h .three),
-    )
 
 pub unfit : (t : Live) → fits t ≡ false → Fit t → ⊥
 unfit t e h = false≢true (sym e ∙ fit-fits t h)

@@ -146,7 +146,7 @@ module _ {t : Live} (fit : Fit t) (h : Sound t) (x hash key p : ℕ) (inside : x
         most = fit .most;
         two = paired-length (t .names) x hash key ∙ fit .two;
         seven = hangs-slot .keeps place place-aside .long ∙ wide-length ∙ fit .seven;
-        three = headed-length (t .head) (hung .root) x (countOf t + 1) ∙ fit .three;
+        three = headed-length (t .head) (hung .root) x _ ∙ fit .three;
       }
 
   cap : capacityOf (grown t x hash key p) ≡ capacityOf t

@@ -11,9 +11,8 @@ use lib.Dec.{eqb, ltb}
 use borrow.Author.Tests.{eq-eqb, ne-eqb}
 use Rattle.slots.specs.Words.{pick}
 use Rattle.slots.specs.Pairs.{Pair, pair, pairOf, Less, before}
-use Rattle.slots.proofs.Order.{less-irreflexive, less-transitive}
+use Rattle.slots.proofs.Order.{less-irreflexive, less-transitive, before-less}
 use Rattle.shape.specs.Tree.{Tree, slots, Below, Rising}
-use Rattle.shape.proofs.Rising.{before-less}
 use Rattle.demands.specs.Live.{Live}
 use Rattle.demands.specs.Contents.{Entry, entryOf, put, isPair, without, In, first, later, Lacks, empty, other}
 

@@ -62,4 +62,6 @@ claims =
       check-one = λ t a b p q. checked-one-to-one a b (p ∙ sym q);
       soundness-one-to-one = soundness-one-to-one;
       sound-one = λ t a b p q. soundness-one-to-one a b (p ∙ sym q);
+      fit-one = λ t a b p q. p ∙ sym q;
+      word-one = λ head k a b p q. p ∙ sym q;
     }

@@ -1,8 +1,11 @@
--- What crate `live` proves beside its contracts: its answers are told apart by their numbers, and each entry point has one outcome.
+-- What crate `live` proves beside its contracts: its answers are told apart by their numbers, and each public routine has one outcome.
 use mathlib.Core.Path.{_≡_}
+use mathlib.Core.List.{List}
 use Prim.Native.Nat.{ℕ}
+use lib.ListN.{getD}
+use Rattle.slots.specs.Words.{null}
 use Rattle.slots.specs.Answers.{OneAnswer}
-use Rattle.demands.specs.Live.{Live}
+use Rattle.demands.specs.Live.{Live, fits}
 use Rattle.demands.specs.Find.{finds}
 use Rattle.demands.specs.Check.{checks}
 use Rattle.demands.specs.Sound.{sounds}
@@ -18,3 +21,5 @@ pub record Claims : Type 0 where
   pub check-one : (t : Live) → OneAnswer (λ r. checkedOf r ≡ checks t)
   pub soundness-one-to-one : (a b : Soundness) → soundOf a ≡ soundOf b → a ≡ b
   pub sound-one : (t : Live) → OneAnswer (λ r. soundOf r ≡ sounds t)
+  pub fit-one : (t : Live) → OneAnswer (λ r. r ≡ fits t)
+  pub word-one : (head : List ℕ) (k : ℕ) → OneAnswer (λ r. r ≡ getD head k null)

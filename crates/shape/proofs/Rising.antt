@@ -10,29 +10,14 @@ use lib.ListN.{length}
 use lib.Dec.{eqb, ltb}
 use borrow.Author.Tests.{eq-eqb, ne-eqb, lt-ltb, le-ltb, ltb-true, ltb-false}
 use Rattle.slots.specs.Words.{null, pick, nameOf, hashPart, keyPart}
-use Rattle.slots.specs.Pairs.{Pair, pair, pairOf, Less}
+use Rattle.slots.specs.Pairs.{Pair, pairOf, Less, before}
 use Rattle.slots.specs.Answers.{Value, none, some}
-use Rattle.slots.proofs.Order.{less-transitive}
+use Rattle.slots.proofs.Order.{less-transitive, before-less}
 use Rattle.shape.specs.Find.{slotsOf}
-use Rattle.slots.specs.Pairs.{before}
 use Rattle.shape.specs.Tree.{Tree, top, slots, times, Hangs, Rooted, Below, Rising, last, empty, rise}
 use Rattle.shape.specs.Rules.{then, follows, risen, isSome, rises}
 use Rattle.shape.proofs.Counting.{times-head, times-rest}
 use Rattle.shape.proofs.Reaching.{length-node, solid, hangs-inside, rooted-most}
-
--- The comparison is the order of pairs.
-pub before-less : (h k a o : ℕ) → (before h k a o ≡ true) ↔ Less (pair h k) (pair a o)
-unfolding Less
-before-less h k a o = (λ e. to (ltb h a) refl (ltb a h) refl e, from)
-  where
-    to : (x : Bool) → ltb h a ≡ x → (y : Bool) → ltb a h ≡ y → pick x true (pick y false (ltb k o)) ≡ true → Less (pair h k) (pair a o)
-    to true p y q e = inl (ltb-true h a p)
-    to false p true q e = absurd (false≢true e)
-    to false p false q e = inr (omega (arith, ltb-false h a p, ltb-false a h q), ltb-true k o e)
-
-    from : Less (pair h k) (pair a o) → before h k a o ≡ true
-    from (inl l) = simp (lt-ltb h a l)
-    from (inr l) = simp (le-ltb h a (omega arith), le-ltb a h (omega arith), lt-ltb k o (l .1))
 
 -- The slots of a list read in order, where m was read last.
 read : List ℕ → ℕ → List ℕ → Value

@@ -7,7 +7,7 @@ use Rattle.slots.specs.Words.{fields, parts}
 use Rattle.slots.specs.Pairs.{Pair, Less}
 use Rattle.slots.specs.Claims.{Claims, Words}
 use Rattle.slots.proofs.Laws.{word-same, word-across, word-else, length-store}
-use Rattle.slots.proofs.Order.{less-irreflexive, less-transitive, less-total}
+use Rattle.slots.proofs.Order.{less-irreflexive, less-transitive, less-total, before-less}
 
 words : (w d : ℕ) → Words w d
 words w d =
@@ -28,6 +28,7 @@ claims =
       total = less-total;
       not-both = λ p q h k. less-irreflexive p (less-transitive p q p h k);
       not-equal = λ p q h e. less-irreflexive q (rw e at h);
+      tested = before-less;
       get-one = λ l i f a b p q. p ∙ sym q;
       put-one = λ l i f v a b p q. p ∙ sym q;
       name-one = λ l i f a b p q. p ∙ sym q;

@@ -1,10 +1,14 @@
 -- The order of pairs: hash decides, and key where hashes are equal, so each law comes down to the order of numbers.
 use mathlib.Core.Path.{_≡_, refl}
-use mathlib.Core.Logic.{_⊎_, inl, inr}
+use mathlib.Core.Logic.{_⊎_, inl, inr, _↔_}
+use mathlib.Core.Bool.{Bool, true, false, false≢true}
 use Prim.Native.Nat.{ℕ, _<_}
 use native.Mathlib.Decide.{ℕ-discrete, decLt}
 use native.Mathlib.Omega.{arith}
-use Rattle.slots.specs.Pairs.{Pair, Less}
+use lib.Dec.{ltb}
+use borrow.Author.Tests.{lt-ltb, le-ltb, ltb-true, ltb-false}
+use Rattle.slots.specs.Words.{pick}
+use Rattle.slots.specs.Pairs.{Pair, pair, Less, before}
 
 pub less-irreflexive : (p : Pair) → Less p p → ⊥
 unfolding Less
@@ -31,3 +35,17 @@ less-total p q = go (decLt (p .hash) (q .hash)) (ℕ-discrete (p .hash) (q .hash
     go (no h) (yes d) (no k) (yes e) = inr (inl (same d e))
     go (no h) (yes d) (no k) (no e) = inr (inr (inr (omega arith)))
     go (no h) (no d) k e = inr (inr (inl (omega arith)))
+
+-- The test of the order is the order.
+pub before-less : (h k a o : ℕ) → (before h k a o ≡ true) ↔ Less (pair h k) (pair a o)
+unfolding Less
+before-less h k a o = (λ e. to (ltb h a) refl (ltb a h) refl e, from)
+  where
+    to : (x : Bool) → ltb h a ≡ x → (y : Bool) → ltb a h ≡ y → pick x true (pick y false (ltb k o)) ≡ true → Less (pair h k) (pair a o)
+    to true p y q e = inl (ltb-true h a p)
+    to false p true q e = absurd (false≢true e)
+    to false p false q e = inr (omega (arith, ltb-false h a p, ltb-false a h q), ltb-true k o e)
+
+    from : Less (pair h k) (pair a o) → before h k a o ≡ true
+    from (inl l) = simp (lt-ltb h a l)
+    from (inr l) = simp (le-ltb h a (omega arith), le-ltb a h (omega arith), lt-ltb k o (l .1))

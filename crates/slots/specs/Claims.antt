@@ -1,13 +1,13 @@
 -- What crate `slots` proves, in one record: the laws of a slot's words, of the order of pairs, and that each public routine has one answer.
 use mathlib.Core.Path.{_≡_}
-use mathlib.Core.Logic.{_≢_, _⊎_}
+use mathlib.Core.Logic.{_≢_, _⊎_, _↔_}
 use mathlib.Core.List.{List}
 use mathlib.Core.Bool.{true, false}
 use Prim.Native.Nat.{ℕ, _<_}
 use lib.Dec.{eqb, ltb}
 use lib.ListN.{length}
 use Rattle.slots.specs.Words.{fields, parts, word, store, cell, write, nameOf, rename, roomy}
-use Rattle.slots.specs.Pairs.{Pair, Less}
+use Rattle.slots.specs.Pairs.{Pair, pair, Less, before}
 use Rattle.slots.specs.Answers.{OneAnswer}
 
 -- The laws of reads and writes where a slot has w words and d stands for a word that is not there.
@@ -31,6 +31,8 @@ pub record Claims : Type 0 where
   pub total : (p q : Pair) → Less p q ⊎ ((p ≡ q) ⊎ Less q p)
   pub not-both : (p q : Pair) → Less p q → Less q p → ⊥
   pub not-equal : (p q : Pair) → Less p q → p ≢ q
+  -- and the test of it answers yes exactly then
+  pub tested : (hash key at own : ℕ) → (before hash key at own ≡ true) ↔ Less (pair hash key) (pair at own)
   -- each public routine promises one outcome
   pub get-one : (l : List ℕ) (i f : ℕ) → OneAnswer (λ r. r ≡ cell l i f)
   pub put-one : (l : List ℕ) (i f v : ℕ) → OneAnswer (λ l′. l′ ≡ write l i f v)
