@@ -8,11 +8,12 @@ use slots::PARENT;
 use slots::RED;
 use slots::RIGHT;
 use slots::STATE;
+use slots::colour;
 use slots::get;
+use slots::is_red;
 use slots::put;
 ghost use mathlib.Core.Path.{_≡_};
-ghost use lib.Dec.{eqb};
-ghost use Rattle.slots.specs.Words.{pick, state, red, black, code, cell, write};
+ghost use Rattle.slots.specs.Words.{state, write};
 ghost use Rattle.redblack.specs.Insertion.{raised, straightened, lifted, insertionTurn, insertionTurns, balancedInsertion};
 ghost use Rattle.redblack.specs.Deletion.{settled, tucked, eased, sunk, deletionTurn, balancedDeletion};
 ghost use Rattle.balance.specs.Turns.{turnOf};
@@ -21,20 +22,6 @@ ghost use Rattle.balance.specs.Turns.{turnOf};
 enum Step {
     Done(u32),
     More(u32, u32),
-}
-
-// Whether slot i is red: a state other than red is not.
-fn is_red(cells: &[u32], i: u32) -> bool
-    ensures { λ r. ⌜ r ≡ eqb (cell (now (cells .entry)) i state) 2 ⌝ }
-{
-    get(cells, i, STATE) == RED
-}
-
-// The colour of slot i, as it is written: red or black, and never a copy of the word.
-fn colour(cells: &[u32], i: u32) -> u32
-    ensures { λ r. ⌜ r ≡ code (pick (eqb (cell (now (cells .entry)) i state) 2) red black) ⌝ }
-{
-    if is_red(cells, i) { RED } else { BLACK }
 }
 
 // Writes a colour as the state of slot i.

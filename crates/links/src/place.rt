@@ -4,10 +4,10 @@ use slots::KEY;
 use slots::LEFT;
 use slots::NULL;
 use slots::RIGHT;
+use slots::comes_before;
 use slots::get;
 use slots::name;
 ghost use mathlib.Core.Path.{_≡_};
-ghost use Rattle.slots.specs.Pairs.{before};
 ghost use Rattle.redblack.specs.Hanging.{sideFor, descended, placed};
 ghost use Rattle.links.specs.Spots.{spotOf};
 
@@ -15,19 +15,6 @@ ghost use Rattle.links.specs.Spots.{spotOf};
 pub(crate) struct Spot {
     pub(crate) above: u32,
     pub(crate) side: u32,
-}
-
-// Whether the pair (hash, key) comes before (at, own): by hash, then key.
-pub(crate) fn comes_before(hash: u64, key: u64, at: u64, own: u64) -> bool
-    ensures { λ r. ⌜ r ≡ before hash key at own ⌝ }
-{
-    if hash < at {
-        return true;
-    }
-    if at < hash {
-        return false;
-    }
-    key < own
 }
 
 // The side of slot p where the pair belongs.

@@ -4,31 +4,16 @@ use slots::BLACK;
 use slots::LEFT;
 use slots::NULL;
 use slots::PARENT;
-use slots::RED;
 use slots::RIGHT;
 use slots::STATE;
+use slots::colour;
 use slots::get;
+use slots::is_red;
 use slots::put;
 ghost use mathlib.Core.Path.{_≡_};
 ghost use Prim.Native.Nat.{ℕ};
-ghost use lib.Dec.{eqb};
-ghost use Rattle.slots.specs.Words.{pick, state, red, black, code, cell};
 ghost use Rattle.redblack.specs.Removal.{replaced, lowered, traded, replacement, spliced, detached, dropped, leftmost, removed};
 ghost use Rattle.links.specs.Spots.{relinked, rebalanced, blackened};
-
-// Whether slot i is red: a state other than red is not.
-fn is_red(cells: &[u32], i: u32) -> bool
-    ensures { λ r. ⌜ r ≡ eqb (cell (now (cells .entry)) i state) 2 ⌝ }
-{
-    get(cells, i, STATE) == RED
-}
-
-// The colour of slot i, as it is written: red or black, and never a copy of the word.
-fn colour(cells: &[u32], i: u32) -> u32
-    ensures { λ r. ⌜ r ≡ code (pick (eqb (cell (now (cells .entry)) i state) 2) red black) ⌝ }
-{
-    if is_red(cells, i) { RED } else { BLACK }
-}
 
 // q's link to p leads to x: the left one where p stands on the left, else the right one. The root, whatever it is, stays.
 fn relink(cells: &mut [u32], q: u32, p: u32, x: u32)

@@ -33,4 +33,7 @@ claims =
       put-one = λ l i f v a b p q. p ∙ sym q;
       name-one = λ l i f a b p q. p ∙ sym q;
       put-name-one = λ l i f v a b p q. p ∙ sym q;
+      is-red-one = λ l i a b p q. p ∙ sym q;
+      colour-one = λ l i a b p q. p ∙ sym q;
+      comes-before-one = λ hash key at own a b p q. p ∙ sym q;
     }

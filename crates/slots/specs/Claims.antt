@@ -6,7 +6,7 @@ use mathlib.Core.Bool.{true, false}
 use Prim.Native.Nat.{ℕ, _<_}
 use lib.Dec.{eqb, ltb}
 use lib.ListN.{length}
-use Rattle.slots.specs.Words.{fields, parts, word, store, cell, write, nameOf, rename, roomy}
+use Rattle.slots.specs.Words.{pick, state, black, red, code, fields, parts, word, store, cell, write, nameOf, rename, roomy}
 use Rattle.slots.specs.Pairs.{Pair, pair, Less, before}
 use Rattle.slots.specs.Answers.{OneAnswer}
 
@@ -38,3 +38,6 @@ pub record Claims : Type 0 where
   pub put-one : (l : List ℕ) (i f v : ℕ) → OneAnswer (λ l′. l′ ≡ write l i f v)
   pub name-one : (l : List ℕ) (i f : ℕ) → OneAnswer (λ r. r ≡ nameOf l i f)
   pub put-name-one : (l : List ℕ) (i f v : ℕ) → OneAnswer (λ l′. l′ ≡ rename l i f v)
+  pub is-red-one : (l : List ℕ) (i : ℕ) → OneAnswer (λ r. r ≡ eqb (cell l i state) 2)
+  pub colour-one : (l : List ℕ) (i : ℕ) → OneAnswer (λ r. r ≡ code (pick (eqb (cell l i state) 2) red black))
+  pub comes-before-one : (hash key at own : ℕ) → OneAnswer (λ r. r ≡ before hash key at own)

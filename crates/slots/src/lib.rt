@@ -2,7 +2,9 @@
 // Reads and writes are total: where there is no such word a read answers null (a name: 0) and a write does nothing,
 // so that no function above needs a bound on a link.
 ghost use mathlib.Core.Path.{_≡_};
-ghost use Rattle.slots.specs.Words.{cell, write, nameOf, rename};
+ghost use lib.Dec.{eqb};
+ghost use Rattle.slots.specs.Words.{pick, state, black, red, code, cell, write, nameOf, rename};
+ghost use Rattle.slots.specs.Pairs.{before};
 
 pub const NULL: u32 = 4294967295;
 
@@ -67,4 +69,31 @@ pub fn put_name(names: &mut [u64], i: u32, f: u32, v: u64)
     if k < names.len() {
         names[k] = v;
     }
+}
+
+// Whether slot i is red: a state other than red is not.
+pub fn is_red(cells: &[u32], i: u32) -> bool
+    ensures { λ r. ⌜ r ≡ eqb (cell (now (cells .entry)) i state) 2 ⌝ }
+{
+    get(cells, i, STATE) == RED
+}
+
+// The colour of slot i, as it is written: red or black, and never a copy of the word.
+pub fn colour(cells: &[u32], i: u32) -> u32
+    ensures { λ r. ⌜ r ≡ code (pick (eqb (cell (now (cells .entry)) i state) 2) red black) ⌝ }
+{
+    if is_red(cells, i) { RED } else { BLACK }
+}
+
+// Whether the pair (hash, key) comes before (at, own): by hash, then key.
+pub fn comes_before(hash: u64, key: u64, at: u64, own: u64) -> bool
+    ensures { λ r. ⌜ r ≡ before hash key at own ⌝ }
+{
+    if hash < at {
+        return true;
+    }
+    if at < hash {
+        return false;
+    }
+    key < own
 }

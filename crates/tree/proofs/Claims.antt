@@ -74,7 +74,6 @@ claims =
       check-invariants-one = λ names cells root a b p q. checked-one-to-one a b (p ∙ sym q);
       rest-one-to-one = rest-one-to-one;
       size-one-to-one = size-one-to-one;
-      comes-before-one = λ hash key at own a b p q. p ∙ sym q;
       reach-one = λ n cells q i visits a b p r. rest-one-to-one a b (p ∙ sym r);
       rising-one = λ names cells root a b p q. p ∙ sym q;
       coloured-one = λ n cells root a b p q. p ∙ sym q;

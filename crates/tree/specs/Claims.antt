@@ -3,7 +3,6 @@ use mathlib.Core.Path.{_≡_}
 use mathlib.Core.List.{List}
 use Prim.Native.Nat.{ℕ}
 use Rattle.slots.specs.Words.{null}
-use Rattle.slots.specs.Pairs.{before}
 use Rattle.slots.specs.Answers.{OneAnswer}
 use Rattle.shape.specs.Rules.{reached, rises, coloured, level, treeSize}
 use Rattle.shape.specs.Chain.{chained}
@@ -28,7 +27,6 @@ pub record Claims : Type 0 where
   -- so for the rules of one tree, and its chain
   pub rest-one-to-one : (a b : Rest) → restOf a ≡ restOf b → a ≡ b
   pub size-one-to-one : (a b : Size) → sizeOf a ≡ sizeOf b → a ≡ b
-  pub comes-before-one : (hash key at own : ℕ) → OneAnswer (λ r. r ≡ before hash key at own)
   pub reach-one : (n : ℕ) (cells : List ℕ) (q i visits : ℕ) → OneAnswer (λ r. restOf r ≡ reached visits n cells q i visits)
   pub rising-one : (names cells : List ℕ) (root : ℕ) → OneAnswer (λ r. r ≡ rises names cells root)
   pub coloured-one : (n : ℕ) (cells : List ℕ) (root : ℕ) → OneAnswer (λ r. r ≡ coloured n cells root)

@@ -5,15 +5,14 @@ use slots::NEXT;
 use slots::NULL;
 use slots::PARENT;
 use slots::PREV;
-use slots::RED;
 use slots::RIGHT;
-use slots::STATE;
 use slots::get;
+use slots::is_red;
 use slots::name;
 ghost use mathlib.Core.Path.{_≡_};
 ghost use Rattle.shape.specs.Find.{slotsOf};
 ghost use Rattle.tree.specs.Check.{walkOf, checkedOf};
-ghost use Rattle.shape.specs.Check.{pointsBack, isChild, leftHash, rightHash, redSlot, notAllRed, firstFailing, inRange, linksIn, walked, checked};
+ghost use Rattle.shape.specs.Check.{pointsBack, isChild, leftHash, rightHash, notAllRed, firstFailing, inRange, linksIn, walked, checked};
 
 // The neighbour of i along the field f, if any, points back to i along the field g.
 fn points_back(cells: &[u32], i: u32, f: u32, g: u32) -> bool
@@ -76,16 +75,6 @@ fn right_hash(names: &[u64], cells: &[u32], i: u32) -> bool
     let own = name(names, i, HASH);
     let theirs = name(names, r, HASH);
     if own <= theirs {
-        return true;
-    }
-    false
-}
-
-fn is_red(cells: &[u32], i: u32) -> bool
-    ensures { λ r. ⌜ r ≡ redSlot (now (cells .entry)) i ⌝ }
-{
-    let state = get(cells, i, STATE);
-    if state == RED {
         return true;
     }
     false

@@ -8,12 +8,12 @@ use slots::PARENT;
 use slots::RED;
 use slots::RIGHT;
 use slots::STATE;
+use slots::comes_before;
 use slots::get;
 use slots::name;
 ghost use mathlib.Core.Path.{_≡_};
 ghost use lib.ListN.{length};
 ghost use Prim.Native.Nat.{_/_};
-ghost use Rattle.slots.specs.Pairs.{before};
 ghost use Rattle.shape.specs.Find.{slotsOf};
 ghost use Rattle.shape.specs.Rules.{stands, reached, follows, risen, calmed, levelled, rises, treeSize};
 ghost use Rattle.shape.specs.Rules.{coloured as colours, level as levels};
@@ -54,22 +54,6 @@ fn stand(cells: &[u32], q: u32, i: u32) -> bool
         return false;
     }
     true
-}
-
-// Whether the pair (hash, key) comes before (at, own).
-pub fn comes_before(hash: u64, key: u64, at: u64, own: u64) -> bool
-    ensures { λ r. ⌜ r ≡ before hash key at own ⌝ }
-{
-    if hash < at {
-        return true;
-    }
-    if at < hash {
-        return false;
-    }
-    if key < own {
-        return true;
-    }
-    false
 }
 
 // The pair of slot m comes before that of slot i, or m is null: none was read before.

@@ -1,7 +1,7 @@
 -- The colour written is the one that the test of red picks.
 use borrow.Author.Needs.{needs}
-use Rattle.links.proofs.unlink.colour.Statement.{statement}
-use Rattle.links.proofs.unlink.colour.Tie as tie
+use Rattle.slots.proofs.colour.Statement.{statement}
+use Rattle.slots.proofs.colour.Tie as tie
 
 is-red-requires : tie.Need-is-red-requires
 is-red-requires c κs = search needs

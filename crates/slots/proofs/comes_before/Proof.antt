@@ -1,7 +1,7 @@
 -- Each way through the two tests of the hash is the way that `before` picks.
 use borrow.Author.Tests.{lt-ltb, le-ltb}
-use Rattle.links.proofs.place.comes_before.Statement.{statement}
-use Rattle.links.proofs.place.comes_before.Tie as tie
+use Rattle.slots.proofs.comes_before.Statement.{statement}
+use Rattle.slots.proofs.comes_before.Tie as tie
 
 returns : tie.Need-returns
 returns c = rw (lt-ltb _ _ (c .if1 .taken))

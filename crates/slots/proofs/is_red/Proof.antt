@@ -1,7 +1,7 @@
 -- The test is on the word that `get` reads.
 use borrow.Author.Needs.{needs}
-use Rattle.balance.proofs.balance.is_red.Statement.{statement}
-use Rattle.balance.proofs.balance.is_red.Tie as tie
+use Rattle.slots.proofs.is_red.Statement.{statement}
+use Rattle.slots.proofs.is_red.Tie as tie
 
 get-requires : tie.Need-get-requires
 get-requires c κs = search needs
