@@ -1,0 +1,73 @@
+-- Every claim of the crate holds: the small trees by computing, what is said of any tree by the claims of `demands`.
+use mathlib.Core.Path.{_≡_, refl, _∙_, ap}
+use mathlib.Core.List.{List, [], _∷_}
+use Prim.Native.Nat.{ℕ, _+_, _-_, _<_}
+use native.Mathlib.Omega.{arith}
+use lib.ListN.{length, getD, set}
+use borrow.Author.Tests.{le-ltb}
+use Rattle.slots.specs.Words.{cell, write, nameOf, rename, roomy}
+use Rattle.slots.specs.Answers.{given, nothing}
+use Rattle.shape.specs.Find.{Search, found, decided, looked, searched}
+use Rattle.shape.proofs.Searching.{at-null}
+use Rattle.shape.specs.Chain.{chained, tally}
+use Rattle.shape.specs.Check.{linksIn}
+use Rattle.shape.specs.Rules.{stands, reached, follows, risen, calmed, levelled, rises, coloured, level}
+use Rattle.redblack.specs.Deletion.{capped, settled, tucked, eased, sunk, deletionTurn, balancedDeletion}
+use Rattle.redblack.specs.Hanging.{descended, hooked, inserted, placed}
+use Rattle.redblack.specs.Insertion.{raised, straightened, lifted, insertionTurn, insertionTurns, balancedInsertion}
+use Rattle.redblack.specs.Removal.{replaced, lowered, traded, replacement, spliced, detached, dropped, leftmost, removed}
+use Rattle.redblack.specs.Rotate.{hung, turned, rotated}
+use Rattle.demands.specs.Live.{Live, Fit, rootOf, countOf, capacityOf, fits}
+use Rattle.demands.specs.Sound.{Sound, sound, isCleared, slotFine, slotsFine, rule1, rule2, rule3, rule4, rule5, rule6, rule7}
+use Rattle.demands.specs.Find.{finds}
+use Rattle.demands.specs.Index.{Index, FitIndex, index, outcome, lengthOf, fitsJournal, fitsIndex, lined, appended}
+use Rattle.demands.specs.Rollback.{rolls, unrolled, blanked}
+use Rattle.demands.proofs.Fit.{fit-fits}
+use Rattle.demands.proofs.Journal.{index-fits}
+use Rattle.demands.proofs.Sounding.{sound-yes}
+use Rattle.demands.proofs.Claims.{claims as demanded}
+use Rattle.demands.specs.Calls.{after}
+use Rattle.demands.specs.Insert.{freeFrom, lowestFree, soughtIn, fronted, grown, inserts}
+use Rattle.demands.specs.Remove.{unchained, wiped, shrunk, removes}
+use Rattle.examples.specs.Claims.{Claims}
+use Rattle.examples.specs.Worked.{empty, zeros, freeSlots, drawn, drawnFrom, chainOf, chainFrom}
+
+empty-find : (t : Live) → Fit t → Sound t → countOf t ≡ 0 → (hash key : ℕ) → finds t hash key ≡ nothing
+unfolding finds found
+empty-find t fit h e hash key = rw (fit-fits t fit) (ap (λ (s : Search). s .answer) (at-null (t .names) (t .cells) hash key (capacityOf t) (rootOf t) (h .t2 .root .1 e)))
+
+-- A word written with what it was.
+set-same : (l : List ℕ) → 0 < length l → set l 0 (getD l 0 0) ≡ l
+set-same [] h = absurd (omega arith)
+set-same (x ∷ l) h = refl
+
+at-length : (ix : Index) → FitIndex ix → Sound (ix .live) → rolls ix (lengthOf (ix .lines)) ≡ outcome (given 0) ix
+unfolding rolls unrolled blanked
+at-length ix fit h =
+    let z : lengthOf (ix .lines) - lengthOf (ix .lines) ≡ 0 = omega arith in
+    let e : rolls ix (lengthOf (ix .lines)) ≡ outcome (given 0) (index (ix .live) (set (ix .lines) 0 (lengthOf (ix .lines)))) =
+    rw (index-fits ix fit, sound-yes (fit .tree) h, le-ltb (lengthOf (ix .lines)) (lengthOf (ix .lines)) (omega arith), z, z) in
+    e ∙ ap (λ (l : List ℕ). outcome (given 0) (index (ix .live) l)) (set-same (ix .lines) (omega (arith, fit .four)))
+
+pub claims : Claims
+unfolding empty zeros freeSlots drawn drawnFrom chainOf chainFrom cell write nameOf rename roomy chained tally linksIn decided looked searched found stands reached follows risen calmed levelled rises coloured level capped settled tucked eased sunk deletionTurn balancedDeletion descended hooked inserted placed raised straightened lifted insertionTurn insertionTurns balancedInsertion replaced lowered traded replacement spliced detached dropped leftmost removed hung turned rotated after fitsJournal fitsIndex lined appended freeFrom lowestFree soughtIn fronted grown inserts fits unchained wiped shrunk removes isCleared slotFine slotsFine rule1 rule2 rule3 rule4 rule5 rule6 rule7 sound
+claims =
+    record {
+      empty-find = empty-find;
+      empty-remove = λ ix fit h e hash key.
+          demanded .remove ix hash key .four .1 (fit, (h, demanded .find-sound (ix .live) (fit .tree) h hash key .none .0 (empty-find (ix .live) (fit .tree) h e hash key)));
+      three-tree = refl;
+      three-chain = refl;
+      four-tree = refl;
+      three-left = refl;
+      two-left = refl;
+      twice = refl;
+      brim = refl;
+      brim-again = refl;
+      no-line = λ ix fit h one hash key p x absent lowest.
+          demanded .insert ix hash key p .six .1 (fit, (h, absent, (x, lowest), omega (arith, fit .four, fit .within, one)));
+      at-length = at-length;
+      one-more = λ ix fit h. demanded .rollback ix (lengthOf (ix .lines) + 1) .seven .1 (fit, h, omega arith);
+      both-tree = refl;
+      both-looks = refl;
+    }

@@ -1,0 +1,57 @@
+-- "Small trees, worked": the starred ones, proved from the definitions, in 01's order.
+use mathlib.Core.Path.{_≡_}
+use mathlib.Core.List.{List, [], _∷_}
+use Prim.Native.Nat.{ℕ, _+_, _<_}
+use lib.ListN.{length}
+use Rattle.slots.specs.Answers.{Answer, some, given, nothing, refused}
+use Rattle.shape.specs.Find.{found}
+use Rattle.redblack.specs.Holding.{Has}
+use Rattle.demands.specs.Live.{Live, Fit, rootOf, countOf}
+use Rattle.demands.specs.Sound.{Sound}
+use Rattle.demands.specs.Find.{finds}
+use Rattle.demands.specs.Index.{Index, FitIndex, outcome, lengthOf}
+use Rattle.demands.specs.Insert.{inserts}
+use Rattle.demands.specs.Remove.{removes}
+use Rattle.demands.specs.Rollback.{rolls}
+use Rattle.demands.specs.Calls.{after, Lowest}
+use Rattle.examples.specs.Worked.{empty, add, take, Drawing, none, black, red, drawn, chainOf}
+
+-- 1, 2, 3 and then 4; then without 1.
+abbrev pub three : Index
+three = after (add 1 ∷ (add 2 ∷ (add 3 ∷ []))) (empty 4 8)
+
+abbrev pub four : Index
+four = after (add 4 ∷ []) three
+
+abbrev pub withoutOne : Index
+withoutOne = after (take 1 ∷ []) four
+
+pub record Claims : Type 0 where
+  -- "Empty: find is Nothing; remove is 4": any empty tree, any pair
+  pub empty-find : (t : Live) → Fit t → Sound t → countOf t ≡ 0 → (hash key : ℕ) → finds t hash key ≡ nothing
+  pub empty-remove : (ix : Index) → FitIndex ix → Sound (ix .live) → countOf (ix .live) ≡ 0 → (hash key : ℕ) → removes ix hash key .answer ≡ refused 4
+  -- "Insert 1, 2, 3: root 2 black, 1 and 3 red; chain 3, 2, 1."
+  pub three-tree : drawn (three .live) ≡ black (red none 1 none) 2 (red none 3 none)
+  pub three-chain : chainOf (three .live) ≡ (3 ∷ (2 ∷ (1 ∷ [])))
+  -- "Then 4: 1, 2, 3 black, 4 red under 3."
+  pub four-tree : drawn (four .live) ≡ black (black none 1 none) 2 (black none 3 (red none 4 none))
+  -- "Then remove 1: root 3, children 2 and 4, all black."
+  pub three-left : drawn (withoutOne .live) ≡ black (black none 2 none) 3 (black none 4 none)
+  -- "Insert 1, 2, remove 1: 2 is root and black."
+  pub two-left : drawn (after (add 1 ∷ (add 2 ∷ (take 1 ∷ []))) (empty 4 8) .live) ≡ black none 2 none
+  -- "Insert 1 twice: the second is 3, slot 0."
+  pub twice : inserts (after (add 1 ∷ []) (empty 4 8)) 0 1 11 .answer ≡ record { number = 3; value = some 0 }
+  -- "Capacity 1, holding 1: insert 2 is 5; remove 1, insert 2 takes slot 0."
+  pub brim : inserts (after (add 1 ∷ []) (empty 1 8)) 0 2 20 .answer ≡ refused 5
+  pub brim-again : inserts (after (add 1 ∷ (take 1 ∷ [])) (empty 1 8)) 0 2 20 .answer ≡ given 0
+  -- "Journal capacity 0: any first insert is 6": on any sound tree that has a free slot and not the pair
+  pub no-line : (ix : Index) → FitIndex ix → (h : Sound (ix .live)) → length (ix .lines) ≡ 1 → (hash key p x : ℕ)
+      → (Has (ix .live .names) (h .tree) hash key → ⊥) → Lowest (ix .live) x → inserts ix hash key p .answer ≡ refused 6
+  -- "Mark equal to the length: nothing changes; one more: 7."
+  pub at-length : (ix : Index) → FitIndex ix → Sound (ix .live) → rolls ix (lengthOf (ix .lines)) ≡ outcome (given 0) ix
+  pub one-more : (ix : Index) → FitIndex ix → Sound (ix .live) → rolls ix (lengthOf (ix .lines) + 1) .answer ≡ refused 7
+  -- "Tree 1, 2 (2 right): find 0 looks at both, Nothing."
+  pub both-tree : drawn (after (add 1 ∷ (add 2 ∷ [])) (empty 4 8) .live) ≡ black none 1 (red none 2 none)
+  pub both-looks :
+      let t = after (add 1 ∷ (add 2 ∷ [])) (empty 4 8) .live in
+      found (t .names) (t .cells) (rootOf t) 0 0 ≡ record { answer = nothing; looks = 0 ∷ (1 ∷ []) }
