@@ -1,0 +1,150 @@
+-- What the tests before a call writes come to, on plain values: the answers of lower routines settle the model's tests.
+use mathlib.Core.Path.{_≡_, refl, ap, sym, _∙_}
+use mathlib.Core.Logic.{_⊎_, inl, inr}
+use mathlib.Core.Bool.{Bool, true, false}
+use mathlib.Core.List.{List, [], _∷_}
+use Prim.Native.Nat.{ℕ, zero, suc, _≤_, _<_}
+use native.Mathlib.Omega.{arith}
+use lib.ListN.{length}
+use lib.Dec.{eqb}
+use types.Run.{OneOf}
+use denote.Enum.Declared.{tagOf}
+use Rattle.slots.specs.Words.{null, pick}
+use Rattle.slots.specs.Answers.{Answer, Value, some, none, given, refused}
+use Rattle.shape.specs.Find.{found}
+use Rattle.shape.specs.Chain.{tally}
+use Rattle.demands.specs.Live.{Live, Fit, rootOf, countOf, capacityOf, fits}
+use Rattle.demands.specs.Sound.{Sound, used, sound, sounds}
+use Rattle.demands.specs.Index.{Index, FitIndex, Outcome, outcome, fitsIndex, fitsJournal, lengthOf}
+use Rattle.demands.specs.Insert.{soughtIn}
+use Rattle.demands.proofs.Fit.{both}
+use Rattle.demands.proofs.Journal.{fits-index}
+use Rattle.demands.proofs.Sounding.{yes-sound}
+use Rattle.live.specs.Answers.{soundOf}
+use Rattle.live.specs.declared.sound.Soundness.{Soundness}
+use Rattle.live.specs.declared.sound.Soundness.the-variants.{Yes, No, Unfit}
+use Rattle.live.proofs.sound.Soundness.{the-type as soundness}
+use Rattle.live.proofs.Slots.{used-one}
+use Rattle.tree.specs.Find.{answerOf}
+use Rattle.tree.specs.declared.find.Found.{Found}
+use Rattle.tree.specs.declared.find.Found.the-variants.{At, Nothing, Lost}
+use Rattle.tree.proofs.find.Found.{the-type as searched}
+
+pub number : {a b : Answer} → a ≡ b → a .number ≡ b .number
+number e = ap (λ (a : Answer). a .number) e
+
+value : {a b : Answer} → a ≡ b → a .value ≡ b .value
+value e = ap (λ (a : Answer). a .value) e
+
+some-is : {a b : ℕ} → some a ≡ some b → a ≡ b
+some-is e = cc
+
+pub given-is : {a b : ℕ} → given a ≡ given b → a ≡ b
+given-is e = some-is (value e)
+
+-- The two tests of fitness, as code asks them.
+module _ (ix : Index) {b : Bool} (e : b ≡ fits (ix .live)) where
+  pub unfit-tree : b ≡ false → false ≡ fitsIndex ix
+  unfolding fitsIndex
+  unfit-tree f = rw (← e, f)
+
+  pub fit-tree : b ≡ true → {j : Bool} → j ≡ fitsJournal (ix .lines) → j ≡ fitsIndex ix
+  unfolding fitsIndex
+  fit-tree f g = rw (← e, f) g
+
+pub tree-fits : (ix : Index) → fitsIndex ix ≡ true → fits (ix .live) ≡ true
+unfolding fitsIndex
+tree-fits ix e = both (fits (ix .live)) _ e .0
+
+-- The full check says yes, or another thing.
+abbrev yesOf : Soundness → Bool
+yesOf Yes = true
+yesOf No = false
+yesOf Unfit = false
+
+verdict : (r : Soundness) (b : Bool) → soundOf r ≡ pick b (given 1) (given 0) → b ≡ yesOf r
+verdict Yes true e = refl
+verdict Yes false e = absurd (omega (arith, given-is e))
+verdict No true e = absurd (omega (arith, given-is e))
+verdict No false e = refl
+verdict Unfit true e = absurd (omega (arith, number e))
+verdict Unfit false e = absurd (omega (arith, number e))
+
+module _ (t : Live) (f : fits t ≡ true) (r : Soundness) (e : soundOf r ≡ sounds t) where
+  judged : sound t ≡ yesOf r
+  unfolding sounds
+  judged = verdict r (sound t) (rw f at e)
+
+  pub is-sound : r ≡ Yes → sound t ≡ true
+  is-sound y = judged ∙ ap yesOf y
+
+  pub not-sound : OneOf (1 ∷ 2 ∷ []) (tagOf soundness r) → sound t ≡ false
+  not-sound k = judged ∙ go r k
+    where
+      go : (r : Soundness) → OneOf (1 ∷ 2 ∷ []) (tagOf soundness r) → yesOf r ≡ false
+      go Yes (inl z) = absurd (omega arith)
+      go Yes (inr z) = absurd (omega arith)
+      go No z = refl
+      go Unfit z = refl
+
+-- The search names a slot, or it does not.
+module _ (t : Live) (hash key : ℕ) {root : ℕ} (e : root ≡ rootOf t) (r : Found) (s : answerOf r ≡ found (t .names) (t .cells) root hash key .answer) where
+  sought : soughtIn t hash key ≡ answerOf r .value
+  unfolding soughtIn
+  sought = let z : found (t .names) (t .cells) (rootOf t) hash key .answer .value ≡ answerOf r .value = rw (← e) (sym (value s)) in z
+
+  pub sought-at : {slot : ℕ} → r ≡ At slot → soughtIn t hash key ≡ some slot
+  sought-at y = sought ∙ ap (λ (q : Found). answerOf q .value) y
+
+  pub sought-not : OneOf (1 ∷ 2 ∷ []) (tagOf searched r) → soughtIn t hash key ≡ none
+  sought-not k = sought ∙ go r k
+    where
+      go : (r : Found) → OneOf (1 ∷ 2 ∷ []) (tagOf searched r) → answerOf r .value ≡ none
+      go (At slot) (inl z) = absurd (omega arith)
+      go (At slot) (inr z) = absurd (omega arith)
+      go Nothing z = refl
+      go Lost z = refl
+
+-- A sound tree counts no more slots than it has.
+tally-most : (n : ℕ) (f : ℕ → ℕ) → ((k : ℕ) → f k ≤ 1) → tally n f ≤ n
+unfolding tally
+tally-most zero f h = omega arith
+tally-most (suc n) f h = omega (arith, h n, tally-most n f h)
+
+pub count-most : {t : Live} → Fit t → Sound t → countOf t ≤ 4096
+count-most {t} f h =
+    omega (arith, f .most, f .two, h .t1 .count, tally-most (capacityOf t) (used (t .cells)) (used-one (t .cells)))
+
+-- The case that a driver's tests come to: a refusal, which writes nothing, or a slot and what the call leaves.
+module _ (ix : Index) (u : ℕ → Index) (o : Outcome) where
+  pub data Settled : Type 0 where
+    refuses : (n : ℕ) (v : Value) → o ≡ outcome (record { number = suc n; value = v }) ix → Settled
+    accepts : (x : ℕ) → fitsIndex ix ≡ true → sound (ix .live) ≡ true → o ≡ outcome (given x) (u x) → Settled
+
+  answered : {q : Outcome} → o ≡ q → o .answer ≡ q .answer
+  answered e = ap (λ (q : Outcome). q .answer) e
+
+  pub kept : Settled → (a : Answer) → (a .number ≡ 0 → ⊥) → a ≡ o .answer → outcome a ix ≡ o
+  kept (refuses n v e) a m q = rw (q ∙ answered e) (sym e)
+  kept (accepts x f s e) a m q = absurd (m (number (q ∙ answered e)))
+
+  pub record Done (x : ℕ) : Type 0 where
+    pub fit : FitIndex ix
+    pub sound : Sound (ix .live)
+    pub left : outcome (given x) (u x) ≡ o
+
+  pub done : Settled → (x : ℕ) → given x ≡ o .answer → Done x
+  done (refuses n v e) x q = absurd (omega (arith, number (q ∙ answered e)))
+  done (accepts y f s e) x q =
+      let h = fits-index ix f in
+      record { fit = h; sound = yes-sound (h .tree) s; left = rw (given-is (q ∙ answered e)) (sym e) }
+
+module _ {ix : Index} {u : ℕ → Index} {o : Outcome} {x : ℕ} (d : Done ix u o x) where
+  pub names-most : length (ix .live .names) ≤ 8192
+  names-most = omega (arith, d .fit .tree .most, d .fit .tree .two)
+
+  pub count-below : countOf (ix .live) < null
+  count-below = omega (arith, count-most (d .fit .tree) (d .sound))
+
+  pub lines-most : lengthOf (ix .lines) ≤ 1024
+  lines-most = omega (arith, d .fit .most, d .fit .within)

@@ -1,0 +1,91 @@
+-- insert as its tests settle it: each law takes what the tests gave, in the order of the code.
+use mathlib.Core.Path.{_≡_, refl, ap, sym, _∙_}
+use mathlib.Core.Logic.{_⊎_, inl, inr}
+use mathlib.Core.Bool.{Bool, true, false}
+use mathlib.Core.List.{List, [], _∷_}
+use Prim.Native.Nat.{ℕ}
+use native.Mathlib.Omega.{arith}
+use lib.Dec.{eqb}
+use types.Run.{OneOf}
+use denote.Enum.Declared.{tagOf}
+use Rattle.slots.specs.Words.{null}
+use Rattle.slots.specs.Answers.{Answer, Value, some, none, given, refused}
+use Rattle.demands.specs.Live.{Live, capacityOf}
+use Rattle.demands.specs.Sound.{sound}
+use Rattle.demands.specs.Index.{Index, index, Outcome, outcome, fitsIndex, lengthOf, linesOf, appended}
+use Rattle.demands.specs.Insert.{freeFrom, lowestFree, soughtIn, grown, inserts}
+use Rattle.drivers.specs.Answers.{slotOf}
+use Rattle.index.specs.Answers.{insertedOf}
+use Rattle.index.specs.declared.insert.Inserted.{Inserted}
+use Rattle.index.specs.declared.insert.Inserted.the-variants.{At, Unfit, Damaged, Present, Full, JournalFull}
+use Rattle.index.proofs.insert.Inserted.{the-type}
+use Rattle.index.proofs.Asking.{Settled, refuses, accepts}
+use Rattle.drivers.proofs.Slots.{slot-some, slot-none}
+
+module _ (ix : Index) (hash key : ℕ) where
+  abbrev t : Live
+  t = ix .live
+
+  pub unfit : fitsIndex ix ≡ false → (p : ℕ) → refused 1 ≡ inserts ix hash key p .answer
+  unfolding inserts
+  unfit e p = rw e
+
+  module _ (e : fitsIndex ix ≡ true) where
+    pub damaged : sound t ≡ false → (p : ℕ) → refused 2 ≡ inserts ix hash key p .answer
+    unfolding inserts
+    damaged f p = rw (e, f)
+
+    module _ (f : sound t ≡ true) where
+      pub present : {slot : ℕ} → soughtIn t hash key ≡ some slot → (p : ℕ) → record { number = 3; value = some slot } ≡ inserts ix hash key p .answer
+      unfolding inserts
+      present s p = rw (e, f, s)
+
+      module _ (s : soughtIn t hash key ≡ none) where
+        pub full : none ≡ slotOf (freeFrom (capacityOf t) (t .cells) 0) → (p : ℕ) → refused 5 ≡ inserts ix hash key p .answer
+        unfolding inserts lowestFree
+        full v p = rw (e, f, s, slot-none _ v)
+
+        module _ {x : ℕ} (v : some x ≡ slotOf (freeFrom (capacityOf t) (t .cells) 0)) where
+          pub journal-full : eqb (lengthOf (ix .lines)) (linesOf (ix .lines)) ≡ true → (p : ℕ) → refused 6 ≡ inserts ix hash key p .answer
+          unfolding inserts lowestFree
+          journal-full l p = rw (e, f, s, slot-some _ _ v .0, l)
+
+          pub taken : eqb (lengthOf (ix .lines)) (linesOf (ix .lines)) ≡ false → (p : ℕ) → given x ≡ inserts ix hash key p .answer
+          unfolding inserts lowestFree
+          taken l p = let w = slot-some (freeFrom (capacityOf t) (t .cells) 0) x v in rw (e, f, s, w .0, l, w .1)
+
+  module _ (p : ℕ) where
+    -- What an accepted insert leaves.
+    abbrev pub after : ℕ → Index
+    after x = index (grown t x hash key p) (appended (ix .lines) 1 hash key p)
+
+    pub settled : Settled ix after (inserts ix hash key p)
+    unfolding inserts
+    settled =
+        go (fitsIndex ix) refl (sound t) refl (soughtIn t hash key) refl (eqb (lowestFree t) null) refl (eqb (lengthOf (ix .lines)) (linesOf (ix .lines))) refl
+      where
+        go : (a : Bool) → fitsIndex ix ≡ a → (b : Bool) → sound t ≡ b → (v : Value) → soughtIn t hash key ≡ v
+            → (d : Bool) → eqb (lowestFree t) null ≡ d → (l : Bool) → eqb (lengthOf (ix .lines)) (linesOf (ix .lines)) ≡ l
+            → Settled ix after (inserts ix hash key p)
+        go false e b f v s d q l r = refuses 0 none (rw e)
+        go true e false f v s d q l r = refuses 1 none (rw (e, f))
+        go true e true f (some x) s d q l r = refuses 2 (some x) (rw (e, f, s))
+        go true e true f none s true q l r = refuses 4 none (rw (e, f, s, q))
+        go true e true f none s false q true r = refuses 5 none (rw (e, f, s, q, r))
+        go true e true f none s false q false r = accepts (lowestFree t) e f (rw (e, f, s, q, r))
+
+    pub joined : {x : ℕ} {u : Live} {l : List ℕ} → u ≡ grown t x hash key p → l ≡ appended (ix .lines) 1 hash key p
+        → outcome (given x) (after x) ≡ inserts ix hash key p → outcome (given x) (index u l) ≡ inserts ix hash key p
+    joined e1 e2 e = rw (e1, e2) e
+
+pub not-at : (r : Inserted) → OneOf (1 ∷ 2 ∷ 3 ∷ 4 ∷ 5 ∷ []) (tagOf the-type r) → insertedOf r .number ≡ 0 → ⊥
+not-at (At slot) (inl z) e = omega arith
+not-at (At slot) (inr (inl z)) e = omega arith
+not-at (At slot) (inr (inr (inl z))) e = omega arith
+not-at (At slot) (inr (inr (inr (inl z)))) e = omega arith
+not-at (At slot) (inr (inr (inr (inr z)))) e = omega arith
+not-at Unfit k e = omega arith
+not-at Damaged k e = omega arith
+not-at (Present slot) k e = omega arith
+not-at Full k e = omega arith
+not-at JournalFull k e = omega arith

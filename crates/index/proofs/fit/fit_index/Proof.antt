@@ -1,0 +1,26 @@
+-- The tree's test comes first, then the journal's.
+use borrow.Author.Tests.{not-true, not-false}
+use Rattle.index.proofs.Asking.{unfit-tree, fit-tree}
+use borrow.Author.Needs.{needs}
+use Rattle.index.proofs.fit.fit_index.Statement.{statement}
+use Rattle.index.proofs.fit.fit_index.Tie as tie
+
+fit-requires : tie.Need-fit-requires
+fit-requires c κs = search needs
+
+returns : tie.Need-returns
+returns c =
+    let c1 = c .before in
+    unfit-tree _ (c1 .fit .ensures) (not-true (c1 .fit .result) (c .if1 .taken))
+
+fit-journal-requires : tie.Need-fit-journal-requires
+fit-journal-requires c κs = search needs
+
+returns-2 : tie.Need-returns-2
+returns-2 c =
+    let c1 = c .before in
+    let c2 = c1 .before in
+    fit-tree _ (c2 .fit .ensures) (not-false (c2 .fit .result) (c1 .if1 .left)) (c .fit-journal .ensures)
+
+pub fit-index-spec : {M : Type 1} → statement M
+fit-index-spec = tie.close (tie.spec fit-requires returns fit-journal-requires returns-2)

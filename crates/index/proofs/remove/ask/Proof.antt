@@ -1,0 +1,104 @@
+-- The tests in 01's order settle the model's, and the answer is the one that they come to.
+use mathlib.Core.Path.{sym, _∙_}
+use borrow.Author.Tests.{not-true, not-false}
+use Rattle.index.proofs.Asking.{tree-fits, is-sound, not-sound, sought-at, sought-not}
+use Rattle.index.proofs.Removing.{unfit, damaged, absent, journal-full, freed}
+use borrow.Author.Needs.{needs}
+use Rattle.index.proofs.remove.ask.Statement.{statement}
+use Rattle.index.proofs.remove.ask.Tie as tie
+
+fit-index-requires : tie.Need-fit-index-requires
+fit-index-requires c κs = search needs
+
+returns : tie.Need-returns
+returns c =
+    let c1 = c .before in
+    unfit _ _ _ (sym (c1 .fit-index .ensures) ∙ not-true (c1 .fit-index .result) (c .if1 .taken))
+
+sound-requires : tie.Need-sound-requires
+sound-requires c κs = search needs
+
+enum-told : tie.Need-enum-told
+enum-told c = search needs
+
+returns-2 : tie.Need-returns-2
+returns-2 c =
+    let c1 = c .before in
+    let c2 = c1 .before in
+    let c3 = c2 .before in
+    let f = sym (c3 .fit-index .ensures) ∙ not-false (c3 .fit-index .result) (c2 .if1 .left) in
+    damaged _ _ _ f (not-sound _ (tree-fits _ f) (c1 .sound .result) (c1 .sound .ensures) (c .match .keys2))
+
+word-requires : tie.Need-word-requires
+word-requires c κs = search needs
+
+find-tree-node-requires : tie.Need-find-tree-node-requires
+find-tree-node-requires c κs = search needs
+
+enum-known-found : tie.Need-enum-known-found
+enum-known-found c = search needs
+
+returns-3 : tie.Need-returns-3
+returns-3 c =
+    let c1 = c .before in
+    let c2 = c1 .before in
+    let c3 = c2 .before in
+    let c5 = c3 .before .before in
+    let c6 = c5 .before in
+    let c7 = c6 .before in
+    let f = sym (c7 .fit-index .ensures) ∙ not-false (c7 .fit-index .result) (c6 .if1 .left) in
+    absent _ _ _ f
+    (is-sound _ (tree-fits _ f) (c5 .sound .result) (c5 .sound .ensures) (c3 .enum-told .given .1))
+    (sought-not _ _ _ (c2 .word .ensures) (c1 .find-tree-node .result) (c1 .find-tree-node .ensures) (c .match2 .keys2))
+
+is-full-requires : tie.Need-is-full-requires
+is-full-requires c κs = search needs
+
+returns-4 : tie.Need-returns-4
+returns-4 c =
+    let c1 = c .before in
+    let c3 = c1 .before .before in
+    let c5 = c3 .before .before in
+    let c6 = c5 .before in
+    let c7 = c6 .before in
+    let c9 = c7 .before .before in
+    let c10 = c9 .before in
+    let c11 = c10 .before in
+    let f = sym (c11 .fit-index .ensures) ∙ not-false (c11 .fit-index .result) (c10 .if1 .left) in
+    journal-full _ _ _ f
+    (is-sound _ (tree-fits _ f) (c9 .sound .result) (c9 .sound .ensures) (c7 .enum-told .given .1))
+    (sought-at _ _ _ (c6 .word .ensures) (c5 .find-tree-node .result) (c5 .find-tree-node .ensures) (c3 .found .given .1))
+    (sym (c1 .is-full .ensures) ∙ c .if2 .taken)
+
+returns-5 : tie.Need-returns-5
+returns-5 c =
+    let c1 = c .before in
+    let c3 = c1 .before .before in
+    let c5 = c3 .before .before in
+    let c6 = c5 .before in
+    let c7 = c6 .before in
+    let c9 = c7 .before .before in
+    let c10 = c9 .before in
+    let c11 = c10 .before in
+    let f = sym (c11 .fit-index .ensures) ∙ not-false (c11 .fit-index .result) (c10 .if1 .left) in
+    freed _ _ _ f
+    (is-sound _ (tree-fits _ f) (c9 .sound .result) (c9 .sound .ensures) (c7 .enum-told .given .1))
+    (sought-at _ _ _ (c6 .word .ensures) (c5 .find-tree-node .result) (c5 .find-tree-node .ensures) (c3 .found .given .1))
+    (sym (c1 .is-full .ensures) ∙ c .if2 .left)
+
+pub ask-spec : {M : Type 1} → statement M
+ask-spec =
+    tie.close
+    (tie.spec
+    fit-index-requires
+    returns
+    sound-requires
+    enum-told
+    returns-2
+    word-requires
+    find-tree-node-requires
+    enum-known-found
+    returns-3
+    is-full-requires
+    returns-4
+    returns-5)
