@@ -9,7 +9,7 @@ use lib.ListN.{length, set}
 use lib.Dec.{eqb}
 use borrow.Author.Tests.{eq-eqb, ne-eqb, le-leb, lt-leb}
 use Rattle.slots.specs.Words.{null, pick, place, state, prev, next, free, cell, write, rename, hashPart, keyPart}
-use Rattle.slots.specs.Answers.{Value, some, none}
+use Rattle.slots.specs.Answers.{some, none}
 use Rattle.redblack.specs.Links.{Links}
 use Rattle.redblack.specs.Hanging.{inserted, placed}
 use Rattle.demands.specs.Live.{Live, rootOf, firstOf, countOf, capacityOf}

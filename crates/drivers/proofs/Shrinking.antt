@@ -1,5 +1,5 @@
 -- What the steps of a removal come to, on plain values: each law takes the equations that the calls give, in the order of the code.
-use mathlib.Core.Path.{_≡_, refl}
+use mathlib.Core.Path.{_≡_}
 use mathlib.Core.List.{List}
 use Prim.Native.Nat.{ℕ, _-_, _<_, _≤_}
 use lib.ListN.{length}
@@ -10,7 +10,7 @@ use Rattle.redblack.specs.Links.{Links}
 use Rattle.redblack.specs.Removal.{removed}
 use Rattle.demands.specs.Live.{Live, rootOf, firstOf, countOf, capacityOf}
 use Rattle.demands.specs.Insert.{headed}
-use Rattle.demands.specs.Remove.{unchained, newFirst, wiped, shrunk}
+use Rattle.demands.specs.Remove.{unchained, wiped, shrunk}
 use Rattle.drivers.specs.Answers.{shrunkIf}
 use Rattle.drivers.proofs.Growing.{links}
 

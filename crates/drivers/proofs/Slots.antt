@@ -8,7 +8,7 @@ use lib.ListN.{length}
 use lib.Dec.{eqb}
 use borrow.Author.Tests.{le-leb, ne-eqb}
 use Rattle.slots.specs.Words.{null, pick}
-use Rattle.slots.specs.Answers.{Value, some, none}
+use Rattle.slots.specs.Answers.{some, none}
 use Rattle.demands.specs.Live.{Live, countOf}
 use Rattle.demands.specs.Index.{lengthOf, appended}
 use Rattle.demands.specs.Insert.{grown}

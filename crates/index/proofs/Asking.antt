@@ -1,16 +1,15 @@
 -- What the tests before a call writes come to, on plain values: the answers of lower routines settle the model's tests.
 use mathlib.Core.Path.{_≡_, refl, ap, sym, _∙_}
-use mathlib.Core.Logic.{_⊎_, inl, inr}
+use mathlib.Core.Logic.{inl, inr}
 use mathlib.Core.Bool.{Bool, true, false}
-use mathlib.Core.List.{List, [], _∷_}
+use mathlib.Core.List.{[], _∷_}
 use Prim.Native.Nat.{ℕ, zero, suc, _≤_, _<_}
 use native.Mathlib.Omega.{arith}
 use lib.ListN.{length}
-use lib.Dec.{eqb}
 use types.Run.{OneOf}
 use denote.Enum.Declared.{tagOf}
 use Rattle.slots.specs.Words.{null, pick}
-use Rattle.slots.specs.Answers.{Answer, Value, some, none, given, refused}
+use Rattle.slots.specs.Answers.{Answer, Value, some, none, given}
 use Rattle.shape.specs.Find.{found}
 use Rattle.shape.specs.Chain.{tally}
 use Rattle.demands.specs.Live.{Live, Fit, rootOf, countOf, capacityOf, fits}

@@ -1,6 +1,6 @@
 -- insert as its tests settle it: each law takes what the tests gave, in the order of the code.
-use mathlib.Core.Path.{_≡_, refl, ap, sym, _∙_}
-use mathlib.Core.Logic.{_⊎_, inl, inr}
+use mathlib.Core.Path.{_≡_, refl}
+use mathlib.Core.Logic.{inl, inr}
 use mathlib.Core.Bool.{Bool, true, false}
 use mathlib.Core.List.{List, [], _∷_}
 use Prim.Native.Nat.{ℕ}
@@ -9,10 +9,10 @@ use lib.Dec.{eqb}
 use types.Run.{OneOf}
 use denote.Enum.Declared.{tagOf}
 use Rattle.slots.specs.Words.{null}
-use Rattle.slots.specs.Answers.{Answer, Value, some, none, given, refused}
+use Rattle.slots.specs.Answers.{Value, some, none, given, refused}
 use Rattle.demands.specs.Live.{Live, capacityOf}
 use Rattle.demands.specs.Sound.{sound}
-use Rattle.demands.specs.Index.{Index, index, Outcome, outcome, fitsIndex, lengthOf, linesOf, appended}
+use Rattle.demands.specs.Index.{Index, index, outcome, fitsIndex, lengthOf, linesOf, appended}
 use Rattle.demands.specs.Insert.{freeFrom, lowestFree, soughtIn, grown, inserts}
 use Rattle.drivers.specs.Answers.{slotOf}
 use Rattle.index.specs.Answers.{insertedOf}

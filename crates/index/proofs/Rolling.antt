@@ -1,6 +1,6 @@
 -- rollback as its tests settle it: each law takes what the tests gave, in the order of the code.
-use mathlib.Core.Path.{_≡_, refl, ap, sym, _∙_}
-use mathlib.Core.Logic.{_⊎_, inl, inr}
+use mathlib.Core.Path.{_≡_, refl, sym, _∙_}
+use mathlib.Core.Logic.{inl, inr}
 use mathlib.Core.Bool.{Bool, true, false}
 use mathlib.Core.List.{List, [], _∷_}
 use Prim.Native.Nat.{ℕ, suc, _+_, _-_, _<_, _≤_}
@@ -11,11 +11,11 @@ use borrow.Author.Tests.{lt-ltb, le-ltb, ltb-false}
 use types.Run.{OneOf}
 use denote.Enum.Declared.{tagOf}
 use Rattle.slots.specs.Words.{null}
-use Rattle.slots.specs.Answers.{Answer, Value, none, given, refused}
+use Rattle.slots.specs.Answers.{Answer, given, refused}
 use Rattle.demands.specs.Live.{Live, countOf}
 use Rattle.demands.specs.Sound.{sound}
-use Rattle.demands.specs.Index.{Index, index, FitIndex, Outcome, outcome, fitsIndex, lengthOf}
-use Rattle.demands.specs.Rollback.{Undo, stays, misfit, unrolled, blanked, rolls}
+use Rattle.demands.specs.Index.{Index, index, FitIndex, outcome, fitsIndex, lengthOf}
+use Rattle.demands.specs.Rollback.{stays, misfit, unrolled, blanked, rolls}
 use Rattle.demands.proofs.Journal.{fits-index}
 use Rattle.demands.proofs.Sounding.{yes-sound}
 use Rattle.index.specs.Answers.{opened, rolledOf}

@@ -1,0 +1,68 @@
+-- The loop's invariant: no call past the last is done, and there are as many words as at first.
+use mathlib.Core.Path.{_≡_}
+use Prim.Native.Nat.{_≤_, _-_}
+use borrow.Author.Needs.{needs}
+use lib.ListN.{length}
+use Rattle.drill.proofs.record.Statement.{statement}
+use Rattle.drill.proofs.record.Tie as tie
+
+abbrev Inv-loop : tie.InvT-loop
+Inv-loop names₀ cells₀ head₀ lines₀ answers₀ k₀ names cells head lines answers k = (k ≤ 200) × (length names ≡ length names₀) × (length cells ≡ length cells₀) × (length head ≡ length head₀) × (length lines ≡ length lines₀) × (length answers ≡ length answers₀)
+
+abbrev μ-loop : tie.MeasureT-loop
+μ-loop names₀ cells₀ head₀ lines₀ answers₀ k₀ names cells head lines answers k = 200 - k
+
+loop-holds : tie.Need-loop-holds Inv-loop μ-loop
+loop-holds c = search needs
+
+call-requires : tie.Need-call-requires Inv-loop μ-loop
+call-requires c κs = search needs
+
+put-name-requires : tie.Need-put-name-requires Inv-loop μ-loop
+put-name-requires c κs = search needs
+
+add-k : tie.Need-add-k Inv-loop μ-loop
+add-k c = search needs
+
+loop-less : tie.Need-loop-less Inv-loop μ-loop
+loop-less c = search needs
+
+loop-again : tie.Need-loop-again Inv-loop μ-loop
+loop-again c = search needs
+
+same-length : tie.Need-same-length Inv-loop μ-loop
+same-length c = search needs
+
+same-length-2 : tie.Need-same-length-2 Inv-loop μ-loop
+same-length-2 c = search needs
+
+same-length-3 : tie.Need-same-length-3 Inv-loop μ-loop
+same-length-3 c = search needs
+
+same-length-4 : tie.Need-same-length-4 Inv-loop μ-loop
+same-length-4 c = search needs
+
+same-length-5 : tie.Need-same-length-5 Inv-loop μ-loop
+same-length-5 c = search needs
+
+returns : tie.Need-returns Inv-loop μ-loop
+returns c = search needs
+
+pub record-spec : {M : Type 1} → statement M
+record-spec =
+    tie.close
+    (tie.spec
+    Inv-loop
+    μ-loop
+    loop-holds
+    call-requires
+    put-name-requires
+    add-k
+    loop-less
+    loop-again
+    same-length
+    same-length-2
+    same-length-3
+    same-length-4
+    same-length-5
+    returns)
