@@ -42,18 +42,18 @@ fn ask(names: &[u64], cells: &[u32], head: &[u32], lines: &[u64], hash: u64, key
     };
     let root = word(head, ROOT);
     let found = find_tree_node(names, cells, root, hash, key);
-    if let Found::At(slot) = found {
-        return Inserted::Present(slot);
-    }
-    let free = lowest_free(cells, (names.len() / 2) as u32);
-    let Free::At(x) = free else {
-        return Inserted::Full;
+    let Found::At(slot) = found else {
+        let free = lowest_free(cells, (names.len() / 2) as u32);
+        let Free::At(x) = free else {
+            return Inserted::Full;
+        };
+        let full = is_full(lines);
+        if full {
+            return Inserted::JournalFull;
+        }
+        return Inserted::At(x);
     };
-    let full = is_full(lines);
-    if full {
-        return Inserted::JournalFull;
-    }
-    Inserted::At(x)
+    Inserted::Present(slot)
 }
 
 // A refusal writes nothing.

@@ -65,18 +65,18 @@ fn put_back(
 {
     let root = word(head, ROOT);
     let found = find_tree_node(names, cells, root, hash, key);
-    if let Found::At(_) = found {
-        return false;
-    }
-    let free = lowest_free(cells, (names.len() / 2) as u32);
-    let Free::At(x) = free else {
-        return false;
+    let Found::At(_) = found else {
+        let free = lowest_free(cells, (names.len() / 2) as u32);
+        let Free::At(x) = free else {
+            return false;
+        };
+        if 4294967296 <= place {
+            return false;
+        }
+        grow(names, cells, head, x, hash, key, place as u32);
+        return true;
     };
-    if 4294967296 <= place {
-        return false;
-    }
-    grow(names, cells, head, x, hash, key, place as u32);
-    true
+    false
 }
 
 // Line k is undone. False where it does not fit; the slices are then left anyhow.

@@ -41,20 +41,6 @@ find-tree-node-requires c κs = search needs
 enum-known-found : tie.Need-enum-known-found
 enum-known-found c = search needs
 
-returns-3 : tie.Need-returns-3
-returns-3 c =
-    let c1 = c .before in
-    let c3 = c1 .before .before in
-    let c4 = c3 .before in
-    let c5 = c4 .before in
-    let c7 = c5 .before .before in
-    let c8 = c7 .before in
-    let c9 = c8 .before in
-    let f = sym (c9 .fit-index .ensures) ∙ not-false (c9 .fit-index .result) (c8 .if1 .left) in
-    present _ _ _ f
-    (is-sound _ (tree-fits _ f) (c7 .sound .result) (c7 .sound .ensures) (c5 .enum-told .given .1))
-    (sought-at _ _ _ (c4 .word .ensures) (c3 .find-tree-node .result) (c3 .find-tree-node .ensures) (c1 .found .given .1))
-
 cast-lowest-free : tie.Need-cast-lowest-free
 cast-lowest-free c =
     let c1 = c .before in
@@ -72,8 +58,8 @@ enum-known-free c = search needs
 enum-told-2 : tie.Need-enum-told-2
 enum-told-2 c = search needs
 
-returns-4 : tie.Need-returns-4
-returns-4 c =
+returns-3 : tie.Need-returns-3
+returns-3 c =
     let c2 = c .before .before in
     let c3 = c2 .before in
     let c4 = c3 .before in
@@ -91,8 +77,8 @@ returns-4 c =
 is-full-requires : tie.Need-is-full-requires
 is-full-requires c κs = search needs
 
-returns-5 : tie.Need-returns-5
-returns-5 c =
+returns-4 : tie.Need-returns-4
+returns-4 c =
     let c1 = c .before in
     let c3 = c1 .before .before in
     let c5 = c3 .before .before in
@@ -110,8 +96,8 @@ returns-5 c =
     (ap freeOf (sym (c3 .free .given .1)) ∙ c5 .lowest-free .ensures)
     (sym (c1 .is-full .ensures) ∙ c .if2 .taken)
 
-returns-6 : tie.Need-returns-6
-returns-6 c =
+returns-5 : tie.Need-returns-5
+returns-5 c =
     let c1 = c .before in
     let c3 = c1 .before .before in
     let c5 = c3 .before .before in
@@ -129,6 +115,20 @@ returns-6 c =
     (ap freeOf (sym (c3 .free .given .1)) ∙ c5 .lowest-free .ensures)
     (sym (c1 .is-full .ensures) ∙ c .if2 .left)
 
+returns-6 : tie.Need-returns-6
+returns-6 c =
+    let c1 = c .before in
+    let c3 = c1 .before .before in
+    let c4 = c3 .before in
+    let c5 = c4 .before in
+    let c7 = c5 .before .before in
+    let c8 = c7 .before in
+    let c9 = c8 .before in
+    let f = sym (c9 .fit-index .ensures) ∙ not-false (c9 .fit-index .result) (c8 .if1 .left) in
+    present _ _ _ f
+    (is-sound _ (tree-fits _ f) (c7 .sound .result) (c7 .sound .ensures) (c5 .enum-told .given .1))
+    (sought-at _ _ _ (c4 .word .ensures) (c3 .find-tree-node .result) (c3 .find-tree-node .ensures) (c1 .found .given .1))
+
 pub ask-spec : {M : Type 1} → statement M
 ask-spec =
     tie.close
@@ -141,12 +141,12 @@ ask-spec =
     word-requires
     find-tree-node-requires
     enum-known-found
-    returns-3
     cast-lowest-free
     lowest-free-requires
     enum-known-free
     enum-told-2
-    returns-4
+    returns-3
     is-full-requires
+    returns-4
     returns-5
     returns-6)

@@ -17,21 +17,6 @@ find-tree-node-requires c κs = search needs
 enum-told : tie.Need-enum-told
 enum-told c = search needs
 
-same-length : tie.Need-same-length
-same-length c = search needs
-
-same-length-2 : tie.Need-same-length-2
-same-length-2 c = search needs
-
-same-length-3 : tie.Need-same-length-3
-same-length-3 c = search needs
-
-returns : tie.Need-returns
-returns c =
-    let c2 = c .before .before in
-    let c3 = c2 .before .before .before in
-    put-there _ _ _ _ (sought-at _ _ _ (c3 .word .ensures) (c2 .find-tree-node .result) (c2 .find-tree-node .ensures) (c .enum-told .given .1))
-
 cast-lowest-free : tie.Need-cast-lowest-free
 cast-lowest-free c = search needs
 
@@ -44,6 +29,25 @@ enum-known-free c = search needs
 enum-told-2 : tie.Need-enum-told-2
 enum-told-2 c = search needs
 
+same-length : tie.Need-same-length
+same-length c = search needs
+
+same-length-2 : tie.Need-same-length-2
+same-length-2 c = search needs
+
+same-length-3 : tie.Need-same-length-3
+same-length-3 c = search needs
+
+returns : tie.Need-returns
+returns c =
+    let c2 = c .before .before in
+    let c3 = c2 .before .before in
+    let c4 = c3 .before in
+    let c5 = c4 .before .before .before in
+    put-full _ _ _ _
+    (sought-not _ _ _ (c5 .word .ensures) (c4 .find-tree-node .result) (c4 .find-tree-node .ensures) (c3 .match .keys2))
+    (ap freeOf (sym (c .enum-told2 .given .1)) ∙ c2 .lowest-free .ensures)
+
 same-length-4 : tie.Need-same-length-4
 same-length-4 c = search needs
 
@@ -55,25 +59,6 @@ same-length-6 c = search needs
 
 returns-2 : tie.Need-returns-2
 returns-2 c =
-    let c2 = c .before .before in
-    let c3 = c2 .before .before in
-    let c4 = c3 .before in
-    let c5 = c4 .before .before .before in
-    put-full _ _ _ _
-    (sought-not _ _ _ (c5 .word .ensures) (c4 .find-tree-node .result) (c4 .find-tree-node .ensures) (c3 .match .keys2))
-    (ap freeOf (sym (c .enum-told2 .given .1)) ∙ c2 .lowest-free .ensures)
-
-same-length-7 : tie.Need-same-length-7
-same-length-7 c = search needs
-
-same-length-8 : tie.Need-same-length-8
-same-length-8 c = search needs
-
-same-length-9 : tie.Need-same-length-9
-same-length-9 c = search needs
-
-returns-3 : tie.Need-returns-3
-returns-3 c =
     let c2 = c .before .before in
     let c4 = c2 .before .before in
     let c5 = c4 .before .before in
@@ -90,17 +75,17 @@ cast-grow c = search needs
 grow-requires : tie.Need-grow-requires
 grow-requires c κs = search needs
 
-same-length-10 : tie.Need-same-length-10
-same-length-10 c = search needs
+same-length-7 : tie.Need-same-length-7
+same-length-7 c = search needs
 
-same-length-11 : tie.Need-same-length-11
-same-length-11 c = search needs
+same-length-8 : tie.Need-same-length-8
+same-length-8 c = search needs
 
-same-length-12 : tie.Need-same-length-12
-same-length-12 c = search needs
+same-length-9 : tie.Need-same-length-9
+same-length-9 c = search needs
 
-returns-4 : tie.Need-returns-4
-returns-4 c =
+returns-3 : tie.Need-returns-3
+returns-3 c =
     let c4 = c .before .before .before .before .before .before in
     let c5 = c4 .before .before .before .before in
     let c7 = c5 .before .before in
@@ -115,6 +100,21 @@ returns-4 c =
     (c5 .if1 .left)
     (c4 .grow .ensures ∙ grown-is _ (c13 .pre .0) _ _ _ _ (c13 .pre .1))
 
+same-length-10 : tie.Need-same-length-10
+same-length-10 c = search needs
+
+same-length-11 : tie.Need-same-length-11
+same-length-11 c = search needs
+
+same-length-12 : tie.Need-same-length-12
+same-length-12 c = search needs
+
+returns-4 : tie.Need-returns-4
+returns-4 c =
+    let c2 = c .before .before in
+    let c3 = c2 .before .before .before in
+    put-there _ _ _ _ (sought-at _ _ _ (c3 .word .ensures) (c2 .find-tree-node .result) (c2 .find-tree-node .ensures) (c .enum-told .given .1))
+
 pub put-back-spec : {M : Type 1} → statement M
 put-back-spec =
     tie.close
@@ -122,24 +122,24 @@ put-back-spec =
     word-requires
     find-tree-node-requires
     enum-told
-    same-length
-    same-length-2
-    same-length-3
-    returns
     cast-lowest-free
     lowest-free-requires
     enum-known-free
     enum-told-2
+    same-length
+    same-length-2
+    same-length-3
+    returns
     same-length-4
     same-length-5
     same-length-6
     returns-2
+    cast-grow
+    grow-requires
     same-length-7
     same-length-8
     same-length-9
     returns-3
-    cast-grow
-    grow-requires
     same-length-10
     same-length-11
     same-length-12
