@@ -1,0 +1,77 @@
+-- The loop's invariant: the lines that are left, written from here, leave what all of them leave.
+use mathlib.Core.Path.{_≡_, sym, _∙_}
+use denote.Ref.{now}
+use lib.ListN.{length}
+use Rattle.dialogue.specs.Answers.{entryLines}
+use Rattle.dialogue.specs.Feeding.{Paper, typed}
+use Rattle.dialogue.proofs.Listing.{entries-on, entries-over}
+use borrow.Author.Needs.{needs}
+use Rattle.console.proofs.answer.tell_entries.Statement.{statement}
+use Rattle.console.proofs.answer.tell_entries.Tie as tie
+
+abbrev Inv-loop : tie.InvT-loop
+Inv-loop out₀ at names cells first count end₀ i₀ left₀ out end i left =
+    (typed (record { bytes = out; at = end }) (entryLines left names cells i) ≡ typed (record { bytes = out₀; at = at }) (entryLines count names cells first))
+    × (length out ≡ length out₀)
+
+abbrev μ-loop : tie.MeasureT-loop
+μ-loop out₀ at names cells first count end₀ i₀ left₀ out end i left = left
+
+loop-holds : tie.Need-loop-holds Inv-loop μ-loop
+loop-holds c = search needs
+
+tell-entry-requires : tie.Need-tell-entry-requires Inv-loop μ-loop
+tell-entry-requires c κs = search needs
+
+get-requires : tie.Need-get-requires Inv-loop μ-loop
+get-requires c κs = search needs
+
+sub-left : tie.Need-sub-left Inv-loop μ-loop
+sub-left c = search needs
+
+loop-less : tie.Need-loop-less Inv-loop μ-loop
+loop-less c = search needs
+
+loop-again : tie.Need-loop-again Inv-loop μ-loop
+loop-again c =
+    let c2 = c .before .before .before in
+    let c3 = c2 .before .before in
+    let at-loop = c3 .before in
+    let a = at-loop .before .before .before .before .args in (
+      entries-on
+          (record { bytes = at-loop .loop .out; at = at-loop .loop .end })
+          (now (a .names))
+          (now (a .cells))
+          (at-loop .loop .left)
+          (at-loop .loop .i)
+          (c3 .loop-test .taken)
+          (c2 .tell-entry .ensures)
+          (c .get .ensures)
+          ∙ at-loop .loop .inv .0,
+      search needs,
+    )
+
+same-length : tie.Need-same-length Inv-loop μ-loop
+same-length c = search needs
+
+returns : tie.Need-returns Inv-loop μ-loop
+returns c =
+    let at-loop = c .before in
+    let a = at-loop .before .before .before .before .args in
+    sym (entries-over (record { bytes = at-loop .loop .out; at = at-loop .loop .end }) (now (a .names)) (now (a .cells)) (at-loop .loop .left) (at-loop .loop .i) (c .loop-test .left))
+    ∙ at-loop .loop .inv .0
+
+pub tell-entries-spec : {M : Type 1} → statement M
+tell-entries-spec =
+    tie.close
+    (tie.spec
+    Inv-loop
+    μ-loop
+    loop-holds
+    tell-entry-requires
+    get-requires
+    sub-left
+    loop-less
+    loop-again
+    same-length
+    returns)

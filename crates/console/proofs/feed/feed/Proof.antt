@@ -1,0 +1,144 @@
+-- The loop's invariant: the rest of the chunk, fed from here, comes to what the whole of it comes to.
+use mathlib.Core.Path.{_≡_, _∙_}
+use mathlib.Core.List.{List}
+use denote.Ref.{now}
+use Prim.Native.Nat.{ℕ, _-_, _^_, _<_, _≤_}
+use lib.ListN.{length, drop}
+use Rattle.dialogue.specs.Feeding.{Desk, feeding}
+use Rattle.dialogue.proofs.Feeding.{feeding-over, feeding-full, feeding-on, feeds-short, feeds-long, kept-within}
+use Rattle.console.specs.Meanings.{lineOf}
+use Rattle.console.specs.declared.feed.Line.{Line}
+use borrow.Author.Needs.{needs}
+use Rattle.console.proofs.feed.feed.Statement.{statement}
+use Rattle.console.proofs.feed.feed.Tie as tie
+
+abbrev desk : Line → List ℕ → List ℕ → List ℕ → List ℕ → List ℕ → ℕ → Desk
+desk l names cells head lines out at = record {
+  line = lineOf l;
+  index = record { live = record { names = names; cells = cells; head = head }; lines = lines };
+  paper = record { bytes = out; at = at };
+}
+
+abbrev Inv-loop : tie.InvT-loop
+Inv-loop chunk names₀ cells₀ head₀ lines₀ out₀ kept₀ written₀ i₀ names cells head lines out kept written i =
+    (feeding (drop i chunk) i (desk kept names cells head lines out written) ≡ feeding chunk 0 (desk kept₀ names₀ cells₀ head₀ lines₀ out₀ 0))
+    × (written ≤ length out)
+    × (i ≤ length chunk)
+    × (length names ≡ length names₀)
+    × (length cells ≡ length cells₀)
+    × (length head ≡ length head₀)
+    × (length lines ≡ length lines₀)
+    × (length out ≡ length out₀)
+    × (written < 2 ^ 64)
+
+abbrev μ-loop : tie.MeasureT-loop
+μ-loop chunk names₀ cells₀ head₀ lines₀ out₀ kept₀ written₀ i₀ names cells head lines out kept written i =
+    length chunk - i
+
+returns : tie.Need-returns Inv-loop μ-loop
+returns c = feeds-short _ _ (c .if1 .taken)
+
+loop-holds : tie.Need-loop-holds Inv-loop μ-loop
+loop-holds c = search needs
+
+sub-if2 : tie.Need-sub-if2 Inv-loop μ-loop
+sub-if2 c = search needs
+
+same-length : tie.Need-same-length Inv-loop μ-loop
+same-length c = search needs
+
+same-length-2 : tie.Need-same-length-2 Inv-loop μ-loop
+same-length-2 c = search needs
+
+same-length-3 : tie.Need-same-length-3 Inv-loop μ-loop
+same-length-3 c = search needs
+
+same-length-4 : tie.Need-same-length-4 Inv-loop μ-loop
+same-length-4 c = search needs
+
+same-length-5 : tie.Need-same-length-5 Inv-loop μ-loop
+same-length-5 c = search needs
+
+returns-2 : tie.Need-returns-2 Inv-loop μ-loop
+returns-2 c =
+    let at-loop = c .before .before in
+    let a = at-loop .before .before .before .before .before .before .before .before .args in
+    feeding-full (now (a .chunk)) (at-loop .loop .i) _ (c .before .loop-test .taken) (c .if2 .taken) ∙ at-loop .loop .inv .0 ∙ feeds-long (now (a .chunk)) _ (at-loop .before .if1 .left)
+
+shared-slice-read-take-byte : tie.Need-shared-slice-read-take-byte Inv-loop μ-loop
+shared-slice-read-take-byte c = search needs
+
+take-byte-requires : tie.Need-take-byte-requires Inv-loop μ-loop
+take-byte-requires c κs = search needs
+
+add-i : tie.Need-add-i Inv-loop μ-loop
+add-i c = search needs
+
+loop-less : tie.Need-loop-less Inv-loop μ-loop
+loop-less c = search needs
+
+loop-again : tie.Need-loop-again Inv-loop μ-loop
+loop-again c =
+    let c6 = c .before .before .before .before .before .before .before .before .before .before .before in
+    let c7 = c6 .before .before .before .before .before .before .before in
+    let at-loop = c7 .before .before in
+    let a = at-loop .before .before .before .before .before .before .before .before .args in
+    let here = desk (at-loop .loop .kept) (at-loop .loop .names) (at-loop .loop .cells) (at-loop .loop .head) (at-loop .loop .lines) (at-loop .loop .out) (at-loop .loop .written) in (
+      feeding-on (now (a .chunk)) (at-loop .loop .i) here (c7 .before .loop-test .taken) (c7 .if2 .left) (c6 .take-byte .ensures) ∙ at-loop .loop .inv .0,
+      kept-within here _ (c6 .take-byte .ensures) (at-loop .loop .inv .1),
+      search needs,
+      search needs,
+      search needs,
+      search needs,
+      search needs,
+      search needs,
+      search needs,
+    )
+
+same-length-6 : tie.Need-same-length-6 Inv-loop μ-loop
+same-length-6 c = search needs
+
+same-length-7 : tie.Need-same-length-7 Inv-loop μ-loop
+same-length-7 c = search needs
+
+same-length-8 : tie.Need-same-length-8 Inv-loop μ-loop
+same-length-8 c = search needs
+
+same-length-9 : tie.Need-same-length-9 Inv-loop μ-loop
+same-length-9 c = search needs
+
+same-length-10 : tie.Need-same-length-10 Inv-loop μ-loop
+same-length-10 c = search needs
+
+returns-3 : tie.Need-returns-3 Inv-loop μ-loop
+returns-3 c =
+    let at-loop = c .before in
+    let a = at-loop .before .before .before .before .before .before .before .before .args in
+    feeding-over (now (a .chunk)) (at-loop .loop .i) _ (c .loop-test .left) ∙ at-loop .loop .inv .0 ∙ feeds-long (now (a .chunk)) _ (at-loop .before .if1 .left)
+
+pub feed-spec : {M : Type 1} → statement M
+feed-spec =
+    tie.close
+    (tie.spec
+    Inv-loop
+    μ-loop
+    returns
+    loop-holds
+    sub-if2
+    same-length
+    same-length-2
+    same-length-3
+    same-length-4
+    same-length-5
+    returns-2
+    shared-slice-read-take-byte
+    take-byte-requires
+    add-i
+    loop-less
+    loop-again
+    same-length-6
+    same-length-7
+    same-length-8
+    same-length-9
+    same-length-10
+    returns-3)

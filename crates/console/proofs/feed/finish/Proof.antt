@@ -1,0 +1,53 @@
+-- There is no room, no line has begun, or the line is answered.
+use Rattle.dialogue.proofs.Feeding.{ends-short, ends-none, ends-line}
+use borrow.Author.Needs.{needs}
+use Rattle.console.proofs.feed.finish.Statement.{statement}
+use Rattle.console.proofs.feed.finish.Tie as tie
+
+returns : tie.Need-returns
+returns c = ends-short _ (c .if1 .taken)
+
+returns-2 : tie.Need-returns-2
+returns-2 c = ends-none _ (c .before .if1 .left) (c .if2 .taken)
+
+reply-kept-requires : tie.Need-reply-kept-requires
+reply-kept-requires c κs = search needs
+
+blank-requires : tie.Need-blank-requires
+blank-requires c κs = search needs
+
+same-length : tie.Need-same-length
+same-length c = search needs
+
+same-length-2 : tie.Need-same-length-2
+same-length-2 c = search needs
+
+same-length-3 : tie.Need-same-length-3
+same-length-3 c = search needs
+
+same-length-4 : tie.Need-same-length-4
+same-length-4 c = search needs
+
+same-length-5 : tie.Need-same-length-5
+same-length-5 c = search needs
+
+returns-3 : tie.Need-returns-3
+returns-3 c =
+    let c6 = c .before .before .before .before .before .before .before .before .before .before .before in
+    let c7 = c6 .before .before .before .before .before .before in
+    ends-line _ (c7 .before .if1 .left) (c7 .if2 .left) (c6 .reply-kept .ensures) (c .blank .ensures)
+
+pub finish-spec : {M : Type 1} → statement M
+finish-spec =
+    tie.close
+    (tie.spec
+    returns
+    returns-2
+    reply-kept-requires
+    blank-requires
+    same-length
+    same-length-2
+    same-length-3
+    same-length-4
+    same-length-5
+    returns-3)

@@ -1,0 +1,35 @@
+-- What the values of this crate's enums and structs mean.
+use mathlib.Core.List.{List, [], _∷_, _++_}
+use Prim.Native.Nat.{ℕ}
+use Rattle.slots.specs.Answers.{Value as Count, none, some}
+use Rattle.demands.specs.Index.{Index}
+use Rattle.dialogue.specs.Text.{newline, noneText, noText}
+use Rattle.dialogue.specs.Answers.{counted}
+use Rattle.dialogue.specs.Feeding.{Line as Held, Paper, Desk, Fed as Outcome}
+use Rattle.console.specs.declared.answer.Met.{Met}
+use Rattle.console.specs.declared.answer.Met.the-variants.{Slots, Lost}
+use Rattle.console.specs.declared.answer.Reply.{Reply}
+use Rattle.console.specs.declared.answer.Reply.the-variants.{Value, Nothing, Refused}
+use Rattle.console.specs.declared.feed.Line.{Line}
+use Rattle.console.specs.declared.feed.Fed.{Fed}
+
+-- A reply as it is printed, its value after a word.
+abbrev pub replyText : List ℕ → Reply → List ℕ
+replyText word (Value v) = counted word v
+replyText word Nothing = noneText ++ (newline ∷ [])
+replyText word (Refused n) = counted noText n
+
+abbrev pub metOf : Met → Count
+metOf (Slots c) = some c
+metOf Lost = none
+
+abbrev pub lineOf : Line → Held
+lineOf l = record { bytes = l .bytes; count = l .count }
+
+-- A call's answer, with what it leaves of the tree, the journal and the buffer.
+abbrev pub fedOf : Fed → Index → List ℕ → Outcome
+fedOf r ix out = record {
+  number = r .number;
+  desk = record { line = lineOf (r .line); index = ix; paper = record { bytes = out; at = r .written } };
+  taken = r .taken;
+}

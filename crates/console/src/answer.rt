@@ -1,0 +1,315 @@
+// What a command does to the tree and the journal, and what is printed for it.
+use drivers::journal::fit_journal;
+use drivers::journal::word as journal_word;
+use index::insert::Inserted;
+use index::insert::insert;
+use index::remove::Removed;
+use index::remove::remove;
+use index::rollback::RolledBack;
+use index::rollback::rollback;
+use live::find::Found;
+use live::find::find;
+use live::fit::FIRST;
+use live::fit::fit;
+use live::fit::word;
+use phrases::paper::put_byte;
+use phrases::paper::put_number;
+use phrases::paper::put_word;
+use phrases::read::Command;
+use slots::HASH;
+use slots::KEY;
+use slots::NEXT;
+use slots::NULL;
+use slots::PLACE;
+use slots::get;
+use slots::name;
+ghost use mathlib.Core.Path.{_≡_};
+ghost use mathlib.Core.List.{List};
+ghost use Prim.Native.Nat.{ℕ};
+ghost use Rattle.demands.specs.Live.{Live};
+ghost use Rattle.demands.specs.Find.{finds};
+ghost use Rattle.demands.specs.Index.{Index};
+ghost use Rattle.dialogue.specs.Text.{atText};
+ghost use Rattle.index.specs.Answers.{insertedOf, removedOf, rolledOf};
+ghost use Rattle.live.specs.Answers.{foundOf};
+ghost use Rattle.dialogue.specs.Answers.{counted, told, met, entryLine, entryLines, listing, marking};
+ghost use Rattle.dialogue.specs.Commands.{insert as inserting, remove as removing, rollback as rolling};
+ghost use Rattle.dialogue.specs.Feeding.{Paper, Turn, typed, turned};
+ghost use Rattle.phrases.specs.Meanings.{commandOf};
+ghost use Rattle.console.specs.Meanings.{replyText, metOf};
+
+// A word and a number, and the line ends.
+fn tell(out: &mut [u8], at: usize, word: &[u8], v: u64) -> usize
+    ensures { λ r. ⌜ record { bytes = now (out .exit); at = r } ≡ typed (record { bytes = now (out .entry); at = at }) (counted (now (word .entry)) v) ⌝ }
+{
+    let number = put_word(out, at, word);
+    let end = put_number(out, number, v);
+    put_byte(out, end, b'\n')
+}
+
+// What a call answers, as it is printed: a number, nothing, or a refusal.
+enum Reply {
+    Value(u64),
+    Nothing,
+    Refused(u64),
+}
+
+fn of_inserted(done: Inserted) -> Reply
+    ensures { λ r. ⌜ ((w : List ℕ) → replyText w r ≡ told w (insertedOf done)) ⌝ }
+{
+    match done {
+        Inserted::At(slot) => Reply::Value(slot as u64),
+        Inserted::Unfit => Reply::Refused(1),
+        Inserted::Damaged => Reply::Refused(2),
+        Inserted::Present(_) => Reply::Refused(3),
+        Inserted::Full => Reply::Refused(5),
+        Inserted::JournalFull => Reply::Refused(6),
+    }
+}
+
+fn of_removed(done: Removed) -> Reply
+    ensures { λ r. ⌜ ((w : List ℕ) → replyText w r ≡ told w (removedOf done)) ⌝ }
+{
+    match done {
+        Removed::At(slot) => Reply::Value(slot as u64),
+        Removed::Unfit => Reply::Refused(1),
+        Removed::Damaged => Reply::Refused(2),
+        Removed::Absent => Reply::Refused(4),
+        Removed::JournalFull => Reply::Refused(6),
+    }
+}
+
+fn of_found(found: Found) -> Reply
+    ensures { λ r. ⌜ ((w : List ℕ) → replyText w r ≡ told w (foundOf found)) ⌝ }
+{
+    match found {
+        Found::At(slot) => Reply::Value(slot as u64),
+        Found::Nothing => Reply::Nothing,
+        Found::Unfit => Reply::Refused(1),
+        Found::Lost => Reply::Refused(9),
+    }
+}
+
+fn of_rolled(done: RolledBack) -> Reply
+    ensures { λ r. ⌜ ((w : List ℕ) → replyText w r ≡ told w (rolledOf done)) ⌝ }
+{
+    match done {
+        RolledBack::Lines(count) => Reply::Value(count as u64),
+        RolledBack::Unfit => Reply::Refused(1),
+        RolledBack::Damaged => Reply::Refused(2),
+        RolledBack::BadMark => Reply::Refused(7),
+        RolledBack::Misfit => Reply::Refused(8),
+    }
+}
+
+fn tell_reply(out: &mut [u8], at: usize, word: &[u8], reply: Reply) -> usize
+    ensures { λ r. ⌜ record { bytes = now (out .exit); at = r } ≡ typed (record { bytes = now (out .entry); at = at }) (replyText (now (word .entry)) reply) ⌝ }
+{
+    match reply {
+        Reply::Value(v) => return tell(out, at, word, v),
+        Reply::Nothing => return put_word(out, at, b"none\n"),
+        Reply::Refused(n) => return tell(out, at, b"no ", n),
+    }
+}
+
+// How many slots the chain has, or that it cannot be followed.
+enum Met {
+    Slots(usize),
+    Lost,
+}
+
+// The slots met from first by next, over n slots.
+fn count_chain(n: usize, cells: &[u32], first: u32) -> Met
+    ensures { λ r. ⌜ metOf r ≡ met n n (now (cells .entry)) first ⌝ }
+{
+    let mut i = first;
+    let mut count = 0;
+    while i != NULL {
+        if count == n {
+            return Met::Lost;
+        }
+        if n <= i as usize {
+            return Met::Lost;
+        }
+        i = get(cells, i, NEXT);
+        count += 1;
+    }
+    Met::Slots(count)
+}
+
+// The line of slot i: hash, key, place.
+fn tell_entry(out: &mut [u8], at: usize, names: &[u64], cells: &[u32], i: u32) -> usize
+    ensures { λ r. ⌜ record { bytes = now (out .exit); at = r } ≡ typed (record { bytes = now (out .entry); at = at }) (entryLine (now (names .entry)) (now (cells .entry)) i) ⌝ }
+{
+    let hash = name(names, i, HASH);
+    let key = name(names, i, KEY);
+    let place = get(cells, i, PLACE);
+    let after_hash = put_number(out, at, hash);
+    let before_key = put_byte(out, after_hash, b' ');
+    let after_key = put_number(out, before_key, key);
+    let before_place = put_byte(out, after_key, b' ');
+    let after_place = put_number(out, before_place, place as u64);
+    put_byte(out, after_place, b'\n')
+}
+
+// The lines of so many slots, from first by next.
+fn tell_entries(
+    out: &mut [u8],
+    at: usize,
+    names: &[u64],
+    cells: &[u32],
+    first: u32,
+    count: usize,
+) -> usize
+    ensures { λ r. ⌜ record { bytes = now (out .exit); at = r } ≡ typed (record { bytes = now (out .entry); at = at }) (entryLines count (now (names .entry)) (now (cells .entry)) first) ⌝ }
+{
+    let mut end = at;
+    let mut i = first;
+    let mut left = count;
+    while 0 < left {
+        end = tell_entry(out, end, names, cells, i);
+        i = get(cells, i, NEXT);
+        left -= 1;
+    }
+    end
+}
+
+fn tell_list(out: &mut [u8], at: usize, names: &[u64], cells: &[u32], head: &[u32]) -> usize
+    ensures { λ r. ⌜ record { bytes = now (out .exit); at = r } ≡ typed (record { bytes = now (out .entry); at = at }) (listing (record { names = now (names .entry); cells = now (cells .entry); head = now (head .entry) })) ⌝ }
+{
+    if !fit(names, cells, head) {
+        return tell(out, at, b"no ", 1);
+    }
+    let first = word(head, FIRST);
+    let counted = count_chain(names.len() / 2, cells, first);
+    let Met::Slots(count) = counted else {
+        return tell(out, at, b"no ", 9);
+    };
+    let lines = tell(out, at, b"entries ", count as u64);
+    tell_entries(out, lines, names, cells, first, count)
+}
+
+fn tell_mark(
+    out: &mut [u8],
+    at: usize,
+    names: &[u64],
+    cells: &[u32],
+    head: &[u32],
+    lines: &[u64],
+) -> usize
+    ensures { λ r. ⌜ record { bytes = now (out .exit); at = r } ≡ typed (record { bytes = now (out .entry); at = at }) (marking (record { live = record { names = now (names .entry); cells = now (cells .entry); head = now (head .entry) }; lines = now (lines .entry) })) ⌝ }
+{
+    if !fit(names, cells, head) {
+        return tell(out, at, b"no ", 1);
+    }
+    if !fit_journal(lines) {
+        return tell(out, at, b"no ", 1);
+    }
+    let length = journal_word(lines, 0);
+    tell(out, at, b"mark ", length)
+}
+
+fn obey_insert(
+    names: &mut [u64],
+    cells: &mut [u32],
+    head: &mut [u32],
+    lines: &mut [u64],
+    out: &mut [u8],
+    at: usize,
+    hash: u64,
+    key: u64,
+    place: u32,
+) -> usize
+    ensures { λ r. ⌜ record { index = record { live = record { names = now (names .exit); cells = now (cells .exit); head = now (head .exit) }; lines = now (lines .exit) }; paper = record { bytes = now (out .exit); at = r } } ≡ turned (record { live = record { names = now (names .entry); cells = now (cells .entry); head = now (head .entry) }; lines = now (lines .entry) }) (record { bytes = now (out .entry); at = at }) (inserting hash key place) ⌝ }
+{
+    let done = insert(names, cells, head, lines, hash, key, place);
+    let reply = of_inserted(done);
+    tell_reply(out, at, b"slot ", reply)
+}
+
+fn obey_remove(
+    names: &mut [u64],
+    cells: &mut [u32],
+    head: &mut [u32],
+    lines: &mut [u64],
+    out: &mut [u8],
+    at: usize,
+    hash: u64,
+    key: u64,
+) -> usize
+    ensures { λ r. ⌜ record { index = record { live = record { names = now (names .exit); cells = now (cells .exit); head = now (head .exit) }; lines = now (lines .exit) }; paper = record { bytes = now (out .exit); at = r } } ≡ turned (record { live = record { names = now (names .entry); cells = now (cells .entry); head = now (head .entry) }; lines = now (lines .entry) }) (record { bytes = now (out .entry); at = at }) (removing hash key) ⌝ }
+{
+    let done = remove(names, cells, head, lines, hash, key);
+    let reply = of_removed(done);
+    tell_reply(out, at, b"gone ", reply)
+}
+
+fn obey_rollback(
+    names: &mut [u64],
+    cells: &mut [u32],
+    head: &mut [u32],
+    lines: &mut [u64],
+    out: &mut [u8],
+    at: usize,
+    to: u32,
+) -> usize
+    ensures { λ r. ⌜ record { index = record { live = record { names = now (names .exit); cells = now (cells .exit); head = now (head .exit) }; lines = now (lines .exit) }; paper = record { bytes = now (out .exit); at = r } } ≡ turned (record { live = record { names = now (names .entry); cells = now (cells .entry); head = now (head .entry) }; lines = now (lines .entry) }) (record { bytes = now (out .entry); at = at }) (rolling to) ⌝ }
+{
+    let done = rollback(names, cells, head, lines, to);
+    let reply = of_rolled(done);
+    tell_reply(out, at, b"back ", reply)
+}
+
+// `?`: only reads.
+fn tell_find(
+    out: &mut [u8],
+    at: usize,
+    names: &[u64],
+    cells: &[u32],
+    head: &[u32],
+    hash: u64,
+    key: u64,
+) -> usize
+    ensures { λ r. ⌜ record { bytes = now (out .exit); at = r } ≡ typed (record { bytes = now (out .entry); at = at }) (told atText (finds (record { names = now (names .entry); cells = now (cells .entry); head = now (head .entry) }) hash key)) ⌝ }
+{
+    let found = find(names, cells, head, hash, key);
+    let reply = of_found(found);
+    tell_reply(out, at, b"at ", reply)
+}
+
+// Does what a command asks, and writes its answer.
+pub(crate) fn obey(
+    command: Command,
+    names: &mut [u64],
+    cells: &mut [u32],
+    head: &mut [u32],
+    lines: &mut [u64],
+    out: &mut [u8],
+    at: usize,
+) -> usize
+    ensures { λ r. ⌜ record { index = record { live = record { names = now (names .exit); cells = now (cells .exit); head = now (head .exit) }; lines = now (lines .exit) }; paper = record { bytes = now (out .exit); at = r } } ≡ turned (record { live = record { names = now (names .entry); cells = now (cells .entry); head = now (head .entry) }; lines = now (lines .entry) }) (record { bytes = now (out .entry); at = at }) (commandOf command) ⌝ }
+{
+    match command {
+        Command::Insert(hash, key, place) => {
+            return obey_insert(names, cells, head, lines, out, at, hash, key, place);
+        }
+        Command::Remove(hash, key) => {
+            return obey_remove(names, cells, head, lines, out, at, hash, key);
+        }
+        Command::Find(hash, key) => {
+            return tell_find(out, at, names, cells, head, hash, key);
+        }
+        Command::Rollback(to) => {
+            return obey_rollback(names, cells, head, lines, out, at, to);
+        }
+        Command::Mark => {
+            return tell_mark(out, at, names, cells, head, lines);
+        }
+        Command::List => {
+            return tell_list(out, at, names, cells, head);
+        }
+        Command::Bad => {
+            return put_word(out, at, b"bad\n");
+        }
+    }
+}

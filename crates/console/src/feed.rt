@@ -1,0 +1,223 @@
+// Chunks of input in, answers out. What is kept between two calls is the line that has come so far.
+use crate::answer::obey;
+use phrases::read::meaning;
+ghost use mathlib.Core.Path.{_≡_};
+ghost use lib.ListN.{replicate, take};
+ghost use Rattle.demands.specs.Live.{Live};
+ghost use Rattle.demands.specs.Index.{Index};
+ghost use Rattle.dialogue.specs.Commands.{spoken};
+ghost use Rattle.dialogue.specs.Feeding.{Line as Held, Paper, Turn, Desk, turned, heldOf, noted, fedByte, feeds, ends};
+ghost use Rattle.console.specs.Meanings.{lineOf, fedOf};
+
+// No answer is longer: 4,096 entries of at most 63 bytes, and the line before them.
+pub const LONGEST: usize = 262144;
+
+// At most 81 bytes of a line are kept: one over 80 is bad, whatever follows.
+const WIDTH: usize = 81;
+
+// The line that has come so far.
+pub struct Line {
+    pub bytes: [u8; 81],
+    pub count: usize,
+}
+
+// What a call comes to: 01's number, the line, the bytes of the chunk that were taken and those of the buffer that were
+// written.
+pub struct Fed {
+    pub number: u32,
+    pub line: Line,
+    pub taken: usize,
+    pub written: usize,
+}
+
+// No line has begun.
+pub fn blank() -> Line
+    ensures { λ r. ⌜ lineOf r ≡ record { bytes = replicate 81 0; count = 0 } ⌝ }
+{
+    Line {
+        bytes: [0u8; 81],
+        count: 0,
+    }
+}
+
+// One byte more of the line.
+fn note(line: Line, b: u8) -> Line
+    ensures { λ r. ⌜ lineOf r ≡ noted (lineOf line) b ⌝ }
+{
+    let mut bytes = line.bytes;
+    let count = line.count;
+    if WIDTH <= count {
+        return line;
+    }
+    bytes[count] = b;
+    Line {
+        bytes,
+        count: count + 1,
+    }
+}
+
+// Answers a whole line.
+fn reply(
+    line: &[u8],
+    names: &mut [u64],
+    cells: &mut [u32],
+    head: &mut [u32],
+    lines: &mut [u64],
+    out: &mut [u8],
+    at: usize,
+) -> usize
+    ensures { λ r. ⌜ record { index = record { live = record { names = now (names .exit); cells = now (cells .exit); head = now (head .exit) }; lines = now (lines .exit) }; paper = record { bytes = now (out .exit); at = r } } ≡ turned (record { live = record { names = now (names .entry); cells = now (cells .entry); head = now (head .entry) }; lines = now (lines .entry) }) (record { bytes = now (out .entry); at = at }) (spoken (now (line .entry))) ⌝ }
+{
+    let command = meaning(line);
+    obey(command, names, cells, head, lines, out, at)
+}
+
+// Answers the first bytes of those that were kept.
+fn reply_first(
+    bytes: &[u8],
+    count: usize,
+    names: &mut [u64],
+    cells: &mut [u32],
+    head: &mut [u32],
+    lines: &mut [u64],
+    out: &mut [u8],
+    at: usize,
+) -> usize
+    ensures { λ r. ⌜ record { index = record { live = record { names = now (names .exit); cells = now (cells .exit); head = now (head .exit) }; lines = now (lines .exit) }; paper = record { bytes = now (out .exit); at = r } } ≡ turned (record { live = record { names = now (names .entry); cells = now (cells .entry); head = now (head .entry) }; lines = now (lines .entry) }) (record { bytes = now (out .entry); at = at }) (spoken (take count (now (bytes .entry)))) ⌝ }
+{
+    if bytes.len() <= count {
+        return reply(bytes, names, cells, head, lines, out, at);
+    }
+    reply(&bytes[..count], names, cells, head, lines, out, at)
+}
+
+// Answers the line that was kept.
+fn reply_kept(
+    line: Line,
+    names: &mut [u64],
+    cells: &mut [u32],
+    head: &mut [u32],
+    lines: &mut [u64],
+    out: &mut [u8],
+    at: usize,
+) -> usize
+    ensures { λ r. ⌜ record { index = record { live = record { names = now (names .exit); cells = now (cells .exit); head = now (head .exit) }; lines = now (lines .exit) }; paper = record { bytes = now (out .exit); at = r } } ≡ turned (record { live = record { names = now (names .entry); cells = now (cells .entry); head = now (head .entry) }; lines = now (lines .entry) }) (record { bytes = now (out .entry); at = at }) (spoken (heldOf (lineOf line))) ⌝ }
+{
+    let bytes = line.bytes;
+    reply_first(&bytes, line.count, names, cells, head, lines, out, at)
+}
+
+// What one byte comes to: the line, and where the next byte of the buffer goes.
+struct Step {
+    line: Line,
+    at: usize,
+}
+
+fn take_byte(
+    line: Line,
+    b: u8,
+    names: &mut [u64],
+    cells: &mut [u32],
+    head: &mut [u32],
+    lines: &mut [u64],
+    out: &mut [u8],
+    at: usize,
+) -> Step
+    ensures { λ r. ⌜ record { line = lineOf (r .line); index = record { live = record { names = now (names .exit); cells = now (cells .exit); head = now (head .exit) }; lines = now (lines .exit) }; paper = record { bytes = now (out .exit); at = r .at } } ≡ fedByte (record { line = lineOf line; index = record { live = record { names = now (names .entry); cells = now (cells .entry); head = now (head .entry) }; lines = now (lines .entry) }; paper = record { bytes = now (out .entry); at = at } }) b ⌝ }
+{
+    if b == b'\n' {
+        let end = reply_kept(line, names, cells, head, lines, out, at);
+        let next = blank();
+        return Step {
+            line: next,
+            at: end,
+        };
+    }
+    let next = note(line, b);
+    Step { line: next, at }
+}
+
+// Takes the bytes of a chunk while the buffer has room for any answer. The rest of the chunk is for the next call. A buffer
+// in which the longest answer has no room is refused with 1, and nothing is taken.
+pub fn feed(
+    line: Line,
+    chunk: &[u8],
+    names: &mut [u64],
+    cells: &mut [u32],
+    head: &mut [u32],
+    lines: &mut [u64],
+    out: &mut [u8],
+) -> Fed
+    ensures { λ r. ⌜ fedOf r (record { live = record { names = now (names .exit); cells = now (cells .exit); head = now (head .exit) }; lines = now (lines .exit) }) (now (out .exit)) ≡ feeds (now (chunk .entry)) (record { line = lineOf line; index = record { live = record { names = now (names .entry); cells = now (cells .entry); head = now (head .entry) }; lines = now (lines .entry) }; paper = record { bytes = now (out .entry); at = 0 } }) ⌝ }
+{
+    if out.len() < LONGEST {
+        return Fed {
+            number: 1,
+            line,
+            taken: 0,
+            written: 0,
+        };
+    }
+    let mut kept = line;
+    let mut written = 0;
+    let mut i = 0;
+    while i < chunk.len() {
+        if out.len() - written < LONGEST {
+            return Fed {
+                number: 0,
+                line: kept,
+                taken: i,
+                written,
+            };
+        }
+        let step = take_byte(kept, chunk[i], names, cells, head, lines, out, written);
+        let next = step.line;
+        kept = next;
+        written = step.at;
+        i += 1;
+    }
+    Fed {
+        number: 0,
+        line: kept,
+        taken: i,
+        written,
+    }
+}
+
+// The input has ended: an unended last line is answered.
+pub fn finish(
+    line: Line,
+    names: &mut [u64],
+    cells: &mut [u32],
+    head: &mut [u32],
+    lines: &mut [u64],
+    out: &mut [u8],
+) -> Fed
+    ensures { λ r. ⌜ fedOf r (record { live = record { names = now (names .exit); cells = now (cells .exit); head = now (head .exit) }; lines = now (lines .exit) }) (now (out .exit)) ≡ ends (record { line = lineOf line; index = record { live = record { names = now (names .entry); cells = now (cells .entry); head = now (head .entry) }; lines = now (lines .entry) }; paper = record { bytes = now (out .entry); at = 0 } }) ⌝ }
+{
+    if out.len() < LONGEST {
+        return Fed {
+            number: 1,
+            line,
+            taken: 0,
+            written: 0,
+        };
+    }
+    let count = line.count;
+    if count == 0 {
+        return Fed {
+            number: 0,
+            line,
+            taken: 0,
+            written: 0,
+        };
+    }
+    let written = reply_kept(line, names, cells, head, lines, out, 0);
+    let next = blank();
+    Fed {
+        number: 0,
+        line: next,
+        taken: 0,
+        written,
+    }
+}

@@ -1,0 +1,3 @@
+// The script's library: chunks of input in, answers out, over a lent tree and journal.
+mod answer;
+pub mod feed;

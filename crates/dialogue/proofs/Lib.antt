@@ -1,0 +1,11 @@
+pub mod Typing
+pub mod Reading
+pub mod Numbers
+pub mod Meaning
+pub mod Listing
+pub mod Feeding
+pub mod Room
+pub mod Cutting
+pub mod Lines
+pub mod Chains
+pub mod Claims

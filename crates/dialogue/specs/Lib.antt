@@ -1,0 +1,5 @@
+pub mod Text
+pub mod Commands
+pub mod Answers
+pub mod Feeding
+pub mod Claims
