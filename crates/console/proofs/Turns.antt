@@ -10,6 +10,7 @@ use Rattle.dialogue.specs.Text.{slotText, goneText, backText, atText}
 use Rattle.dialogue.specs.Answers.{told, marking, listing, obeyed}
 use Rattle.dialogue.specs.Commands.{Command, insert, remove, find, rollback, mark, list, bad}
 use Rattle.dialogue.specs.Feeding.{Paper, Turn, typed, turned}
+use Rattle.dialogue.proofs.Feeding.{Within, typed-within}
 
 abbrev turn : Index → Paper → Turn
 turn ix p = record { index = ix; paper = p }
@@ -33,3 +34,7 @@ turn-of ix p e f = rw f e
 -- A command that only reads leaves the tree and the journal.
 pub read-turn : (ix : Index) {q t : Paper} → q ≡ t → turn ix q ≡ turn ix t
 read-turn ix e = ap (turn ix) e
+
+-- An answer is written within its buffer.
+pub turn-within : (ix : Index) (p : Paper) (c : Command) {t : Turn} → t ≡ turned ix p c → Within p → Within (t .paper)
+turn-within ix p c e w = rw e (typed-within p _ w)

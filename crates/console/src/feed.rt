@@ -2,7 +2,8 @@
 use crate::answer::obey;
 use phrases::read::meaning;
 ghost use mathlib.Core.Path.{_≡_};
-ghost use lib.ListN.{replicate, take};
+ghost use Prim.Native.Nat.{_≤_};
+ghost use lib.ListN.{length, replicate, take};
 ghost use Rattle.demands.specs.Live.{Live};
 ghost use Rattle.demands.specs.Index.{Index};
 ghost use Rattle.dialogue.specs.Commands.{spoken};
@@ -149,6 +150,7 @@ pub fn feed(
     out: &mut [u8],
 ) -> Fed
     ensures { λ r. ⌜ fedOf r (record { live = record { names = now (names .exit); cells = now (cells .exit); head = now (head .exit) }; lines = now (lines .exit) }) (now (out .exit)) ≡ feeds (now (chunk .entry)) (record { line = lineOf line; index = record { live = record { names = now (names .entry); cells = now (cells .entry); head = now (head .entry) }; lines = now (lines .entry) }; paper = record { bytes = now (out .entry); at = 0 } }) ⌝ }
+    ensures bounds { λ r. ⌜ (r .written ≤ length (now (out .exit))) × (r .taken ≤ length (now (chunk .entry))) ⌝ }
 {
     if out.len() < LONGEST {
         return Fed {
@@ -194,6 +196,7 @@ pub fn finish(
     out: &mut [u8],
 ) -> Fed
     ensures { λ r. ⌜ fedOf r (record { live = record { names = now (names .exit); cells = now (cells .exit); head = now (head .exit) }; lines = now (lines .exit) }) (now (out .exit)) ≡ ends (record { line = lineOf line; index = record { live = record { names = now (names .entry); cells = now (cells .entry); head = now (head .entry) }; lines = now (lines .entry) }; paper = record { bytes = now (out .entry); at = 0 } }) ⌝ }
+    ensures bounds { λ r. ⌜ r .written ≤ length (now (out .exit)) ⌝ }
 {
     if out.len() < LONGEST {
         return Fed {

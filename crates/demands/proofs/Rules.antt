@@ -67,10 +67,10 @@ module _ (t : Live) where
       (and (eq-eqb _ _ (h .lefts)) (and (eq-eqb _ _ (h .rights)) (and (eq-eqb _ _ (h .prevs)) (eq-eqb _ _ (h .nexts))))))))
 
   -- What T1 says of one slot.
-  record Fine (n i : ℕ) : Type 0 where
-    links : LinksNamed n (t .cells) i
-    states : cell (t .cells) i state ≤ 2
-    cleared : cell (t .cells) i state ≡ free → Cleared t i
+  pub record Fine (n i : ℕ) : Type 0 where
+    pub links : LinksNamed n (t .cells) i
+    pub states : cell (t .cells) i state ≤ 2
+    pub cleared : cell (t .cells) i state ≡ free → Cleared t i
 
   fine : (n i : ℕ) → slotFine n t i ≡ true → Fine n i
   unfolding slotFine
@@ -89,7 +89,7 @@ module _ (t : Live) where
       go true z = cleared-is i (h .cleared (eqb-true _ _ z))
       go false z = le-leb _ _ (h .states)
 
-  all-fine : (k n : ℕ) → slotsFine k n t ≡ true → (i : ℕ) → i < k → Fine n i
+  pub all-fine : (k n : ℕ) → slotsFine k n t ≡ true → (i : ℕ) → i < k → Fine n i
   unfolding slotsFine
   all-fine zero n e i l = absurd (omega arith)
   all-fine (suc k) n e i l = let h = both (slotFine n t k) _ e in go (ℕ-discrete i k) (h .0) (λ d. all-fine k n (h .1) i (omega arith))
@@ -98,7 +98,7 @@ module _ (t : Live) where
       go (yes z) f rest = rw z (fine n k f)
       go (no z) f rest = rest z
 
-  fine-all : (k n : ℕ) → ((i : ℕ) → i < k → Fine n i) → slotsFine k n t ≡ true
+  pub fine-all : (k n : ℕ) → ((i : ℕ) → i < k → Fine n i) → slotsFine k n t ≡ true
   unfolding slotsFine
   fine-all zero n h = refl
   fine-all (suc k) n h = and (is-fine n k (h k (omega arith))) (fine-all k n (λ i l. h i (omega arith)))
@@ -159,11 +159,11 @@ used-not : (cells : List ℕ) (k : ℕ) → cell cells k state ≢ free → used
 used-not cells k d = rw (ne-eqb (cell cells k state) free d)
 
 -- What a walk that leaves all but m visits says.
-left-of : (n m : ℕ) (v : Value) → leaves n m v ≡ true → (rest : ℕ) × (v ≡ some rest) × (n - rest ≡ m)
+pub left-of : (n m : ℕ) (v : Value) → leaves n m v ≡ true → (rest : ℕ) × (v ≡ some rest) × (n - rest ≡ m)
 left-of n m (some rest) e = (rest, refl, eqb-true _ _ e)
 left-of n m none e = absurd (false≢true e)
 
-all-but : (n l m : ℕ) → l ≤ n → l ≡ m → n - (n - l) ≡ m
+pub all-but : (n l m : ℕ) → l ≤ n → l ≡ m → n - (n - l) ≡ m
 all-but n l m h e = omega arith
 
 -- In a chain only the first slot has no slot before it.

@@ -49,7 +49,7 @@ module _ {t : Live} (fit : Fit t) where
   pub unsound : sound t ≡ false → Sound t → ⊥
   unsound e h = false≢true (sym e ∙ sound-yes h)
 
-number : {a b : Answer} → a ≡ b → a .number ≡ b .number
+pub number : {a b : Answer} → a ≡ b → a .number ≡ b .number
 number e = ap (λ (a : Answer). a .number) e
 
 some-is : {a b : ℕ} → some a ≡ some b → a ≡ b
@@ -59,15 +59,15 @@ given-is : {a b : ℕ} → given a ≡ given b → a ≡ b
 given-is e = some-is (ap (λ (a : Answer). a .value) e)
 
 -- yes is 1 and no is 0.
-verdict : (b : Bool) → (pick b (given 1) (given 0) ≡ given 1) ↔ (b ≡ true)
+pub verdict : (b : Bool) → (pick b (given 1) (given 0) ≡ given 1) ↔ (b ≡ true)
 verdict true = (λ e. refl, λ e. refl)
 verdict false = (λ e. absurd (omega (arith, given-is e)), λ e. absurd (false≢true e))
 
-verdict-no : (b : Bool) → (pick b (given 1) (given 0) ≡ given 0) ↔ (b ≡ false)
+pub verdict-no : (b : Bool) → (pick b (given 1) (given 0) ≡ given 0) ↔ (b ≡ false)
 verdict-no true = (λ e. absurd (omega (arith, given-is e)), λ e. absurd (false≢true (sym e)))
 verdict-no false = (λ e. refl, λ e. refl)
 
-not-one : (b : Bool) → pick b (given 1) (given 0) ≡ refused 1 → ⊥
+pub not-one : (b : Bool) → pick b (given 1) (given 0) ≡ refused 1 → ⊥
 not-one true e = omega (arith, number e)
 not-one false e = omega (arith, number e)
 

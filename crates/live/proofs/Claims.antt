@@ -64,4 +64,6 @@ claims =
       sound-one = λ t a b p q. soundness-one-to-one a b (p ∙ sym q);
       fit-one = λ t a b p q. p ∙ sym q;
       word-one = λ head k a b p q. p ∙ sym q;
+      slots-fine-one = λ t n a b p q. p ∙ sym q;
+      used-slots-one = λ cells n a b p q. p ∙ sym q;
     }

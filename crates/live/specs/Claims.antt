@@ -8,7 +8,8 @@ use Rattle.slots.specs.Answers.{OneAnswer}
 use Rattle.demands.specs.Live.{Live, fits}
 use Rattle.demands.specs.Find.{finds}
 use Rattle.demands.specs.Check.{checks}
-use Rattle.demands.specs.Sound.{sounds}
+use Rattle.shape.specs.Chain.{tally}
+use Rattle.demands.specs.Sound.{used, slotsFine, sounds}
 use Rattle.live.specs.Answers.{foundOf, checkedOf, soundOf}
 use Rattle.live.specs.declared.check.Checked.{Checked}
 use Rattle.live.specs.declared.find.Found.{Found}
@@ -23,3 +24,5 @@ pub record Claims : Type 0 where
   pub sound-one : (t : Live) → OneAnswer (λ r. soundOf r ≡ sounds t)
   pub fit-one : (t : Live) → OneAnswer (λ r. r ≡ fits t)
   pub word-one : (head : List ℕ) (k : ℕ) → OneAnswer (λ r. r ≡ getD head k null)
+  pub slots-fine-one : (t : Live) (n : ℕ) → OneAnswer (λ r. r ≡ slotsFine n n t)
+  pub used-slots-one : (cells : List ℕ) (n : ℕ) → OneAnswer (λ r. r ≡ tally n (used cells))

@@ -97,7 +97,7 @@ fn slot_fine(names: &[u64], cells: &[u32], n: usize, i: u32) -> bool
 }
 
 // T1 of each of the n slots.
-fn slots_fine(names: &[u64], cells: &[u32], n: u32) -> bool
+pub fn slots_fine(names: &[u64], cells: &[u32], n: u32) -> bool
     ensures { λ r. ⌜ r ≡ slotsFine n n (record { names = now (names .entry); cells = now (cells .entry); head = [] }) ⌝ }
 {
     let mut k = n;
@@ -123,7 +123,7 @@ fn used_slot(cells: &[u32], i: u32) -> u32
 }
 
 // The number of the n slots that are not free.
-fn used_slots(cells: &[u32], n: u32) -> u32
+pub fn used_slots(cells: &[u32], n: u32) -> u32
     ensures { λ r. ⌜ r ≡ tally n (used (now (cells .entry))) ⌝ }
 {
     let mut count: u32 = 0;

@@ -105,7 +105,7 @@ module _ (n : ℕ) (cells : List ℕ) where
   hangs-inside h y = hangs-stand h y .words .inside
 
   -- The top of a tree with a member.
-  top-in : {q : ℕ} {t : Tree} → Hangs n cells q t → top t ≢ null → 1 ≤ times (top t) (slots t)
+  pub top-in : {q : ℕ} {t : Tree} → Hangs n cells q t → top t ≢ null → 1 ≤ times (top t) (slots t)
   top-in Hangs.none d = absurd (d refl)
   top-in (Hangs.some {c = c} {l} {i} {r} w a b) d = omega (arith, times-node i c l i r, times-head i (slots r))
 
@@ -236,14 +236,21 @@ module _ (n : ℕ) (cells : List ℕ) where
         λ s. node (f s) (g s) (e s) (h s)
 
     module _ (root : ℕ) where
+      -- With v visits at hand.
+      pub reached-tree : (v rest : ℕ) → reached v n cells null root v ≡ some rest → (t : Tree) × Rooted n cells root t × (length (slots t) + rest ≡ v)
+      reached-tree v rest e = let h = reach v null root v rest 0 (home refl) e in (h .tree, record { from = h .from; hangs = h .hangs; once = h .once }, h .spent)
+
+      pub tree-reached : (v : ℕ) {t : Tree} → Rooted n cells root t → length (slots t) ≤ v → reached v n cells null root v ≡ some (v - length (slots t))
+      tree-reached v h l = rw (h .from) (reaches v v (h .hangs) (h .once) l l)
+
       pub reached-rooted : (rest : ℕ) → reached n n cells null root n ≡ some rest → (t : Tree) × Rooted n cells root t × (length (slots t) + rest ≡ n)
-      reached-rooted rest e = let h = reach n null root n rest 0 (home refl) e in (h .tree, record { from = h .from; hangs = h .hangs; once = h .once }, h .spent)
+      reached-rooted rest e = reached-tree n rest e
 
       pub rooted-most : {t : Tree} → Rooted n cells root t → length (slots t) ≤ n
       rooted-most {t} h = length-most n (slots t) (λ k y. hangs-inside (h .hangs) y) (h .once)
 
       pub rooted-reached : {t : Tree} → Rooted n cells root t → reached n n cells null root n ≡ some (n - length (slots t))
-      rooted-reached {t} h = rw (h .from) (reaches n n (h .hangs) (h .once) (rooted-most h) (rooted-most h))
+      rooted-reached h = tree-reached n h (rooted-most h)
 
       pub rooted-unique : {t u : Tree} → Rooted n cells root t → Rooted n cells root u → t ≡ u
       rooted-unique h g = hangs-unique (sym (h .from) ∙ g .from) (h .hangs) (g .hangs)

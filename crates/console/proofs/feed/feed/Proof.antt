@@ -36,7 +36,7 @@ abbrev μ-loop : tie.MeasureT-loop
     length chunk - i
 
 returns : tie.Need-returns Inv-loop μ-loop
-returns c = feeds-short _ _ (c .if1 .taken)
+returns c = (feeds-short _ _ (c .if1 .taken), search needs)
 
 loop-holds : tie.Need-loop-holds Inv-loop μ-loop
 loop-holds c = search needs
@@ -63,7 +63,7 @@ returns-2 : tie.Need-returns-2 Inv-loop μ-loop
 returns-2 c =
     let at-loop = c .before .before in
     let a = at-loop .before .before .before .before .before .before .before .before .args in
-    feeding-full (now (a .chunk)) (at-loop .loop .i) _ (c .before .loop-test .taken) (c .if2 .taken) ∙ at-loop .loop .inv .0 ∙ feeds-long (now (a .chunk)) _ (at-loop .before .if1 .left)
+    (feeding-full (now (a .chunk)) (at-loop .loop .i) _ (c .before .loop-test .taken) (c .if2 .taken) ∙ at-loop .loop .inv .0 ∙ feeds-long (now (a .chunk)) _ (at-loop .before .if1 .left), search needs)
 
 shared-slice-read-take-byte : tie.Need-shared-slice-read-take-byte Inv-loop μ-loop
 shared-slice-read-take-byte c = search needs
@@ -114,7 +114,7 @@ returns-3 : tie.Need-returns-3 Inv-loop μ-loop
 returns-3 c =
     let at-loop = c .before in
     let a = at-loop .before .before .before .before .before .before .before .before .args in
-    feeding-over (now (a .chunk)) (at-loop .loop .i) _ (c .loop-test .left) ∙ at-loop .loop .inv .0 ∙ feeds-long (now (a .chunk)) _ (at-loop .before .if1 .left)
+    (feeding-over (now (a .chunk)) (at-loop .loop .i) _ (c .loop-test .left) ∙ at-loop .loop .inv .0 ∙ feeds-long (now (a .chunk)) _ (at-loop .before .if1 .left), search needs)
 
 pub feed-spec : {M : Type 1} → statement M
 feed-spec =

@@ -1,14 +1,16 @@
 -- There is no room, no line has begun, or the line is answered.
 use Rattle.dialogue.proofs.Feeding.{ends-short, ends-none, ends-line}
+use native.Mathlib.Omega.{arith}
+use Rattle.console.proofs.Turns.{turn-within}
 use borrow.Author.Needs.{needs}
 use Rattle.console.proofs.feed.finish.Statement.{statement}
 use Rattle.console.proofs.feed.finish.Tie as tie
 
 returns : tie.Need-returns
-returns c = ends-short _ (c .if1 .taken)
+returns c = (ends-short _ (c .if1 .taken), search needs)
 
 returns-2 : tie.Need-returns-2
-returns-2 c = ends-none _ (c .before .if1 .left) (c .if2 .taken)
+returns-2 c = (ends-none _ (c .before .if1 .left) (c .if2 .taken), search needs)
 
 reply-kept-requires : tie.Need-reply-kept-requires
 reply-kept-requires c κs = search needs
@@ -35,7 +37,7 @@ returns-3 : tie.Need-returns-3
 returns-3 c =
     let c6 = c .before .before .before .before .before .before .before .before .before .before .before in
     let c7 = c6 .before .before .before .before .before .before in
-    ends-line _ (c7 .before .if1 .left) (c7 .if2 .left) (c6 .reply-kept .ensures) (c .blank .ensures)
+    (ends-line _ (c7 .before .if1 .left) (c7 .if2 .left) (c6 .reply-kept .ensures) (c .blank .ensures), turn-within _ _ _ (c6 .reply-kept .ensures) (omega arith))
 
 pub finish-spec : {M : Type 1} → statement M
 finish-spec =

@@ -1,0 +1,236 @@
+-- What one step of each walk comes to: at null or at the end, with no visits left, and at a slot, a word, a header or a bin.
+use mathlib.Core.Path.{_≡_, refl, ap, sym, _∙_}
+use mathlib.Core.Logic.{_≢_}
+use mathlib.Core.Bool.{Bool, true, false}
+use mathlib.Core.List.{List, []}
+use Prim.Native.Nat.{ℕ, zero, suc, _+_, _-_, _*_, _<_, _≤_}
+use native.Mathlib.Numerals.{sub-one, add-one}
+use native.Mathlib.Decide.{ℕ-discrete}
+use native.Mathlib.Omega.{arith}
+use lib.ListN.{length, getD}
+use lib.Bits.{and-zero-r}
+use lib.Dec.{eqb}
+use borrow.Author.Tests.{eq-eqb, ne-eqb}
+use Rattle.slots.specs.Words.{null, pick, left, right, next, cell, nameOf, hashPart}
+use Rattle.slots.specs.Answers.{Answer, Value, none, some, given, refused}
+use Rattle.shape.specs.Rules.{then}
+use Rattle.sets.specs.Words.{Set, fits, tablesOf, lengthAt, Bin, empty, moved, bad, list, tree, binAt, bini}
+use Rattle.sets.specs.Accepting.{isHome, samePair, unlike, listSlotFine, listFine, treeHome, anyWord, isBlank, headerFine, headersFine, treeFine, placed, ownFine, isMoved, binAsks, binFine, belowFine, tableFine}
+use Rattle.sets.proofs.Fit.{fits-fit, length-bound}
+use Rattle.sets.proofs.Forest.{row-found}
+use Rattle.bins.specs.Answers.{binis}
+use Rattle.acceptance.specs.Room.{Room}
+
+some-is : {a b : ℕ} → some a ≡ some b → a ≡ b
+some-is e = cc
+
+-- The numbers of the recursion stay within their words.
+pub room-near : {lengths : List ℕ} {left k i : ℕ} → Room lengths left k i → left ≢ 0 → Room lengths (left - 1) (k + 1) i
+room-near r d = record { tables = omega (arith, r .tables); index = omega (arith, r .index); lengths-most = r .lengths-most }
+
+pub room-far : {lengths : List ℕ} {left k i len : ℕ} → Room lengths left k i → left ≢ 0 → len ≡ getD lengths k 0 → Room lengths (left - 1) (k + 1) (i + len)
+room-far {k = k} r d e =
+    record { tables = omega (arith, r .tables); index = omega (arith, r .index, r .lengths-most k); lengths-most = r .lengths-most }
+
+-- The bin that a hash names, and where there is none the mask is 0.
+module _ (names : List ℕ) (len i x : ℕ) {hash : ℕ} (e : hash ≡ nameOf names x hashPart) where
+  pub home-bin : {j : ℕ} → given j ≡ binis len hash → eqb j i ≡ isHome names len i x
+  unfolding isHome binis
+  home-bin {j} h = go (ℕ-discrete len 0)
+    where
+      go : Dec (len ≡ 0) → eqb j i ≡ eqb (bini len (nameOf names x hashPart)) i
+      go (yes z) = absurd (omega (arith, ap (λ (a : Answer). a .number) (rw (eq-eqb len 0 z) at h)))
+      go (no d) =
+          let f : given j ≡ given (bini len hash) = rw (ne-eqb len 0 d) at h in
+          let g : j ≡ bini len hash = some-is (ap (λ (a : Answer). a .value) f) in
+          rw (← e, g)
+
+  pub home-none : refused 1 ≡ binis len hash → eqb 0 i ≡ isHome names len i x
+  unfolding isHome binis bini
+  home-none h = go (ℕ-discrete len 0)
+    where
+      go : Dec (len ≡ 0) → eqb 0 i ≡ eqb (bini len (nameOf names x hashPart)) i
+      go (yes z) = rw z (ap (λ (j : ℕ). eqb j i) (sym (and-zero-r (nameOf names x hashPart))))
+      go (no d) = absurd (omega (arith, ap (λ (a : Answer). a .number) (rw (ne-eqb len 0 d) at h)))
+
+module _ (names cells : List ℕ) (x y : ℕ) where
+  pub unlike-null : (v : ℕ) → y ≡ null → true ≡ unlike v names cells x y
+  unfolding unlike
+  unlike-null zero e = simp (eq-eqb y null e)
+  unlike-null (suc v) e = simp (eq-eqb y null e)
+
+  pub unlike-spent : (v : ℕ) → y ≢ null → v ≡ 0 → false ≡ unlike v names cells x y
+  unfolding unlike
+  unlike-spent zero d e = simp (ne-eqb y null d)
+  unlike-spent (suc v) d e = absurd (omega arith)
+
+  pub unlike-same : (v : ℕ) → y ≢ null → v ≢ 0 → {b : Bool} → b ≡ samePair names x y → b ≡ true → false ≡ unlike v names cells x y
+  unfolding unlike
+  unlike-same zero d n e f = absurd (n refl)
+  unlike-same (suc v) d n e f = rw (ne-eqb y null d, ← e, f)
+
+  pub unlike-on : (v : ℕ) → y ≢ null → v ≢ 0 → {b : Bool} → b ≡ samePair names x y → b ≡ false → {z : ℕ} → z ≡ cell cells y next
+      → unlike (v - 1) names cells x z ≡ unlike v names cells x y
+  unfolding unlike
+  unlike-on zero d n e f g = absurd (n refl)
+  unlike-on (suc v) d n e f g = rw (sub-one, ne-eqb y null d, ← e, f, g)
+
+module _ (names cells : List ℕ) (len i x : ℕ) where
+  pub list-null : (v : ℕ) → x ≡ null → some v ≡ listFine v names cells len i x
+  unfolding listFine
+  list-null zero e = simp (eq-eqb x null e)
+  list-null (suc v) e = simp (eq-eqb x null e)
+
+  pub list-spent : (v : ℕ) → x ≢ null → v ≡ 0 → none ≡ listFine v names cells len i x
+  unfolding listFine
+  list-spent zero d e = simp (ne-eqb x null d)
+  list-spent (suc v) d e = absurd (omega arith)
+
+  pub list-wrong : (v : ℕ) → x ≢ null → v ≢ 0 → {b : Bool} → b ≡ listSlotFine (v - 1) names cells len i x → b ≡ false → none ≡ listFine v names cells len i x
+  unfolding listFine
+  list-wrong zero d n e f = absurd (n refl)
+  list-wrong (suc v) d n e f = let g = rw sub-one at e in rw (ne-eqb x null d, ← g, f)
+
+  pub list-on : (v : ℕ) → x ≢ null → v ≢ 0 → {b : Bool} → b ≡ listSlotFine (v - 1) names cells len i x → b ≡ true → {y : ℕ} → y ≡ cell cells x next
+      → listFine (v - 1) names cells len i y ≡ listFine v names cells len i x
+  unfolding listFine
+  list-on zero d n e f h = absurd (n refl)
+  list-on (suc v) d n e f h = let g = rw sub-one at e in rw (sub-one, ne-eqb x null d, ← g, f, h)
+
+  pub home-null : (depth : ℕ) → x ≡ null → true ≡ treeHome depth names cells len i x
+  unfolding treeHome
+  home-null zero e = simp (eq-eqb x null e)
+  home-null (suc depth) e = simp (eq-eqb x null e)
+
+  pub home-zero : (depth : ℕ) → x ≢ null → depth ≡ 0 → false ≡ treeHome depth names cells len i x
+  unfolding treeHome
+  home-zero zero d e = simp (ne-eqb x null d)
+  home-zero (suc depth) d e = absurd (omega arith)
+
+  pub home-on : (depth : ℕ) → x ≢ null → depth ≢ 0
+      → treeHome depth names cells len i x
+      ≡ pick (isHome names len i x)
+      (pick (treeHome (depth - 1) names cells len i (cell cells x left)) (treeHome (depth - 1) names cells len i (cell cells x right)) false)
+      false
+  unfolding treeHome
+  home-on zero d n = absurd (n refl)
+  home-on (suc depth) d n = rw (ne-eqb x null d, sub-one)
+
+module _ (bins : List ℕ) (w : ℕ) where
+  pub any-none : (p : ℕ) → p ≤ 0 → false ≡ anyWord p bins w
+  unfolding anyWord
+  any-none zero h = refl
+  any-none (suc p) h = absurd (omega arith)
+
+  pub any-here : (p : ℕ) → 0 < p → getD bins (p - 1) 0 ≡ w → true ≡ anyWord p bins w
+  unfolding anyWord
+  any-here zero h e = absurd (omega arith)
+  any-here (suc p) h e = let g = rw sub-one at e in rw (eq-eqb (getD bins p 0) w g)
+
+  pub any-on : (p : ℕ) → 0 < p → getD bins (p - 1) 0 ≢ w → anyWord (p - 1) bins w ≡ anyWord p bins w
+  unfolding anyWord
+  any-on zero h d = absurd (omega arith)
+  any-on (suc p) h d = let g : getD bins p 0 ≢ w = rw sub-one at d in rw (sub-one, ne-eqb (getD bins p 0) w g)
+
+module _ (heads bins : List ℕ) where
+  module _ (h : ℕ) {root first count : ℕ} (e : root ≡ getD heads (3 * h + 0) null) (f : first ≡ getD heads (3 * h + 1) null) (g : count ≡ getD heads (3 * h + 2) null) {b : Bool} (k : b ≡ isBlank root first count) where
+    blank-is : isBlank (getD heads (3 * h) null) (getD heads (3 * h + 1) null) (getD heads (3 * h + 2) null) ≡ b
+    blank-is = let z : 3 * h + 0 ≡ 3 * h = omega arith in let y = rw z at e in rw (← y, ← f, ← g, ← k)
+
+    pub header-blank : b ≡ true → true ≡ headerFine heads bins h
+    unfolding headerFine
+    header-blank l = rw (blank-is, l)
+
+    pub header-named : b ≡ false → {r : Bool} → r ≡ anyWord (length bins) bins (4098 + h) → r ≡ headerFine heads bins h
+    unfolding headerFine
+    header-named l n = rw (blank-is, l, n)
+
+  pub headers-none : (h : ℕ) → h ≤ 0 → true ≡ headersFine h heads bins
+  unfolding headersFine
+  headers-none zero b = refl
+  headers-none (suc h) b = absurd (omega arith)
+
+  pub headers-not : (h : ℕ) → 0 < h → {r : Bool} → r ≡ headerFine heads bins (h - 1) → r ≡ false → false ≡ headersFine h heads bins
+  unfolding headersFine
+  headers-not zero b e f = absurd (omega arith)
+  headers-not (suc h) b e f = let g = rw sub-one at e in rw (← g, f)
+
+  pub headers-on : (h : ℕ) → 0 < h → {r : Bool} → r ≡ headerFine heads bins (h - 1) → r ≡ true → headersFine (h - 1) heads bins ≡ headersFine h heads bins
+  unfolding headersFine
+  headers-on zero b e f = absurd (omega arith)
+  headers-on (suc h) b e f = let g = rw sub-one at e in rw (sub-one, ← g, f)
+
+module _ (s : Set) where
+  -- A tree bin reads the three words of its header.
+  pub own-tree : (len i h v : ℕ) {root first count : ℕ} → root ≡ getD (s .heads) (3 * h + 0) null → first ≡ getD (s .heads) (3 * h + 1) null → count ≡ getD (s .heads) (3 * h + 2) null
+      → {o : Value} → o ≡ treeFine (s .names) (s .cells) len i root first count v → o ≡ ownFine s len i (tree h) v
+  unfolding ownFine
+  own-tree len i h v e f g k = let z : 3 * h + 0 ≡ 3 * h = omega arith in let y = rw z at e in rw (← y, ← f, ← g) k
+
+  pub below-none : (left k i : ℕ) (may : Bool) (v : ℕ) → left ≡ 0 → some v ≡ belowFine left s k i may v
+  unfolding belowFine
+  below-none zero k i may v e = refl
+  below-none (suc left) k i may v e = absurd (omega arith)
+
+  below-on : (left k i : ℕ) (may : Bool) (v : ℕ) → left ≢ 0
+      → belowFine left s k i may v ≡ then (binFine (left - 1) s (k + 1) i may v) (λ w. binFine (left - 1) s (k + 1) (i + lengthAt s k) may w)
+  unfolding belowFine binFine
+  below-on zero k i may v d = absurd (d refl)
+  below-on (suc left) k i may v d = rw (sub-one, add-one)
+
+  pub below-wrong : (left k i : ℕ) (may : Bool) (v : ℕ) → left ≢ 0 → none ≡ binFine (left - 1) s (k + 1) i may v → none ≡ belowFine left s k i may v
+  below-wrong left k i may v d e = sym (below-on left k i may v d ∙ rw (← e))
+
+  pub below-both : (left k i : ℕ) (may : Bool) (v : ℕ) → left ≢ 0 → {len : ℕ} → len ≡ lengthAt s k → {rest : ℕ} → some rest ≡ binFine (left - 1) s (k + 1) i may v
+      → {o : Value} → o ≡ binFine (left - 1) s (k + 1) (i + len) may rest → o ≡ belowFine left s k i may v
+  below-both left k i may v d l e f = f ∙ sym (below-on left k i may v d ∙ rw (← e, ← l))
+
+  -- The list or tree of a bin reads no table.
+  own-same : (len i : ℕ) (b : Bin) (v : ℕ) → ownFine (record { lengths = []; bins = []; heads = s .heads; names = s .names; cells = s .cells }) len i b v ≡ ownFine s len i b v
+  unfolding ownFine
+  own-same len i empty v = refl
+  own-same len i moved v = refl
+  own-same len i (list a) v = refl
+  own-same len i (tree h) v = refl
+  own-same len i bad v = refl
+
+  module _ (left k i : ℕ) (may : Bool) (v : ℕ) {b : Bin} (e : b ≡ binAt s k i) {stands : Bool} (f : stands ≡ placed b may left) where
+    pub bin-misplaced : stands ≡ false → none ≡ binFine left s k i may v
+    unfolding binFine binAsks
+    bin-misplaced g = rw (← e, ← f, g)
+
+    module _ (g : stands ≡ true) {len : ℕ} (l : len ≡ lengthAt s k) where
+      pub bin-wrong : none ≡ ownFine (record { lengths = []; bins = []; heads = s .heads; names = s .names; cells = s .cells }) len i b v → none ≡ binFine left s k i may v
+      unfolding binFine binAsks
+      bin-wrong o = let p : none ≡ ownFine s len i b v = o ∙ own-same len i b v in rw (← e, ← f, g, ← l, ← p)
+
+      pub bin-on : {rest : ℕ} → some rest ≡ ownFine (record { lengths = []; bins = []; heads = s .heads; names = s .names; cells = s .cells }) len i b v
+          → {opened : Bool} → opened ≡ isMoved b → {o : Value} → o ≡ belowFine left s k i opened rest → o ≡ binFine left s k i may v
+      unfolding binFine binAsks
+      bin-on {rest} o m r = let p : some rest ≡ ownFine s len i b v = o ∙ own-same len i b v in rw (← e, ← f, g, ← l, ← p, ← m) r
+
+  pub table-none : (i v : ℕ) → i ≤ 0 → some v ≡ tableFine i s v
+  unfolding tableFine
+  table-none zero v h = refl
+  table-none (suc i) v h = absurd (omega arith)
+
+  table-on : (i v : ℕ) → 0 < i → tableFine i s v ≡ then (binFine (tablesOf s - 1) s 0 (i - 1) true v) (λ w. tableFine (i - 1) s w)
+  unfolding tableFine
+  table-on zero v h = absurd (omega arith)
+  table-on (suc i) v h = let z : suc i - 1 ≡ i = omega arith in rw z
+
+  pub table-wrong : (i v : ℕ) → 0 < i → none ≡ binFine (tablesOf s - 1) s 0 (i - 1) true v → none ≡ tableFine i s v
+  table-wrong i v h e = sym (table-on i v h ∙ rw (← e))
+
+  pub table-step : (i v : ℕ) → 0 < i → {rest : ℕ} → some rest ≡ binFine (tablesOf s - 1) s 0 (i - 1) true v → tableFine (i - 1) s rest ≡ tableFine i s v
+  table-step i v h e = sym (table-on i v h ∙ rw (← e))
+
+  module _ (fine : fits s ≡ true) where
+    -- A walk hands back at most its visits.
+    pub table-within : (i v rest : ℕ) → tableFine i s v ≡ some rest → rest ≤ v
+    table-within i v rest e = let r = row-found (fits-fit s fine) i v rest e in omega (arith, r .2)
+
+    pub room-first : (i : ℕ) → i ≤ lengthAt s 0 → Room (s .lengths) (tablesOf s - 1) 0 (i - 1)
+    room-first i b =
+        let fit = fits-fit s fine in
+        record { tables = omega (arith, fit .most); index = omega (arith, length-bound fit 0); lengths-most = length-bound fit }

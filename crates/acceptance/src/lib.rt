@@ -1,0 +1,6 @@
+// Acceptance of a frozen set.
+pub mod accept;
+mod below;
+mod headers;
+mod lists;
+mod trees;

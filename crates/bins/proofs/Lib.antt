@@ -1,0 +1,3 @@
+pub mod Binned
+pub mod Sized
+pub mod Claims

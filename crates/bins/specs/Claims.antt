@@ -1,0 +1,27 @@
+-- What crate `bins` proves beside its contracts: its answers are told apart, `bini` refuses exactly length 0, and each public routine has one outcome.
+use mathlib.Core.Path.{_≡_}
+use mathlib.Core.Logic.{_≢_, _↔_}
+use mathlib.Core.List.{List}
+use Prim.Native.Nat.{ℕ, _+_, _*_}
+use lib.ListN.{getD}
+use Rattle.slots.specs.Words.{null}
+use Rattle.slots.specs.Answers.{OneAnswer, given, refused}
+use Rattle.sets.specs.Words.{Set, begins, fits, binOf, bini}
+use Rattle.bins.specs.Answers.{binAs, homeOf, binis}
+use Rattle.bins.specs.declared.bin.Bin.{Bin}
+use Rattle.bins.specs.declared.bin.Home.{Home}
+
+pub record Claims : Type 0 where
+  -- "`bini` on length 0 underflows. We refuse length 0 with 1."
+  pub length-zero : (len hash : ℕ) → (binis len hash ≡ refused 1) ↔ (len ≡ 0)
+  -- "The bin for a hash is hash AND (length-1)."
+  pub length-more : (len hash : ℕ) → len ≢ 0 → binis len hash ≡ given (bini len hash)
+  pub bin-one-to-one : (a b : Bin) → binAs a ≡ binAs b → a ≡ b
+  pub home-one-to-one : (a b : Home) → homeOf a ≡ homeOf b → a ≡ b
+  pub bin-of-one : (n h w : ℕ) → OneAnswer (λ r. binAs r ≡ binOf n h w)
+  pub bini-one : (len hash : ℕ) → OneAnswer (λ r. homeOf r ≡ binis len hash)
+  pub bin-word-one : (lengths bins : List ℕ) (k i : ℕ) → OneAnswer (λ r. r ≡ getD bins (begins lengths k + i) 0)
+  pub header-one : (heads : List ℕ) (h f : ℕ) → OneAnswer (λ r. r ≡ getD heads (3 * h + f) null)
+  pub length-at-one : (lengths : List ℕ) (k : ℕ) → OneAnswer (λ r. r ≡ getD lengths k 0)
+  pub bins-before-one : (lengths : List ℕ) (k : ℕ) → OneAnswer (λ r. r ≡ begins lengths k)
+  pub fit-set-one : (s : Set) → OneAnswer (λ r. r ≡ fits s)

@@ -1,0 +1,10 @@
+pub mod Fit
+pub mod Gate
+pub mod Lists
+pub mod Trees
+pub mod Forest
+pub mod Gathering
+pub mod Naming
+pub mod Homes
+pub mod Accepting
+pub mod Claims
