@@ -1,11 +1,10 @@
 -- What each way out of the decision on a bin's word says, by the tests that led there.
-use mathlib.Core.Path.{_≡_, refl, sym}
+use mathlib.Core.Path.{_≡_}
 use mathlib.Core.Logic.{_≢_}
 use Prim.Native.Nat.{ℕ, _-_, _<_, _≤_}
 use native.Mathlib.Omega.{arith}
-use lib.Dec.{eqb, leb, ltb}
 use borrow.Author.Tests.{eq-eqb, ne-eqb, le-leb, lt-leb, lt-ltb, le-ltb}
-use Rattle.sets.specs.Words.{Bin, empty, moved, list, tree, bad, binOf}
+use Rattle.sets.specs.Words.{empty, moved, list, tree, bad, binOf}
 
 module _ (n h w : ℕ) where
   pub zero-empty : w ≡ 0 → empty ≡ binOf n h w

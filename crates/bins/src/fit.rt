@@ -1,8 +1,7 @@
 // Whether lent slices are a frozen set's, and where the bins of a table begin.
 ghost use mathlib.Core.Path.{_≡_};
-ghost use Prim.Native.Nat.{_≤_};
 ghost use lib.ListN.{length, getD};
-ghost use Rattle.sets.specs.Words.{Set, begins, doubling, fits};
+ghost use Rattle.sets.specs.Words.{begins, doubling, fits};
 ghost use Rattle.sets.specs.Words.{doubled as allDoubled, fitTables};
 ghost use Rattle.bins.specs.Answers.{fitSlots};
 

@@ -32,13 +32,13 @@ below-not h k (inl l) = omega arith
 below-not h k (inr l) = omega (arith, k (l .0), l .1)
 
 module _ (names cells : List ℕ) (few : slotsOf names ≤ null) (hash key : ℕ) where
-  abbrev Sought : ℕ → Type 0
+  abbrev pub Sought : ℕ → Type 0
   Sought k = pairOf names k ≡ pair hash key
 
   -- What a search that ends with this answer says of the tree.
-  record Answers (t : Tree) (a : Answer) : Type 0 where
-    at : (x : ℕ) → 1 ≤ times x (slots t) → Sought x → a ≡ given x
-    none : ((k : ℕ) → 1 ≤ times k (slots t) → Sought k → ⊥) → a ≡ nothing
+  pub record Answers (t : Tree) (a : Answer) : Type 0 where
+    pub at : (x : ℕ) → 1 ≤ times x (slots t) → Sought x → a ≡ given x
+    pub none : ((k : ℕ) → 1 ≤ times k (slots t) → Sought k → ⊥) → a ≡ nothing
 
   tail : {j : ℕ} {m : List ℕ} → Rising names (j ∷ m) → Rising names m
   tail (Rising.rise h r) = r
@@ -172,7 +172,7 @@ module _ (names cells : List ℕ) (few : slotsOf names ≤ null) (hash key : ℕ
           to-right (look .key-less eh (omega arith) x y) (rights (not-own (λ e f. k f)) (below-not (omega arith) (λ e. omega arith)))
 
   -- From a subtree's top, with a visit for each of its slots.
-  seeks : {q : ℕ} {t : Tree} → Hangs (slotsOf names) cells q t → Rising names (slots t) → (v : ℕ) → length (slots t) ≤ v
+  pub seeks : {q : ℕ} {t : Tree} → Hangs (slotsOf names) cells q t → Rising names (slots t) → (v : ℕ) → length (slots t) ≤ v
       → Answers t (searched names cells v (top t) hash key .answer)
   unfolding slots times
   seeks hangsNone rising v l =

@@ -10,8 +10,8 @@ use slots::put;
 
 pub const KEYS: u32 = 48;
 
-// The words of a journal of 64 lines that come after its length.
-const LINE_WORDS: u32 = 256;
+// The words of a journal of 512 lines that come after its length.
+const LINE_WORDS: u32 = 2048;
 
 // All slots free, from words that are null.
 pub fn clear_all(cells: &mut [u32], n: u32) {

@@ -29,8 +29,14 @@ use Rattle.demands.proofs.Claims.{claims as demanded}
 use Rattle.demands.specs.Calls.{after}
 use Rattle.demands.specs.Insert.{freeFrom, lowestFree, soughtIn, fronted, grown, inserts}
 use Rattle.demands.specs.Remove.{unchained, wiped, shrunk, removes}
+use Rattle.sets.specs.Words.{begins, doubling, doubled, fitTables, binOf}
+use Rattle.sets.specs.Words.{fits as setFits}
+use Rattle.walks.specs.Cursor.{starts, levelFine, levelsFine, baseFine, fine}
+use Rattle.walks.specs.Walk.{kept, advanced, sought, under, walked, nexts}
+use Rattle.walks.specs.Held.{after as stepped}
 use Rattle.examples.specs.Claims.{Claims}
-use Rattle.examples.specs.Worked.{empty, zeros, freeSlots, drawn, drawnFrom, chainOf, chainFrom}
+use Rattle.examples.specs.Worked.{empty, zeros, freeSlots, drawn, drawnFrom, chainOf, chainFrom, listSlots, tables, bin}
+use Rattle.examples.specs.Worked.{given as walks}
 
 empty-find : (t : Live) → Fit t → Sound t → countOf t ≡ 0 → (hash key : ℕ) → finds t hash key ≡ nothing
 unfolding finds found
@@ -48,6 +54,15 @@ at-length ix fit h =
     let e : rolls ix (lengthOf (ix .lines)) ≡ outcome (given 0) (index (ix .live) (set (ix .lines) 0 (lengthOf (ix .lines)))) =
     rw (index-fits ix fit, sound-yes (fit .tree) h, le-ltb (lengthOf (ix .lines)) (lengthOf (ix .lines)) (omega arith), z, z) in
     e ∙ ap (λ (l : List ℕ). outcome (given 0) (index (ix .live) l)) (set-same (ix .lines) (omega (arith, fit .four)))
+
+-- The walk of the worked tables.
+walk-order : walks 7 tables (starts tables 0 .cursor) ≡ bin 2 0 ∷ (bin 2 4 ∷ (bin 2 2 ∷ (bin 2 6 ∷ (bin 1 1 ∷ (bin 1 3 ∷ [])))))
+unfolding walks tables listSlots cell nameOf begins doubling doubled fitTables setFits binOf starts levelFine levelsFine baseFine fine kept advanced sought under walked nexts
+walk-order = refl
+
+walk-done : nexts tables (stepped 6 tables (starts tables 0 .cursor)) .answer ≡ nothing
+unfolding tables listSlots cell begins doubling doubled fitTables setFits binOf starts levelFine levelsFine baseFine fine kept advanced sought under walked nexts stepped
+walk-done = refl
 
 pub claims : Claims
 unfolding empty zeros freeSlots drawn drawnFrom chainOf chainFrom cell write nameOf rename roomy chained tally linksIn decided looked searched found stands reached follows risen calmed levelled rises coloured level capped settled tucked eased sunk deletionTurn balancedDeletion descended hooked inserted placed raised straightened lifted insertionTurn insertionTurns balancedInsertion replaced lowered traded replacement spliced detached dropped leftmost removed hung turned rotated after fitsJournal fitsIndex lined appended freeFrom lowestFree soughtIn fronted grown inserts fits unchained wiped shrunk removes isCleared slotFine slotsFine rule1 rule2 rule3 rule4 rule5 rule6 rule7 sound
@@ -70,4 +85,6 @@ claims =
       one-more = λ ix fit h. demanded .rollback ix (lengthOf (ix .lines) + 1) .seven .1 (fit, h, omega arith);
       both-tree = refl;
       both-looks = refl;
+      walk-order = walk-order;
+      walk-done = walk-done;
     }

@@ -14,7 +14,11 @@ use Rattle.demands.specs.Insert.{inserts}
 use Rattle.demands.specs.Remove.{removes}
 use Rattle.demands.specs.Rollback.{rolls}
 use Rattle.demands.specs.Calls.{after, Lowest}
-use Rattle.examples.specs.Worked.{empty, add, take, Drawing, none, black, red, drawn, chainOf}
+use Rattle.walks.specs.Cursor.{starts}
+use Rattle.walks.specs.Walk.{nexts}
+use Rattle.walks.specs.Held.{after as stepped}
+use Rattle.examples.specs.Worked.{empty, add, take, Drawing, none, black, red, drawn, chainOf, tables, bin}
+use Rattle.examples.specs.Worked.{given as walks}
 
 -- 1, 2, 3 and then 4; then without 1.
 abbrev pub three : Index
@@ -55,3 +59,6 @@ pub record Claims : Type 0 where
   pub both-looks :
       let t = after (add 1 ∷ (add 2 ∷ [])) (empty 4 8) .live in
       found (t .names) (t .cells) (rootOf t) 0 0 ≡ record { answer = nothing; looks = 0 ∷ (1 ∷ []) }
+  -- "Table lengths 2, 4, 8; Moved: both of table 0, bins 0 and 2 of table 1. Walk order: table 2 bins 0, 4, 2, 6, then table 1 bins 1, 3."
+  pub walk-order : walks 7 tables (starts tables 0 .cursor) ≡ bin 2 0 ∷ (bin 2 4 ∷ (bin 2 2 ∷ (bin 2 6 ∷ (bin 1 1 ∷ (bin 1 3 ∷ [])))))
+  pub walk-done : nexts tables (stepped 6 tables (starts tables 0 .cursor)) .answer ≡ nothing

@@ -1,11 +1,16 @@
 -- The trees and calls of the worked examples. "Hash 0 unless said."
-use mathlib.Core.List.{List, [], _∷_}
+use mathlib.Core.List.{List, [], _∷_, _++_}
 use Prim.Native.Nat.{ℕ, zero, suc, _+_, _*_}
 use lib.Dec.{eqb}
 use Rattle.slots.specs.Words.{null, pick, state, left, right, next, free, cell, nameOf, keyPart}
+use Rattle.slots.specs.Pairs.{Pair, pair, pairOf}
+use Rattle.slots.specs.Answers.{Value, none as noValue, some}
 use Rattle.demands.specs.Live.{Live, rootOf, firstOf, capacityOf}
 use Rattle.demands.specs.Index.{Index, index}
 use Rattle.demands.specs.Calls.{Call, insertCall, removeCall}
+use Rattle.sets.specs.Words.{Set}
+use Rattle.walks.specs.Cursor.{Cursor}
+use Rattle.walks.specs.Walk.{nexts}
 
 unfoldable pub zeros : ℕ → List ℕ
 zeros zero = []
@@ -52,3 +57,33 @@ chainFrom (suc n) t i = pick (eqb i null) [] (nameOf (t .names) i keyPart ∷ ch
 
 unfoldable pub chainOf : Live → List ℕ
 chainOf t = chainFrom (capacityOf t) t (firstOf t)
+
+-- The cells of n slots of lists of one.
+unfoldable pub listSlots : ℕ → List ℕ
+listSlots zero = []
+listSlots (suc n) = 0 ∷ (1 ∷ (null ∷ (null ∷ (null ∷ (null ∷ (null ∷ listSlots n))))))
+
+-- "Table lengths 2, 4, 8; Moved: both of table 0, bins 0 and 2 of table 1": with one entry in each of table 1's other bins and in the four
+-- bins below the Moved ones. An entry's hash is the number of its bin, its key that of its table.
+unfoldable pub tables : Set
+tables =
+    record {
+      lengths = 2 ∷ (4 ∷ (8 ∷ []));
+      bins = (1 ∷ (1 ∷ [])) ++ ((1 ∷ (2 ∷ (1 ∷ (3 ∷ [])))) ++ (4 ∷ (0 ∷ (5 ∷ (0 ∷ (6 ∷ (0 ∷ (7 ∷ (0 ∷ [])))))))));
+      heads = [];
+      names = 1 ∷ (1 ∷ (3 ∷ (1 ∷ (0 ∷ (2 ∷ (2 ∷ (2 ∷ (4 ∷ (2 ∷ (6 ∷ (2 ∷ [])))))))))));
+      cells = listSlots 6;
+    }
+
+-- The pairs that a walk gives, at most n, until an answer without a slot.
+abbrev pub onward : Value → Set → (ℕ → List Pair) → List Pair
+onward noValue s rest = []
+onward (some x) s rest = rest x
+
+unfoldable pub given : ℕ → Set → Cursor → List Pair
+given zero s c = []
+given (suc n) s c = onward (nexts s c .answer .value) s (λ x. pairOf (s .names) x ∷ given n s (nexts s c .cursor))
+
+-- Bin i of table k, as the entry there names it.
+abbrev pub bin : ℕ → ℕ → Pair
+bin k i = pair i k

@@ -1,20 +1,19 @@
--- The loop's invariant: no mark past the last is tried.
-use Prim.Native.Nat.{_≤_, _-_}
+-- The measure is the number of marks that are left.
+use mathlib.Core.Path.{_≡_}
+use Prim.Native.Nat.{_-_, _^_, _<_, _≤_}
+use lib.ListN.{length}
 use borrow.Author.Needs.{needs}
 use Rattle.drill.proofs.try_marks.Statement.{statement}
 use Rattle.drill.proofs.try_marks.Tie as tie
 
 abbrev Inv-loop : tie.InvT-loop
-Inv-loop names cells head rows answers lines marks after₀ m₀ after m = m ≤ marks
+Inv-loop part rows₀ out₀ marks after₀ m₀ rows out after m = (m ≤ marks) × (marks < 2 ^ 32) × (length rows ≡ length rows₀) × (length out ≡ length out₀)
 
 abbrev μ-loop : tie.MeasureT-loop
-μ-loop names cells head rows answers lines marks after₀ m₀ after m = marks - m
+μ-loop part rows₀ out₀ marks after₀ m₀ rows out after m = marks - m
 
-slice-aggregate-length : tie.Need-slice-aggregate-length Inv-loop μ-loop
-slice-aggregate-length c = search needs
-
-length-requires : tie.Need-length-requires Inv-loop μ-loop
-length-requires c κs = search needs
+length-at-requires : tie.Need-length-at-requires Inv-loop μ-loop
+length-at-requires c κs = search needs
 
 more-requires : tie.Need-more-requires Inv-loop μ-loop
 more-requires c κs = search needs
@@ -25,6 +24,9 @@ loop-holds c = search needs
 try-mark-requires : tie.Need-try-mark-requires Inv-loop μ-loop
 try-mark-requires c κs = search needs
 
+tallied-requires : tie.Need-tallied-requires Inv-loop μ-loop
+tallied-requires c κs = search needs
+
 add-m : tie.Need-add-m Inv-loop μ-loop
 add-m c = search needs
 
@@ -33,6 +35,15 @@ loop-less c = search needs
 
 loop-again : tie.Need-loop-again Inv-loop μ-loop
 loop-again c = search needs
+
+cut-once-requires : tie.Need-cut-once-requires Inv-loop μ-loop
+cut-once-requires c κs = search needs
+
+same-length : tie.Need-same-length Inv-loop μ-loop
+same-length c = search needs
+
+same-length-2 : tie.Need-same-length-2 Inv-loop μ-loop
+same-length-2 c = search needs
 
 returns : tie.Need-returns Inv-loop μ-loop
 returns c = search needs
@@ -43,12 +54,15 @@ try-marks-spec =
     (tie.spec
     Inv-loop
     μ-loop
-    slice-aggregate-length
-    length-requires
+    length-at-requires
     more-requires
     loop-holds
     try-mark-requires
+    tallied-requires
     add-m
     loop-less
     loop-again
+    cut-once-requires
+    same-length
+    same-length-2
     returns)

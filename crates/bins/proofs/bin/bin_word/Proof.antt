@@ -1,9 +1,9 @@
 -- The word where it is there, 0 where it is not.
-use mathlib.Core.Path.{sym, ap, _∙_}
+use mathlib.Core.Path.{sym}
 use denote.Ref.{now}
 use Prim.Native.Nat.{_+_, _≤_}
 use native.Mathlib.Omega.{arith}
-use lib.ListN.{length, getD, List·getD-eq-default}
+use lib.ListN.{length, List·getD-eq-default}
 use borrow.Author.Needs.{needs}
 use Rattle.sets.specs.Words.{begins}
 use Rattle.bins.proofs.bin.bin_word.Statement.{statement}

@@ -1,10 +1,9 @@
 -- The loop's invariant: the sum is what the first j tables have, at most 2 ^ 32 - 1 each.
-use mathlib.Core.Path.{_≡_, refl, sym, _∙_, ap}
+use mathlib.Core.Path.{_≡_, _∙_, ap}
 use denote.Ref.{now}
 use borrow.Author.Needs.{needs}
-use Prim.Native.Nat.{_-_, _*_, _+_, _<_, _≤_, _^_}
+use Prim.Native.Nat.{_-_, _*_, _≤_}
 use native.Mathlib.Omega.{arith}
-use lib.ListN.{getD}
 use Rattle.sets.specs.Words.{begins}
 use Rattle.bins.proofs.Sized.{begins-on}
 use Rattle.bins.proofs.fit.bins_before.Statement.{statement}

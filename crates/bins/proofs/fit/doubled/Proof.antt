@@ -1,5 +1,5 @@
 -- The loop's invariant: what is left to ask has the answer of the whole.
-use mathlib.Core.Path.{_≡_, refl, sym, _∙_}
+use mathlib.Core.Path.{_≡_, sym, _∙_}
 use denote.Ref.{now}
 use borrow.Author.Needs.{needs}
 use Prim.Native.Nat.{_-_, _*_, _<_, _^_}

@@ -1,0 +1,99 @@
+-- What is lent of the script and of its answers lies within them.
+use native.Mathlib.Omega.{arith}
+use lib.ListN.{length-take}
+use borrow.Author.Needs.{needs}
+use Rattle.drill.proofs.drill_longest.Statement.{statement}
+use Rattle.drill.proofs.drill_longest.Tie as tie
+
+slice-aggregate-load : tie.Need-slice-aggregate-load
+slice-aggregate-load c = search needs
+
+load-requires : tie.Need-load-requires
+load-requires c κs = search needs
+
+slice-reshare-prefix-record : tie.Need-slice-reshare-prefix-record
+slice-reshare-prefix-record c = search needs
+
+slice-aggregate-record : tie.Need-slice-aggregate-record
+slice-aggregate-record c = simp length-take (omega arith)
+
+record-requires : tie.Need-record-requires
+record-requires c κs = search needs
+
+slice-reshare-prefix-try-cuts : tie.Need-slice-reshare-prefix-try-cuts
+slice-reshare-prefix-try-cuts c = search needs
+
+slice-aggregate-try-cuts : tie.Need-slice-aggregate-try-cuts
+slice-aggregate-try-cuts c = simp length-take (omega arith)
+
+slice-reshare-prefix-try-cuts-2 : tie.Need-slice-reshare-prefix-try-cuts-2
+slice-reshare-prefix-try-cuts-2 c = search needs
+
+slice-aggregate-try-cuts-2 : tie.Need-slice-aggregate-try-cuts-2
+slice-aggregate-try-cuts-2 c = simp length-take (omega arith)
+
+try-cuts-requires : tie.Need-try-cuts-requires
+try-cuts-requires c κs = search needs
+
+slice-aggregate-print : tie.Need-slice-aggregate-print
+slice-aggregate-print c = search needs
+
+print-requires : tie.Need-print-requires
+print-requires c κs = search needs
+
+slice-aggregate-print-2 : tie.Need-slice-aggregate-print-2
+slice-aggregate-print-2 c = search needs
+
+print-requires-2 : tie.Need-print-requires-2
+print-requires-2 c κs = search needs
+
+slice-aggregate-print-3 : tie.Need-slice-aggregate-print-3
+slice-aggregate-print-3 c = search needs
+
+print-requires-3 : tie.Need-print-requires-3
+print-requires-3 c κs = search needs
+
+slice-aggregate-write-all : tie.Need-slice-aggregate-write-all
+slice-aggregate-write-all c = search needs
+
+write-all-requires : tie.Need-write-all-requires
+write-all-requires c κs = search needs
+
+same-length : tie.Need-same-length
+same-length c = search needs
+
+same-length-2 : tie.Need-same-length-2
+same-length-2 c = search needs
+
+same-length-3 : tie.Need-same-length-3
+same-length-3 c = search needs
+
+returns : tie.Need-returns
+returns c = search needs
+
+pub drill-longest-spec : {M : Type 1} → statement M
+drill-longest-spec =
+    tie.close
+    (tie.spec
+    slice-aggregate-load
+    load-requires
+    slice-reshare-prefix-record
+    slice-aggregate-record
+    record-requires
+    slice-reshare-prefix-try-cuts
+    slice-aggregate-try-cuts
+    slice-reshare-prefix-try-cuts-2
+    slice-aggregate-try-cuts-2
+    try-cuts-requires
+    slice-aggregate-print
+    print-requires
+    slice-aggregate-print-2
+    print-requires-2
+    slice-aggregate-print-3
+    print-requires-3
+    slice-aggregate-write-all
+    write-all-requires
+    same-length
+    same-length-2
+    same-length-3
+    returns)

@@ -1,0 +1,11 @@
+-- 01's number and value of each answer of this crate's entry point.
+use Rattle.slots.specs.Answers.{Answer, given, nothing, refused}
+use Rattle.tables.specs.declared.lookup.Looked.{Looked}
+use Rattle.tables.specs.declared.lookup.Looked.the-variants.{At, Nothing, Unfit, Unknown, Lost}
+
+abbrev pub lookedOf : Looked → Answer
+lookedOf (At slot) = given slot
+lookedOf Nothing = nothing
+lookedOf Unfit = refused 1
+lookedOf Unknown = refused 10
+lookedOf Lost = refused 9

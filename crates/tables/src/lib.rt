@@ -1,0 +1,2 @@
+// lookup: the slot of a frozen set that has a pair.
+pub mod lookup;

@@ -1,0 +1,14 @@
+pub mod Reading
+pub mod Forwarding
+pub mod Turns
+pub mod Standing
+pub mod Seeking
+pub mod Cursors
+pub mod Listing
+pub mod Looking
+pub mod Stepping
+pub mod Gates
+pub mod Nexting
+pub mod Holding
+pub mod Ending
+pub mod Claims

@@ -1,0 +1,58 @@
+-- What crate `walks` proves of lookup and the walk, in one record. Every statement of the crate stands here.
+use mathlib.Core.Path.{_≡_}
+use mathlib.Core.Logic.{_≢_, _↔_}
+use Prim.Native.Nat.{ℕ, _<_, _≤_}
+use Rattle.slots.specs.Words.{null}
+use Rattle.slots.specs.Answers.{given, nothing, refused}
+use Rattle.sets.specs.Words.{Set, tablesOf, Fit}
+use Rattle.sets.specs.Accepted.{Accepted}
+use Rattle.walks.specs.Lookup.{lookups, Astray, Hit, Miss}
+use Rattle.walks.specs.Cursor.{Cursor, Step, indexAt, lone, blank, starts, BadCursor}
+use Rattle.walks.specs.Walk.{nexts}
+use Rattle.walks.specs.Ways.{Strays, Steps}
+use Rattle.walks.specs.Held.{Reached, Made, after}
+
+-- Lookup on any words: "lookup and start 1, 10, then 9", each exactly when, and else what the bin says that the loop comes to.
+pub record Lookups (s : Set) (t hash key : ℕ) : Type 0 where
+  pub one : (lookups s t hash key ≡ refused 1) ↔ (Fit s → ⊥)
+  pub ten : (lookups s t hash key ≡ refused 10) ↔ (Fit s × (tablesOf s ≤ t))
+  pub nine : (lookups s t hash key ≡ refused 9) ↔ (Fit s × (t < tablesOf s) × Astray s t hash key)
+  pub at : (slot : ℕ) → (lookups s t hash key ≡ given slot) ↔ (Fit s × (t < tablesOf s) × Hit s t hash key slot)
+  pub none : (lookups s t hash key ≡ nothing) ↔ (Fit s × (t < tablesOf s) × Miss s t hash key)
+
+-- Lookup on an accepted set: the slot exactly where an entry with that pair is reached from t's bin for the hash, Nothing where not.
+pub record LooksUp (s : Set) (t hash key : ℕ) : Type 0 where
+  pub at : (slot : ℕ) → (lookups s t hash key ≡ given slot) ↔ Reached s t hash key slot
+  pub none : (lookups s t hash key ≡ nothing) ↔ ((slot : ℕ) → Reached s t hash key slot → ⊥)
+  pub never : (n : ℕ) → 1 ≤ n → lookups s t hash key ≢ refused n
+
+-- Start: 1, then 10, with a cursor that is all zero; else a cursor at the first bin of the table.
+pub record Starts (s : Set) (t : ℕ) : Type 0 where
+  pub one : (starts s t ≡ record { answer = refused 1; cursor = blank }) ↔ (Fit s → ⊥)
+  pub ten : (starts s t ≡ record { answer = refused 10; cursor = blank }) ↔ (Fit s × (tablesOf s ≤ t))
+  pub made : (starts s t ≡ record { answer = given 1; cursor = record { base = t; depth = 0; indexes = lone 0; last = null } }) ↔ (Fit s × (t < tablesOf s))
+
+-- Next on any words and any cursor: "walk 1, 11, then 9", each exactly when, with the same cursor; and else what 01 says of a step.
+pub record Nexts (s : Set) (c : Cursor) : Type 0 where
+  pub one : (nexts s c ≡ record { answer = refused 1; cursor = c }) ↔ (Fit s → ⊥)
+  pub eleven : (nexts s c ≡ record { answer = refused 11; cursor = c }) ↔ (Fit s × BadCursor s c)
+  pub nine : (nexts s c ≡ record { answer = refused 9; cursor = c }) ↔ (Fit s × (BadCursor s c → ⊥) × Strays s c)
+  pub steps : Fit s → (BadCursor s c → ⊥) → (r : Step) → (nexts s c ≡ r) ↔ Steps s c r
+  -- "A refusal returns its number (walk: also the same cursor)"
+  pub refuses : (n : ℕ) → 1 ≤ n → nexts s c .answer ≡ refused n → nexts s c ≡ record { answer = refused n; cursor = c }
+  -- "past the depth unread, handed back as 0"
+  pub past-depth : (x : ℕ) → nexts s c .answer ≡ given x → (j : ℕ) → nexts s c .cursor .depth < j → indexAt (nexts s c .cursor) j ≡ 0
+  -- "Done stays Done"
+  pub done : nexts s c .answer ≡ nothing → nexts s (nexts s c .cursor) ≡ nexts s c
+
+-- The walk of an accepted set: no step is refused, and repeated steps reach Done.
+pub record Walks (s : Set) (c : Cursor) : Type 0 where
+  pub never : (n : ℕ) → 1 ≤ n → nexts s c .answer ≢ refused n
+  pub ends : (n : ℕ) × (nexts s (after n s c) .answer ≡ nothing)
+
+pub record Claims : Type 0 where
+  pub looking : (s : Set) (t hash key : ℕ) → Lookups s t hash key
+  pub starting : (s : Set) (t : ℕ) → Starts s t
+  pub stepping : (s : Set) (c : Cursor) → Nexts s c
+  pub looking-accepted : (s : Set) → Fit s → Accepted s → (t hash key : ℕ) → t < tablesOf s → LooksUp s t hash key
+  pub walking-accepted : (s : Set) → Fit s → Accepted s → (c : Cursor) → Made s c → Walks s c
