@@ -1,0 +1,129 @@
+// Runs the source's own answers, a fixed list of calls, words and verdicts, and compares each with ours.
+mod calls;
+mod list;
+mod words;
+
+use calls::line;
+use libc::STDOUT_FILENO;
+use list::number;
+use slots::NULL;
+use words::clear;
+use words::one_if;
+
+// The lines of a tree, up to the next tree: where it starts, how many there were and how many of them differ.
+struct Seen {
+    at: usize,
+    lines: u32,
+    wrong: u32,
+}
+
+// The lines of a tree of so many slots. No tree of the list has as many lines as turns.
+fn lines(text: &[u8], from: usize, names: &mut [u64], cells: &mut [u32], slots: u32) -> Seen {
+    let mut head = [NULL, NULL, 0];
+    let mut at = from;
+    let mut count: u32 = 0;
+    let mut wrong: u32 = 0;
+    let mut turns: u32 = 1000;
+    while 0 < turns {
+        turns -= 1;
+        if text.len() <= at {
+            return Seen {
+                at,
+                lines: count,
+                wrong,
+            };
+        }
+        let kind = number(text, at);
+        if kind.value == 0 {
+            return Seen {
+                at,
+                lines: count,
+                wrong,
+            };
+        }
+        let held = line(text, kind.value, kind.at, names, cells, &mut head, slots);
+        at = held.at;
+        count = std::num::wrapping_add_u32(count, 1);
+        wrong = std::num::wrapping_add_u32(wrong, one_if(held.wrong != 0));
+    }
+    Seen {
+        at,
+        lines: count,
+        wrong,
+    }
+}
+
+// The words of so many slots, out of those at hand, and the lines of their tree.
+fn cut(text: &[u8], at: usize, names: &mut [u64], cells: &mut [u32], slots: u32) -> Seen {
+    let n = slots as usize;
+    if names.len() < 2 * n {
+        return Seen {
+            at: text.len(),
+            lines: 1,
+            wrong: 1,
+        };
+    }
+    if cells.len() < 7 * n {
+        return Seen {
+            at: text.len(),
+            lines: 1,
+            wrong: 1,
+        };
+    }
+    lines(text, at, &mut names[..2 * n], &mut cells[..7 * n], slots)
+}
+
+// A tree: the number of its slots, at most 16, then its lines.
+fn tree(text: &[u8], from: usize) -> Seen {
+    let mut names = [0u64; 32];
+    let mut cells = [NULL; 112];
+    let kind = number(text, from);
+    let read = number(text, kind.at);
+    clear(&mut cells, read.value);
+    cut(text, read.at, &mut names, &mut cells, read.value)
+}
+
+fn print(label: &[u8], value: u32) {
+    io::write_all(STDOUT_FILENO, label);
+    io::write_all(STDOUT_FILENO, b" ");
+    io::print_decimal(STDOUT_FILENO, value as u64);
+    io::write_all(STDOUT_FILENO, b"\n");
+}
+
+// Every tree of the list. It has fewer trees than turns.
+fn trees(text: &[u8]) {
+    let mut at: usize = 0;
+    let mut count: u32 = 0;
+    let mut lines: u32 = 0;
+    let mut wrong: u32 = 0;
+    let mut turns: u32 = 1000;
+    while 0 < turns {
+        turns -= 1;
+        if at < text.len() {
+            let seen = tree(text, at);
+            at = seen.at;
+            count = std::num::wrapping_add_u32(count, 1);
+            lines = std::num::wrapping_add_u32(lines, seen.lines);
+            wrong = std::num::wrapping_add_u32(wrong, seen.wrong);
+        }
+    }
+    print(b"trees", count);
+    print(b"lines", lines);
+    print(b"differences", wrong);
+}
+
+fn main() {
+    let mut text = [0u8; 131072];
+    let file = os::open_read(b"sample.txt");
+    if file < 0 {
+        print(b"no list", 1);
+        return;
+    }
+    let n = io::read_full(file, &mut text);
+    libc::close(file);
+    if 131072 <= n {
+        print(b"no room", 1);
+        return;
+    }
+    trees(&text[..n]);
+}

@@ -1,0 +1,35 @@
+-- What a call leaves in the words of a cursor: eleven writes, or none.
+use mathlib.Core.Path.{_≡_}
+use mathlib.Core.List.{List}
+use Prim.Native.Nat.{ℕ, _+_, _*_}
+use lib.ListN.{length, getD, set}
+use borrow.Author.Tests.{eq-eqb, ne-eqb}
+use Rattle.slots.specs.Answers.{Answer}
+use Rattle.walks.specs.Cursor.{Cursor, Step}
+use Rattle.exports.specs.Words.{answerWord}
+use Rattle.exports.specs.Cursors.{written, kept, Kept, ofEleven}
+
+-- The eleven writes, one after another.
+pub writes : (w : List ℕ) (c : Cursor) {w1 w2 w3 w4 w5 w6 w7 w8 w9 w10 w11 : List ℕ} → w1 ≡ set w 0 (c .base)
+    → w2 ≡ set w1 1 (c .depth)
+    → w3 ≡ set w2 2 (getD (c .indexes) 0 0)
+    → w4 ≡ set w3 3 (getD (c .indexes) 1 0)
+    → w5 ≡ set w4 4 (getD (c .indexes) 2 0)
+    → w6 ≡ set w5 5 (getD (c .indexes) 3 0)
+    → w7 ≡ set w6 6 (getD (c .indexes) 4 0)
+    → w8 ≡ set w7 7 (getD (c .indexes) 5 0)
+    → w9 ≡ set w8 8 (getD (c .indexes) 6 0)
+    → w10 ≡ set w9 9 (getD (c .indexes) 7 0)
+    → w11 ≡ set w10 10 (c .last)
+    → w11 ≡ written w c
+unfolding written
+writes w c e1 e2 e3 e4 e5 e6 e7 e8 e9 e10 e11 = rw (e11, e10, e9, e8, e7, e6, e5, e4, e3, e2, e1)
+
+-- A cursor of another length is refused, one of eleven words is stepped.
+pub short : {w : List ℕ} {r : ℕ} (s : Step) → (length w ≡ 11 → ⊥) → r ≡ 0 + 4294967296 * 1 → record { word = r; cursor = w } ≡ ofEleven w s
+unfolding answerWord
+short {w} s n e = rw (ne-eqb (length w) 11 n, e)
+
+pub long : (w : List ℕ) {u : List ℕ} {r : ℕ} {a : Answer} {c : Cursor} {s : Step} → length w ≡ 11 → r ≡ answerWord a → record { answer = a; cursor = c } ≡ s → u ≡ kept w r c
+    → record { word = r; cursor = u } ≡ ofEleven w s
+long w l e f g = rw (eq-eqb (length w) 11 l, g, e, ← f)

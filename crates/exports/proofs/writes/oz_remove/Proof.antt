@@ -1,0 +1,29 @@
+-- The library comes to what the model does, and its word is that answer's.
+use borrow.Author.Needs.{needs}
+use Rattle.exports.proofs.Telling.{tells}
+use Rattle.exports.proofs.writes.oz_remove.Statement.{statement}
+use Rattle.exports.proofs.writes.oz_remove.Tie as tie
+
+remove-requires : tie.Need-remove-requires
+remove-requires c κs = search needs
+
+removed-word-requires : tie.Need-removed-word-requires
+removed-word-requires c κs = search needs
+
+same-length : tie.Need-same-length
+same-length c = search needs
+
+same-length-2 : tie.Need-same-length-2
+same-length-2 c = search needs
+
+same-length-3 : tie.Need-same-length-3
+same-length-3 c = search needs
+
+same-length-4 : tie.Need-same-length-4
+same-length-4 c = search needs
+
+returns : tie.Need-returns
+returns c = tells (c .removed-word .ensures) (c .before .before .before .before .before .before .before .before .before .remove .ensures)
+
+pub oz-remove-spec : {M : Type 1} → statement M
+oz-remove-spec = tie.close (tie.spec remove-requires removed-word-requires same-length same-length-2 same-length-3 same-length-4 returns)

@@ -1,0 +1,63 @@
+// A cursor as eleven words: base table, depth, eight indexes, last slot.
+use cursors::walk::Cursor;
+ghost use mathlib.Core.Path.{_≡_};
+ghost use lib.ListN.{length, set};
+ghost use Rattle.cursors.specs.Answers.{cursorOf};
+ghost use Rattle.exports.specs.Cursors.{cursorIn, written, kept};
+
+pub fn read(words: &[u32]) -> Cursor
+    requires { ⌜ length (now words) ≡ 11 ⌝ }
+    ensures { λ r. ⌜ cursorOf r ≡ cursorIn (now (words .entry)) ⌝ }
+{
+    let indexes = [
+        words[2],
+        words[3],
+        words[4],
+        words[5],
+        words[6],
+        words[7],
+        words[8],
+        words[9],
+    ];
+    Cursor {
+        base: words[0],
+        depth: words[1],
+        indexes,
+        last: words[10],
+    }
+}
+
+// Writes word k, where there is one.
+fn put(words: &mut [u32], k: usize, value: u32)
+    ensures { λ _. ⌜ now (words .exit) ≡ set (now (words .entry)) k value ⌝ }
+{
+    if k < words.len() {
+        words[k] = value;
+    }
+}
+
+fn write(words: &mut [u32], cursor: Cursor)
+    ensures { λ _. ⌜ now (words .exit) ≡ written (now (words .entry)) (cursorOf cursor) ⌝ }
+{
+    let indexes = cursor.indexes;
+    put(words, 0, cursor.base);
+    put(words, 1, cursor.depth);
+    put(words, 2, indexes[0]);
+    put(words, 3, indexes[1]);
+    put(words, 4, indexes[2]);
+    put(words, 5, indexes[3]);
+    put(words, 6, indexes[4]);
+    put(words, 7, indexes[5]);
+    put(words, 8, indexes[6]);
+    put(words, 9, indexes[7]);
+    put(words, 10, cursor.last);
+}
+
+// A refused call leaves the words as they were: its number is above 0, so its word is 2^32 or more.
+pub fn keep(words: &mut [u32], told: u64, cursor: Cursor)
+    ensures { λ _. ⌜ now (words .exit) ≡ kept (now (words .entry)) told (cursorOf cursor) ⌝ }
+{
+    if told < 4294967296 {
+        write(words, cursor);
+    }
+}

@@ -1,0 +1,210 @@
+//! Times in one run and on the same inputs: the exports, the source's own routines, and BTreeMap. Each figure is the best of the rounds.
+use harness::oz::{Index, NULL};
+use harness::rng::Rng;
+use harness::sets;
+use harness::source::{Bin, Tables, Walk};
+use std::collections::BTreeMap;
+use std::hint::black_box;
+use std::time::Instant;
+
+const ROUNDS: usize = 25;
+
+/// Nanoseconds for each of n things that f does, the best of the rounds.
+fn best(n: usize, mut f: impl FnMut()) -> f64 {
+    (0..ROUNDS)
+        .map(|_| {
+            let from = Instant::now();
+            f();
+            from.elapsed().as_nanos() as f64 / n as f64
+        })
+        .fold(f64::INFINITY, f64::min)
+}
+
+fn row(name: &str, ours: f64, source: Option<f64>, map: Option<f64>) {
+    let ratio = |x: Option<f64>| x.map_or("-".into(), |x| format!("{:.2}", ours / x));
+    let ns = |x: Option<f64>| x.map_or("-".into(), |x| format!("{x:.1}"));
+    println!("| {name} | {ours:.1} | {} | {} | {} | {} |", ns(source), ns(map), ratio(source), ratio(map));
+}
+
+fn main() {
+    println!("| what | ours, ns | source, ns | BTreeMap, ns | ours / source | ours / BTreeMap |");
+    println!("|---|---|---|---|---|---|");
+    let mut rng = Rng::new(5);
+    for size in [16usize, 256, 4096] {
+        let mut ix = Index::new(size, 1);
+        let bin = Bin::new();
+        let mut map = BTreeMap::new();
+        let mut there = Vec::new();
+        while there.len() < size {
+            let (hash, key) = (rng.next(), rng.next());
+            ix.forget();
+            ix.insert(hash, key, 1);
+            bin.insert(hash, key, 1);
+            map.insert((hash, key), 1u32);
+            there.push((hash, key));
+        }
+        rng.shuffle(&mut there);
+        let absent: Vec<(u64, u64)> = there.iter().map(|(h, _)| (*h, rng.next())).collect();
+        let strange: Vec<(u64, u64)> = there.iter().map(|_| (rng.next(), rng.next())).collect();
+        let times = 400_000 / size;
+        for (name, pairs, found) in [("find, hit", &there, true), ("find, miss", &strange, false), ("find, miss on an equal hash", &absent, false)] {
+            let ours = best(times * size, || {
+                for _ in 0..times {
+                    for (h, k) in pairs {
+                        assert_eq!(black_box(ix.find(*h, *k)).value != NULL, found);
+                    }
+                }
+            });
+            let source = best(times * size, || {
+                for _ in 0..times {
+                    for (h, k) in pairs {
+                        assert_eq!(black_box(bin.find(*h, *k)), found);
+                    }
+                }
+            });
+            let btree = best(times * size, || {
+                for _ in 0..times {
+                    for (h, k) in pairs {
+                        assert_eq!(black_box(map.get(&(*h, *k))).is_some(), found);
+                    }
+                }
+            });
+            row(&format!("{name}, {size} pairs"), ours, Some(source), Some(btree));
+        }
+        // Half of the pairs leave and join again, so that the tree stays large.
+        let calls = if size == 4096 { 64 } else { size / 2 };
+        let times = (20_000 / (size * calls)).max(1);
+        let (mut inserts, mut removes) = (f64::INFINITY, f64::INFINITY);
+        let (mut source_inserts, mut source_removes) = (f64::INFINITY, f64::INFINITY);
+        let (mut map_inserts, mut map_removes) = (f64::INFINITY, f64::INFINITY);
+        let some: Vec<(u64, u64)> = there[..calls].to_vec();
+        for _ in 0..times * ROUNDS {
+            let from = Instant::now();
+            for (h, k) in &some {
+                ix.forget();
+                assert_eq!(ix.remove(*h, *k).number, 0);
+            }
+            removes = removes.min(from.elapsed().as_nanos() as f64 / calls as f64);
+            let from = Instant::now();
+            for (h, k) in &some {
+                ix.forget();
+                assert_eq!(ix.insert(*h, *k, 1).number, 0);
+            }
+            inserts = inserts.min(from.elapsed().as_nanos() as f64 / calls as f64);
+            if size > 16 {
+                let from = Instant::now();
+                for (h, k) in &some {
+                    bin.remove(*h, *k);
+                }
+                source_removes = source_removes.min(from.elapsed().as_nanos() as f64 / calls as f64);
+                let from = Instant::now();
+                for (h, k) in &some {
+                    bin.insert(*h, *k, 1);
+                }
+                source_inserts = source_inserts.min(from.elapsed().as_nanos() as f64 / calls as f64);
+            }
+            let from = Instant::now();
+            for (h, k) in &some {
+                assert!(map.remove(&(*h, *k)).is_some());
+            }
+            map_removes = map_removes.min(from.elapsed().as_nanos() as f64 / calls as f64);
+            let from = Instant::now();
+            for (h, k) in &some {
+                assert!(map.insert((*h, *k), 1).is_none());
+            }
+            map_inserts = map_inserts.min(from.elapsed().as_nanos() as f64 / calls as f64);
+        }
+        let of = |x: f64| (size > 16).then_some(x);
+        row(&format!("insert with its full check, {size} slots"), inserts, of(source_inserts), Some(map_inserts));
+        row(&format!("remove with its full check, {size} slots"), removes, of(source_removes), Some(map_removes));
+        let times = (40_000 / size).max(1);
+        let full = best(times, || {
+            for _ in 0..times {
+                assert_eq!(black_box(ix.sound()).value, 1);
+            }
+        });
+        let own = best(times, || {
+            for _ in 0..times {
+                assert_eq!(black_box(ix.check()).number, 0);
+            }
+        });
+        let source = best(times, || {
+            for _ in 0..times {
+                bin.check();
+            }
+        });
+        let walk = best(times, || {
+            for _ in 0..times {
+                black_box(map.iter().fold(0u64, |a, ((h, k), v)| a ^ h ^ k ^ *v as u64));
+            }
+        });
+        row(&format!("full check (BTreeMap: one walk), {size} slots"), full, None, Some(walk));
+        row(&format!("the source's check (BTreeMap: one walk), {size} slots"), own, Some(source), Some(walk));
+    }
+    let set = sets::draw(&mut rng, 3, 64, 4096, 0);
+    let n = set.names.len() / 2;
+    let tables = Tables::of_words(&set).expect("an accepted set");
+    let map: BTreeMap<(u64, u64), u32> = (0..n).map(|i| ((set.names[2 * i], set.names[2 * i + 1]), i as u32)).collect();
+    let pairs: Vec<(u64, u64)> = map.keys().copied().collect();
+    let times = 40;
+    let ours = best(times * n, || {
+        for _ in 0..times {
+            for (h, k) in &pairs {
+                assert_eq!(black_box(set.lookup(0, *h, *k)).number, 0);
+            }
+        }
+    });
+    let source = best(times * n, || {
+        for _ in 0..times {
+            for (h, k) in &pairs {
+                assert!(black_box(tables.lookup(0, *h, *k)) != NULL);
+            }
+        }
+    });
+    let btree = best(times * n, || {
+        for _ in 0..times {
+            for (h, k) in &pairs {
+                assert!(black_box(map.get(&(*h, *k))).is_some());
+            }
+        }
+    });
+    row(&format!("lookup from table 0, hit, a set of {n} entries"), ours, Some(source), Some(btree));
+    let ours = best(times * n, || {
+        for _ in 0..times {
+            let mut cursor = [0; 11];
+            set.start(0, &mut cursor);
+            let mut count = 0;
+            while black_box(set.walk(&mut cursor)).value != NULL {
+                count += 1;
+            }
+            assert_eq!(count, n);
+        }
+    });
+    let source = best(times * n, || {
+        for _ in 0..times {
+            let mut walk = Walk::new(&tables, 0);
+            let mut count = 0;
+            while black_box(walk.next()) != NULL {
+                count += 1;
+            }
+            assert_eq!(count, n);
+        }
+    });
+    let btree = best(times * n, || {
+        for _ in 0..times {
+            assert_eq!(black_box(map.iter().map(|(_, v)| black_box(*v) as usize).count()), n);
+        }
+    });
+    row(&format!("a whole walk from table 0, for each of {n} entries"), ours, Some(source), Some(btree));
+    let accept = best(times, || {
+        for _ in 0..times {
+            assert_eq!(black_box(set.accept()).value, 1);
+        }
+    });
+    let walk = best(times, || {
+        for _ in 0..times {
+            black_box(map.iter().fold(0u64, |a, ((h, k), v)| a ^ h ^ k ^ *v as u64));
+        }
+    });
+    row(&format!("acceptance of that set (BTreeMap: one walk of {n})"), accept, None, Some(walk));
+}

@@ -1,0 +1,523 @@
+//! The comparisons with the source's own routines, after every operation every link, colour, root, first and count.
+use harness::oz::{self, Index, NULL};
+use harness::rng::Rng;
+use harness::MESSAGES;
+use harness::sets;
+use harness::source::{By, Removal, Tables, Tree, Walk};
+use seize::trace;
+use std::collections::{BTreeMap, HashSet};
+use std::panic::{catch_unwind, AssertUnwindSafe};
+
+/// One call of a script.
+#[derive(Clone, Copy, PartialEq, Eq, Debug)]
+enum Op {
+    Insert(u64, u64, u32),
+    Remove(u64, u64),
+}
+
+#[derive(Default)]
+struct Counts {
+    inserts: u64,
+    removes: u64,
+    present: u64,
+    full: u64,
+    absent: u64,
+    whole: u64,
+    early: u64,
+}
+
+/// Our index beside a tree of the source.
+struct Pair {
+    ours: Index,
+    theirs: Tree,
+}
+
+impl Pair {
+    fn new(slots: usize, by: By) -> Self {
+        Pair { ours: Index::new(slots, 1), theirs: Tree::new(slots, by) }
+    }
+
+    fn step(&mut self, op: Op, counts: &mut Counts) -> Result<(), String> {
+        self.ours.forget();
+        let slots = self.ours.slots();
+        match op {
+            Op::Insert(hash, key, place) => {
+                let lowest = (0..slots as u32).find(|&i| self.ours.cell(i, oz::STATE) == 0);
+                let there = self.theirs.find(hash, key);
+                let answer = self.ours.insert(hash, key, place);
+                let wanted = match (there, lowest) {
+                    (NULL, Some(at)) => (0, at),
+                    (NULL, None) => (5, 0),
+                    (at, _) => (3, at),
+                };
+                if (answer.number, answer.value) != wanted {
+                    return Err(format!("answer {answer:?}, wanted {wanted:?}"));
+                }
+                if wanted.0 != 5 {
+                    let met = self.theirs.insert(hash, key, place, wanted.1);
+                    if met != there {
+                        return Err(format!("the source's insert answers {met}, its find {there}"));
+                    }
+                }
+                counts.inserts += 1;
+                counts.full += (wanted.0 == 5) as u64;
+                counts.present += (wanted.0 == 3) as u64;
+            }
+            Op::Remove(hash, key) => {
+                let answer = self.ours.remove(hash, key);
+                let (at, how) = self.theirs.remove(hash, key);
+                let wanted = if at == NULL { (4, 0) } else { (0, at) };
+                if (answer.number, answer.value) != wanted {
+                    return Err(format!("answer {answer:?}, wanted {wanted:?}"));
+                }
+                counts.removes += 1;
+                counts.absent += (at == NULL) as u64;
+                if at != NULL {
+                    counts.whole += (how == Removal::Whole) as u64;
+                    counts.early += (how == Removal::Drivers) as u64;
+                }
+            }
+        }
+        match self.theirs.differs(&self.ours) {
+            Some(what) => Err(what),
+            None => Ok(()),
+        }
+    }
+}
+
+fn run(slots: usize, by: By, script: &[Op], counts: &mut Counts) -> Result<(), (usize, String)> {
+    let mut pair = Pair::new(slots, by);
+    for (k, op) in script.iter().enumerate() {
+        pair.step(*op, counts).map_err(|what| (k, what))?;
+    }
+    Ok(())
+}
+
+/// Drops calls from a script that differs while it still differs.
+fn smallest(slots: usize, by: By, script: &[Op]) -> (Vec<Op>, String) {
+    let mut best = script.to_vec();
+    let mut what = String::new();
+    loop {
+        match run(slots, by, &best, &mut Counts::default()) {
+            Ok(()) => return (best, what),
+            Err((k, w)) => {
+                best.truncate(k + 1);
+                what = w;
+            }
+        }
+        let shorter = (0..best.len()).find_map(|i| {
+            let mut s = best.clone();
+            s.remove(i);
+            run(slots, by, &s, &mut Counts::default()).is_err().then_some(s)
+        });
+        match shorter {
+            Some(s) => best = s,
+            None => return (best, what),
+        }
+    }
+}
+
+struct Report {
+    differences: u64,
+    smallest: BTreeMap<String, (usize, String)>,
+}
+
+impl Report {
+    fn differs(&mut self, class: &str, size: usize, what: String) {
+        self.differences += 1;
+        let entry = self.smallest.entry(class.to_string()).or_insert((usize::MAX, String::new()));
+        if size < entry.0 {
+            *entry = (size, what);
+        }
+    }
+
+    fn script(&mut self, class: &str, slots: usize, by: By, script: &[Op]) {
+        let (short, what) = smallest(slots, by, script);
+        self.differs(class, short.len(), format!("{slots} slots, {by:?}, {short:?}: {what}"));
+    }
+}
+
+fn orders(n: usize) -> Vec<Vec<u64>> {
+    fn go(left: &mut Vec<u64>, sofar: &mut Vec<u64>, out: &mut Vec<Vec<u64>>) {
+        if left.is_empty() {
+            out.push(sofar.clone());
+        }
+        for i in 0..left.len() {
+            let k = left.remove(i);
+            sofar.push(k);
+            go(left, sofar, out);
+            sofar.pop();
+            left.insert(i, k);
+        }
+    }
+    let mut out = Vec::new();
+    go(&mut (1..=n as u64).collect(), &mut Vec::new(), &mut out);
+    out
+}
+
+/// The tree by keys: each pair's colour, and its parent's, left's and right's keys.
+fn shape(ix: &Index) -> Vec<[u64; 5]> {
+    let key = |l: u32| if l == NULL { 0 } else { ix.names[2 * l as usize + 1] };
+    let mut rows: Vec<[u64; 5]> = (0..ix.slots() as u32)
+        .filter(|&i| ix.cell(i, oz::STATE) != 0)
+        .map(|i| [key(i), ix.cell(i, oz::STATE) as u64, key(ix.cell(i, oz::PARENT)), key(ix.cell(i, oz::LEFT)), key(ix.cell(i, oz::RIGHT))])
+        .collect();
+    rows.sort();
+    rows
+}
+
+/// All insert orders of n pairs, then from each distinct tree all removal orders.
+fn exhaustive(n: usize, by: By, counts: &mut Counts, report: &mut Report) -> (usize, usize) {
+    let orders = orders(n);
+    let mut seen = HashSet::new();
+    let mut trees = Vec::new();
+    for order in &orders {
+        let script: Vec<Op> = order.iter().map(|&k| Op::Insert(0, k, k as u32 * 10)).collect();
+        let mut pair = Pair::new(n, by);
+        for (k, op) in script.iter().enumerate() {
+            if pair.step(*op, counts).is_err() {
+                report.script("insert orders", n, by, &script[..=k]);
+                break;
+            }
+        }
+        if seen.insert(shape(&pair.ours)) {
+            trees.push(script);
+        }
+    }
+    for inserts in &trees {
+        for order in &orders {
+            let mut script = inserts.clone();
+            script.extend(order.iter().map(|&k| Op::Remove(0, k)));
+            let mut pair = Pair::new(n, by);
+            for (k, op) in script.iter().enumerate() {
+                let mut quiet = Counts::default();
+                if pair.step(*op, if k < n { &mut quiet } else { counts }).is_err() {
+                    report.script("removal orders", n, by, &script[..=k]);
+                    break;
+                }
+            }
+        }
+    }
+    (orders.len(), trees.len())
+}
+
+/// Random scripts: pairs out of few or many hashes, inserts and removes in phases that grow and shrink the tree.
+fn random(rng: &mut Rng, by: By, scripts: usize, pairs: u64, length: usize, counts: &mut Counts, report: &mut Report) {
+    for _ in 0..scripts {
+        let slots = if rng.below(4) == 0 { 1 + rng.below(pairs) } else { pairs } as usize;
+        let hashes = [1, 2, 5, pairs, u64::MAX][rng.below(5) as usize];
+        let universe: Vec<(u64, u64)> = (0..pairs).map(|k| (rng.below(hashes), if rng.below(8) == 0 { rng.next() } else { k })).collect();
+        let mut grow = true;
+        let mut script = Vec::with_capacity(length);
+        let mut there: Vec<(u64, u64)> = Vec::new();
+        for _ in 0..length {
+            if rng.below(pairs) == 0 {
+                grow = !grow;
+            }
+            let any = universe[rng.below(pairs) as usize];
+            if (rng.below(4) != 0) == grow {
+                if !there.contains(&any) && there.len() < slots {
+                    there.push(any);
+                }
+                script.push(Op::Insert(any.0, any.1, rng.next() as u32));
+            } else {
+                // Mostly a pair that is there.
+                let pair = if there.is_empty() || rng.below(8) == 0 { any } else { there[rng.below(there.len() as u64) as usize] };
+                there.retain(|p| *p != pair);
+                script.push(Op::Remove(pair.0, pair.1));
+            }
+        }
+        if run(slots, by, &script, counts).is_err() {
+            report.script("random scripts", slots, by, &script);
+        }
+    }
+}
+
+/// What the source's check comes to: nothing, a test's number with its slot, or that it does not end.
+#[derive(PartialEq, Eq, Debug)]
+enum Verdict {
+    Passes,
+    Fails(u32, u32),
+    RunsOn,
+}
+
+/// The verdict, and the number of visits.
+fn source_check(tree: &Tree, limit: usize) -> (Verdict, usize) {
+    trace::start(limit);
+    let outcome = catch_unwind(AssertUnwindSafe(|| tree.check()));
+    let visits = tree.visits(&trace::stop());
+    let verdict = match outcome {
+        Ok(()) => Verdict::Passes,
+        Err(panic) => {
+            let text = panic.downcast_ref::<String>().cloned().or_else(|| panic.downcast_ref::<&str>().map(|s| s.to_string())).unwrap();
+            if text.contains(trace::RUNS_ON) {
+                Verdict::RunsOn
+            } else {
+                let test = MESSAGES.iter().position(|m| text.contains(m)).expect("a message of the source's check") as u32 + 1;
+                Verdict::Fails(test, *visits.last().expect("a slot was visited"))
+            }
+        }
+    };
+    (verdict, visits.len())
+}
+
+fn source_find(tree: &Tree, hash: u64, key: u64, limit: usize) -> Option<u32> {
+    trace::start(limit);
+    let outcome = catch_unwind(AssertUnwindSafe(|| tree.find(hash, key)));
+    trace::stop();
+    outcome.ok()
+}
+
+#[derive(Default)]
+struct Damage {
+    trees: u64,
+    sound: u64,
+    passes: u64,
+    fails: [u64; 8],
+    nines: u64,
+    nines_ending: u64,
+    finds: u64,
+    hits: u64,
+    nothings: u64,
+    find_nines: u64,
+}
+
+/// Sound trees with one to four words changed, links within range: the source could hold no other.
+fn damaged(rng: &mut Rng, trees: usize, report: &mut Report) -> Damage {
+    let mut d = Damage::default();
+    for k in 0..trees {
+        let slots = 1 + rng.below(if k % 4 == 0 { 40 } else { 8 }) as usize;
+        let mut ix = Index::new(slots, 1);
+        let pairs = 1 + rng.below(2 * slots as u64);
+        let hashes = 1 + rng.below(4);
+        for _ in 0..2 * slots {
+            ix.forget();
+            let (h, k) = (rng.below(hashes) * 2, rng.below(pairs) * 2);
+            if rng.below(4) == 0 {
+                ix.remove(h, k);
+            } else {
+                ix.insert(h, k, 7);
+            }
+        }
+        let link = |rng: &mut Rng| if rng.below(3) == 0 { NULL } else { rng.below(slots as u64) as u32 };
+        for _ in 0..rng.below(4) + 1 {
+            let i = rng.below(slots as u64) as usize;
+            match rng.below(12) {
+                0 => ix.names[2 * i] = rng.below(hashes * 2 + 1),
+                1 => ix.names[2 * i + 1] = rng.below(pairs * 2 + 1),
+                2 => ix.cells[7 * i + oz::STATE] = rng.below(3) as u32,
+                3 => ix.head[0] = link(rng),
+                4 => ix.head[1] = link(rng),
+                n => ix.cells[7 * i + 2 + (n as usize) % 5] = link(rng),
+            }
+        }
+        d.trees += 1;
+        d.sound += (ix.sound().value == 1) as u64;
+        let tree = Tree::of_words(&ix);
+        let say = |what: String| format!("{slots} slots, names {:?}, cells {:?}, head {:?}: {what}", ix.names, ix.cells, ix.head);
+        // More loads than any walk of at most as many visits as there are slots makes.
+        let limit = 64 * slots + 64;
+        let ours = ix.check();
+        let (theirs, visits) = source_check(&tree, limit);
+        match (ours.number, &theirs) {
+            (0, Verdict::Passes) => d.passes += 1,
+            (n, Verdict::Fails(t, s)) if n == 100 + t && ours.value == *s => d.fails[*t as usize - 1] += 1,
+            (9, Verdict::RunsOn) if visits > slots => d.nines += 1,
+            // The source ends after more visits than there are slots.
+            (9, _) if visits > slots => {
+                d.nines += 1;
+                d.nines_ending += 1;
+                let entry = report.smallest.entry("known: more visits than slots, yet the source's check ends".into()).or_insert((usize::MAX, String::new()));
+                if slots < entry.0 {
+                    *entry = (slots, say(format!("ours 9, source {theirs:?}")));
+                }
+            }
+            _ => report.differs("check of damaged trees", slots, say(format!("ours {ours:?}, source {theirs:?}"))),
+        }
+        for _ in 0..2 {
+            let (hash, key) = (rng.below(hashes * 2 + 1), rng.below(pairs * 2 + 1));
+            let ours = ix.find(hash, key);
+            let theirs = source_find(&tree, hash, key, 3 * slots + 3);
+            d.finds += 1;
+            match (ours.number, theirs) {
+                (0, Some(s)) if s == ours.value => {
+                    d.hits += (s != NULL) as u64;
+                    d.nothings += (s == NULL) as u64;
+                }
+                (9, None) => d.find_nines += 1,
+                _ => report.differs("find in damaged trees", slots, say(format!("find {hash} {key}: ours {ours:?}, source {theirs:?}"))),
+            }
+        }
+    }
+    d
+}
+
+#[derive(Default)]
+struct Frozen {
+    sets: u64,
+    accepted: u64,
+    unbuilt: u64,
+    lookups: u64,
+    hits: u64,
+    lookup_nines: u64,
+    null_first: u64,
+    walks: u64,
+    steps: u64,
+    entries: u64,
+    dones: u64,
+}
+
+/// One to three words of a set changed, so that the source's types can still hold it.
+fn damage_set(rng: &mut Rng, s: &mut oz::Set) {
+    let n = s.names.len() as u64 / 2;
+    if n == 0 {
+        return;
+    }
+    let link = |rng: &mut Rng| if rng.below(3) == 0 { NULL } else { rng.below(n) as u32 };
+    for _ in 0..1 + rng.below(3) {
+        let i = rng.below(n) as usize;
+        match rng.below(11) {
+            0 => s.names[2 * i] = rng.below(20),
+            1 => s.names[2 * i + 1] = rng.below(20),
+            2 => s.cells[7 * i + oz::STATE] = rng.below(3) as u32,
+            3 if !s.heads.is_empty() => {
+                let h = rng.below(s.heads.len() as u64) as usize;
+                s.heads[h] = link(rng);
+            }
+            4 => {
+                let b = rng.below(s.bins.len() as u64) as usize;
+                s.bins[b] = [0, 1, 2 + i as u32, 4098][rng.below(4) as usize];
+            }
+            f => s.cells[7 * i + 2 + f as usize % 5] = link(rng),
+        }
+    }
+}
+
+/// Lookup and the walk, entry by entry with the cursor's indexes.
+fn frozen(rng: &mut Rng, count: usize, damage: bool, report: &mut Report) -> Frozen {
+    let mut f = Frozen::default();
+    while (f.sets as usize) < count {
+        let mut s = sets::small(rng);
+        if damage {
+            damage_set(rng, &mut s);
+        }
+        let accepted = s.accept();
+        let Some(tables) = Tables::of_words(&s) else {
+            f.unbuilt += 1;
+            continue;
+        };
+        f.sets += 1;
+        f.accepted += (accepted == oz::Answer { number: 0, value: 1 }) as u64;
+        let n = s.names.len() / 2;
+        let size = s.bins.len() + n;
+        if !damage && accepted.value != 1 {
+            report.differs("a set that should be accepted", size, format!("{s:?}: {accepted:?}"));
+        }
+        let first_null = |w: u32| w >= 4098 && s.heads[3 * (w - 4098) as usize + 1] == NULL;
+        // The first bin from table t on that is not Moved.
+        let ends_in = |t: usize, hash: u64| {
+            let bin = |k: usize| s.bins[s.begin(k) + (hash & (s.lengths[k] as u64 - 1)) as usize];
+            (t..s.lengths.len()).map(bin).find(|w| *w != 1).unwrap_or(0)
+        };
+        let null_first = s.bins.iter().any(|w| first_null(*w));
+        for t in 0..s.lengths.len() {
+            for _ in 0..6 {
+                let (hash, key) = if n != 0 && rng.below(3) != 0 {
+                    let i = rng.below(n as u64) as usize;
+                    (s.names[2 * i], s.names[2 * i + 1])
+                } else {
+                    (rng.below(20), rng.below(20))
+                };
+                let ours = s.lookup(t as u32, hash, key);
+                trace::start(64 * (n + 1) + 64);
+                let theirs = catch_unwind(AssertUnwindSafe(|| tables.lookup(t, hash, key))).ok();
+                trace::stop();
+                f.lookups += 1;
+                match (ours.number, theirs) {
+                    (0, Some(at)) if at == ours.value => f.hits += (at != NULL) as u64,
+                    (9, None) => f.lookup_nines += 1,
+                    // The source asks the header's first, we its root alone.
+                    (_, Some(NULL)) if first_null(ends_in(t, hash)) => {
+                        f.null_first += 1;
+                        let entry = report.smallest.entry("known: lookup in a tree whose first is null".into()).or_insert((usize::MAX, String::new()));
+                        if size < entry.0 {
+                            *entry = (size, format!("{s:?} lookup from {t} of {hash} {key}: ours {ours:?}, source null"));
+                        }
+                    }
+                    _ => report.differs("lookup", size, format!("{s:?} lookup from {t} of {hash} {key}: ours {ours:?}, source {theirs:?}")),
+                }
+            }
+            // The source would follow a null pointer from a tree without a first.
+            if null_first {
+                continue;
+            }
+            f.walks += 1;
+            let mut cursor = [7u32; 11];
+            let start = s.start(t as u32, &mut cursor);
+            let mut walk = Walk::new(&tables, t);
+            let mut what = (start != oz::Answer { number: 0, value: 1 }).then(|| format!("start {start:?}"));
+            let mut past = 0;
+            for step in 0..2 * n + 4 {
+                if cursor[0] != t as u32 || cursor[1..] != walk.state() {
+                    what = Some(format!("step {step}: cursor {cursor:?}, source {:?}", walk.state()));
+                }
+                if what.is_some() || past == 2 {
+                    break;
+                }
+                let ours = s.walk(&mut cursor);
+                let theirs = walk.next();
+                f.steps += 1;
+                f.entries += (theirs != NULL) as u64;
+                past += (theirs == NULL) as u64;
+                if (ours.number, ours.value) != (0, theirs) {
+                    what = Some(format!("step {step}: ours {ours:?}, source {theirs}"));
+                }
+            }
+            f.dones += (past != 0) as u64;
+            if let Some(what) = what {
+                report.differs("walk", size, format!("{s:?} from {t}: {what}"));
+            }
+        }
+    }
+    f
+}
+
+fn main() {
+    std::panic::set_hook(Box::new(|_| {}));
+    let scale: usize = std::env::args().nth(1).map_or(100, |s| s.parse().expect("a scale in hundredths"));
+    let many = |n: usize| (n * scale / 100).max(1);
+    let mut report = Report { differences: 0, smallest: BTreeMap::new() };
+    for by in [By::Drivers, By::Bin] {
+        let mut counts = Counts::default();
+        let n = if scale < 20 { 5 } else { 7 };
+        let (orders, trees) = exhaustive(n, by, &mut counts, &mut report);
+        println!("{by:?}: {orders} insert orders of {n} pairs, {trees} distinct trees, all removal orders of each");
+        println!("  inserts {}, removes {}, of these by remove_tree_node whole {}", counts.inserts, counts.removes, counts.whole);
+        let mut rng = Rng::new(1);
+        for (name, scripts, pairs, length) in [("up to 60 pairs", many(4000), 60, 250), ("several hundred pairs", many(300), 700, 3000)] {
+            let mut counts = Counts::default();
+            random(&mut rng, by, scripts, pairs, length, &mut counts, &mut report);
+            println!("{by:?}: {scripts} random scripts over {name}");
+            println!(
+                "  inserts {} (present {}, full {}), removes {} (absent {}), of these by remove_tree_node whole {}, by the driver {}{}",
+                counts.inserts, counts.present, counts.full, counts.removes, counts.absent, counts.whole, counts.early,
+                if by == By::Bin { " after remove_tree_node returned early" } else { "" }
+            );
+        }
+    }
+    let d = damaged(&mut Rng::new(2), many(200_000), &mut report);
+    println!("damaged trees {} (sound still {})", d.trees, d.sound);
+    println!("  check: passes {}, fails by test {:?}, 9 in ours {} (the source runs on {}, ends after more visits than slots {})", d.passes, d.fails, d.nines, d.nines - d.nines_ending, d.nines_ending);
+    println!("  finds {}: slots {}, Nothing {}, 9 in ours where the source runs on {}", d.finds, d.hits, d.nothings, d.find_nines);
+    for (name, damage) in [("sets", false), ("damaged sets", true)] {
+        let f = frozen(&mut Rng::new(4), many(20_000), damage, &mut report);
+        println!("{name} {} (accepted {}; {} more that the source's types cannot hold)", f.sets, f.accepted, f.unbuilt);
+        println!("  lookups {}: slots {}, 9 in ours where the source runs on {}, of trees with null first {}", f.lookups, f.hits, f.lookup_nines, f.null_first);
+        println!("  walks {} ({} to the end), steps {}, entries {}", f.walks, f.dones, f.steps, f.entries);
+    }
+    for (class, (_, what)) in &report.smallest {
+        println!("smallest, {class}: {what}");
+    }
+    println!("differences {}", report.differences);
+    std::process::exit((report.differences != 0) as i32);
+}

@@ -1,0 +1,179 @@
+//! The exports, behind slices. Each answers value + 2^32 * number.
+pub const NULL: u32 = u32::MAX;
+
+mod c {
+    extern "C" {
+        pub fn oz_find(names: *const u64, names_len: usize, cells: *const u32, cells_len: usize, head: *const u32, head_len: usize, hash: u64, key: u64) -> u64;
+        pub fn oz_insert(names: *mut u64, names_len: usize, cells: *mut u32, cells_len: usize, head: *mut u32, head_len: usize, lines: *mut u64, lines_len: usize, hash: u64, key: u64, place: u32) -> u64;
+        pub fn oz_remove(names: *mut u64, names_len: usize, cells: *mut u32, cells_len: usize, head: *mut u32, head_len: usize, lines: *mut u64, lines_len: usize, hash: u64, key: u64) -> u64;
+        pub fn oz_rollback(names: *mut u64, names_len: usize, cells: *mut u32, cells_len: usize, head: *mut u32, head_len: usize, lines: *mut u64, lines_len: usize, mark: u32) -> u64;
+        pub fn oz_check(names: *const u64, names_len: usize, cells: *const u32, cells_len: usize, head: *const u32, head_len: usize) -> u64;
+        pub fn oz_sound(names: *const u64, names_len: usize, cells: *const u32, cells_len: usize, head: *const u32, head_len: usize) -> u64;
+        pub fn oz_accept(lengths: *const u32, lengths_len: usize, bins: *const u32, bins_len: usize, heads: *const u32, heads_len: usize, names: *const u64, names_len: usize, cells: *const u32, cells_len: usize) -> u64;
+        pub fn oz_lookup(lengths: *const u32, lengths_len: usize, bins: *const u32, bins_len: usize, heads: *const u32, heads_len: usize, names: *const u64, names_len: usize, cells: *const u32, cells_len: usize, table: u32, hash: u64, key: u64) -> u64;
+        pub fn oz_start(lengths: *const u32, lengths_len: usize, bins: *const u32, bins_len: usize, heads: *const u32, heads_len: usize, names: *const u64, names_len: usize, cells: *const u32, cells_len: usize, table: u32, cursor: *mut u32, cursor_len: usize) -> u64;
+        pub fn oz_walk(lengths: *const u32, lengths_len: usize, bins: *const u32, bins_len: usize, heads: *const u32, heads_len: usize, names: *const u64, names_len: usize, cells: *const u32, cells_len: usize, cursor: *mut u32, cursor_len: usize) -> u64;
+    }
+}
+
+/// An exported routine's word, taken apart.
+#[derive(Clone, Copy, PartialEq, Eq, Debug)]
+pub struct Answer {
+    pub number: u32,
+    pub value: u32,
+}
+
+fn answer(word: u64) -> Answer {
+    Answer { number: (word >> 32) as u32, value: word as u32 }
+}
+
+pub fn find(names: &[u64], cells: &[u32], head: &[u32], hash: u64, key: u64) -> Answer {
+    answer(unsafe { c::oz_find(names.as_ptr(), names.len(), cells.as_ptr(), cells.len(), head.as_ptr(), head.len(), hash, key) })
+}
+
+pub fn insert(names: &mut [u64], cells: &mut [u32], head: &mut [u32], lines: &mut [u64], hash: u64, key: u64, place: u32) -> Answer {
+    answer(unsafe {
+        c::oz_insert(names.as_mut_ptr(), names.len(), cells.as_mut_ptr(), cells.len(), head.as_mut_ptr(), head.len(), lines.as_mut_ptr(), lines.len(), hash, key, place)
+    })
+}
+
+pub fn remove(names: &mut [u64], cells: &mut [u32], head: &mut [u32], lines: &mut [u64], hash: u64, key: u64) -> Answer {
+    answer(unsafe {
+        c::oz_remove(names.as_mut_ptr(), names.len(), cells.as_mut_ptr(), cells.len(), head.as_mut_ptr(), head.len(), lines.as_mut_ptr(), lines.len(), hash, key)
+    })
+}
+
+pub fn rollback(names: &mut [u64], cells: &mut [u32], head: &mut [u32], lines: &mut [u64], mark: u32) -> Answer {
+    answer(unsafe {
+        c::oz_rollback(names.as_mut_ptr(), names.len(), cells.as_mut_ptr(), cells.len(), head.as_mut_ptr(), head.len(), lines.as_mut_ptr(), lines.len(), mark)
+    })
+}
+
+pub fn check(names: &[u64], cells: &[u32], head: &[u32]) -> Answer {
+    answer(unsafe { c::oz_check(names.as_ptr(), names.len(), cells.as_ptr(), cells.len(), head.as_ptr(), head.len()) })
+}
+
+pub fn sound(names: &[u64], cells: &[u32], head: &[u32]) -> Answer {
+    answer(unsafe { c::oz_sound(names.as_ptr(), names.len(), cells.as_ptr(), cells.len(), head.as_ptr(), head.len()) })
+}
+
+pub fn accept(lengths: &[u32], bins: &[u32], heads: &[u32], names: &[u64], cells: &[u32]) -> Answer {
+    answer(unsafe {
+        c::oz_accept(lengths.as_ptr(), lengths.len(), bins.as_ptr(), bins.len(), heads.as_ptr(), heads.len(), names.as_ptr(), names.len(), cells.as_ptr(), cells.len())
+    })
+}
+
+pub fn lookup(lengths: &[u32], bins: &[u32], heads: &[u32], names: &[u64], cells: &[u32], table: u32, hash: u64, key: u64) -> Answer {
+    answer(unsafe {
+        c::oz_lookup(lengths.as_ptr(), lengths.len(), bins.as_ptr(), bins.len(), heads.as_ptr(), heads.len(), names.as_ptr(), names.len(), cells.as_ptr(), cells.len(), table, hash, key)
+    })
+}
+
+pub fn start(lengths: &[u32], bins: &[u32], heads: &[u32], names: &[u64], cells: &[u32], table: u32, cursor: &mut [u32]) -> Answer {
+    answer(unsafe {
+        c::oz_start(lengths.as_ptr(), lengths.len(), bins.as_ptr(), bins.len(), heads.as_ptr(), heads.len(), names.as_ptr(), names.len(), cells.as_ptr(), cells.len(), table, cursor.as_mut_ptr(), cursor.len())
+    })
+}
+
+pub fn walk(lengths: &[u32], bins: &[u32], heads: &[u32], names: &[u64], cells: &[u32], cursor: &mut [u32]) -> Answer {
+    answer(unsafe {
+        c::oz_walk(lengths.as_ptr(), lengths.len(), bins.as_ptr(), bins.len(), heads.as_ptr(), heads.len(), names.as_ptr(), names.len(), cells.as_ptr(), cells.len(), cursor.as_mut_ptr(), cursor.len())
+    })
+}
+
+pub const PLACE: usize = 0;
+pub const STATE: usize = 1;
+pub const PARENT: usize = 2;
+pub const LEFT: usize = 3;
+pub const RIGHT: usize = 4;
+pub const PREV: usize = 5;
+pub const NEXT: usize = 6;
+
+/// A live tree with its journal.
+#[derive(Clone, PartialEq, Eq, Debug)]
+pub struct Index {
+    pub names: Vec<u64>,
+    pub cells: Vec<u32>,
+    pub head: Vec<u32>,
+    pub lines: Vec<u64>,
+}
+
+impl Index {
+    pub fn new(slots: usize, lines: usize) -> Self {
+        let mut cells = Vec::with_capacity(7 * slots);
+        for _ in 0..slots {
+            cells.extend_from_slice(&[0, 0, NULL, NULL, NULL, NULL, NULL]);
+        }
+        Index { names: vec![0; 2 * slots], cells, head: vec![NULL, NULL, 0], lines: vec![0; 1 + 4 * lines] }
+    }
+
+    pub fn slots(&self) -> usize {
+        self.names.len() / 2
+    }
+
+    pub fn cell(&self, slot: u32, field: usize) -> u32 {
+        self.cells[7 * slot as usize + field]
+    }
+
+    /// Forgets the journal's lines, so that a long script does not fill it.
+    pub fn forget(&mut self) {
+        self.lines[0] = 0;
+    }
+
+    pub fn find(&self, hash: u64, key: u64) -> Answer {
+        find(&self.names, &self.cells, &self.head, hash, key)
+    }
+
+    pub fn insert(&mut self, hash: u64, key: u64, place: u32) -> Answer {
+        insert(&mut self.names, &mut self.cells, &mut self.head, &mut self.lines, hash, key, place)
+    }
+
+    pub fn remove(&mut self, hash: u64, key: u64) -> Answer {
+        remove(&mut self.names, &mut self.cells, &mut self.head, &mut self.lines, hash, key)
+    }
+
+    pub fn rollback(&mut self, mark: u32) -> Answer {
+        rollback(&mut self.names, &mut self.cells, &mut self.head, &mut self.lines, mark)
+    }
+
+    pub fn check(&self) -> Answer {
+        check(&self.names, &self.cells, &self.head)
+    }
+
+    pub fn sound(&self) -> Answer {
+        sound(&self.names, &self.cells, &self.head)
+    }
+}
+
+/// A frozen set.
+#[derive(Clone, PartialEq, Eq, Debug)]
+pub struct Set {
+    pub lengths: Vec<u32>,
+    pub bins: Vec<u32>,
+    pub heads: Vec<u32>,
+    pub names: Vec<u64>,
+    pub cells: Vec<u32>,
+}
+
+impl Set {
+    /// Where the bins of table k begin.
+    pub fn begin(&self, k: usize) -> usize {
+        self.lengths[..k].iter().map(|l| *l as usize).sum()
+    }
+
+    pub fn accept(&self) -> Answer {
+        accept(&self.lengths, &self.bins, &self.heads, &self.names, &self.cells)
+    }
+
+    pub fn lookup(&self, table: u32, hash: u64, key: u64) -> Answer {
+        lookup(&self.lengths, &self.bins, &self.heads, &self.names, &self.cells, table, hash, key)
+    }
+
+    pub fn start(&self, table: u32, cursor: &mut [u32]) -> Answer {
+        start(&self.lengths, &self.bins, &self.heads, &self.names, &self.cells, table, cursor)
+    }
+
+    pub fn walk(&self, cursor: &mut [u32]) -> Answer {
+        walk(&self.lengths, &self.bins, &self.heads, &self.names, &self.cells, cursor)
+    }
+}

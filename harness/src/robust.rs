@@ -1,0 +1,391 @@
+//! Calls on random and damaged words, lengths and cursors, with guard words around each slice, and random runs of demand 3.
+use harness::oz::{self, Index, NULL};
+use harness::rng::Rng;
+use harness::sets;
+use std::collections::BTreeMap;
+
+const GUARD: usize = 8;
+
+/// A slice with guard words on both sides.
+#[derive(Clone, PartialEq)]
+struct Lent<T> {
+    all: Vec<T>,
+    len: usize,
+}
+
+impl<T: Copy + PartialEq> Lent<T> {
+    fn new(words: &[T], guard: T) -> Self {
+        let mut all = vec![guard; GUARD];
+        all.extend_from_slice(words);
+        all.extend(std::iter::repeat(guard).take(GUARD));
+        Lent { all, len: words.len() }
+    }
+
+    fn get(&self) -> &[T] {
+        &self.all[GUARD..GUARD + self.len]
+    }
+
+    fn lend(&mut self) -> &mut [T] {
+        &mut self.all[GUARD..GUARD + self.len]
+    }
+
+    fn guarded(&self, guard: T) -> bool {
+        let end = GUARD + self.len;
+        self.all[..GUARD].iter().chain(&self.all[end..]).all(|w| *w == guard)
+    }
+}
+
+const G64: u64 = 0xA5A5_5A5A_C3C3_3C3C;
+const G32: u32 = 0x5AA5_3CC3;
+
+#[derive(Clone, PartialEq)]
+struct Live {
+    names: Lent<u64>,
+    cells: Lent<u32>,
+    head: Lent<u32>,
+    lines: Lent<u64>,
+}
+
+impl Live {
+    fn guarded(&self) -> bool {
+        self.names.guarded(G64) && self.cells.guarded(G32) && self.head.guarded(G32) && self.lines.guarded(G64)
+    }
+}
+
+fn word32(rng: &mut Rng, n: u64) -> u32 {
+    match rng.below(8) {
+        0 => NULL,
+        1 => rng.next() as u32,
+        2 => n as u32,
+        3 => NULL - 1,
+        _ => rng.below(n + 1) as u32,
+    }
+}
+
+fn word64(rng: &mut Rng, n: u64) -> u64 {
+    match rng.below(8) {
+        0 => u64::MAX,
+        1 => rng.next(),
+        2 => 1 << 32,
+        _ => rng.below(n + 1),
+    }
+}
+
+/// A length at, just beside or far from the wanted one.
+fn length(rng: &mut Rng, wanted: usize) -> usize {
+    match rng.below(40) {
+        0 => wanted + 1,
+        1 => wanted.saturating_sub(1),
+        2 => 0,
+        3 => wanted + 7,
+        4 => rng.below(64) as usize,
+        _ => wanted,
+    }
+}
+
+fn resize<T: Copy>(words: &mut Vec<T>, len: usize, fill: T) {
+    words.resize(len, fill);
+}
+
+/// Words of a live tree: sound, damaged or random, of right or wrong lengths.
+fn live(rng: &mut Rng) -> Live {
+    let slots = match rng.below(2000) {
+        0 => 4096,
+        1 => 4097,
+        n => n as usize % 7 + 1,
+    };
+    let capacity = match rng.below(500) {
+        0 => 1024,
+        1 => 1025,
+        n => n as usize % 5,
+    };
+    let mut ix = Index::new(slots, capacity.min(1024));
+    let some = slots as u64 * 2;
+    if slots < 64 {
+        for _ in 0..rng.below(some) {
+            if rng.below(3) != 0 {
+                ix.forget();
+            }
+            let (h, k) = (rng.below(3), rng.below(slots as u64 + 1));
+            if rng.below(4) == 0 {
+                ix.remove(h, k);
+            } else {
+                ix.insert(h, k, rng.next() as u32);
+            }
+        }
+    }
+    resize(&mut ix.lines, 1 + 4 * capacity, 0);
+    match rng.below(4) {
+        0 => {}
+        1 => {
+            for w in ix.cells.iter_mut() {
+                *w = word32(rng, slots as u64);
+            }
+            for w in ix.head.iter_mut() {
+                *w = word32(rng, slots as u64);
+            }
+            for w in ix.names.iter_mut() {
+                *w = word64(rng, 3);
+            }
+            for w in ix.lines.iter_mut() {
+                *w = word64(rng, capacity as u64);
+            }
+        }
+        _ => {
+            for _ in 0..rng.below(4) {
+                match rng.below(8) {
+                    0 => {
+                        let i = rng.below(ix.names.len() as u64) as usize;
+                        ix.names[i] = word64(rng, 3);
+                    }
+                    1 => ix.head[rng.below(3) as usize] = word32(rng, slots as u64),
+                    2 | 3 => {
+                        let i = rng.below(ix.lines.len() as u64) as usize;
+                        ix.lines[i] = word64(rng, capacity as u64 + 1);
+                    }
+                    _ => {
+                        let i = rng.below(ix.cells.len() as u64) as usize;
+                        ix.cells[i] = word32(rng, slots as u64);
+                    }
+                }
+            }
+        }
+    }
+    let (a, b, c, d) = (length(rng, 2 * slots), length(rng, 7 * slots), length(rng, 3), length(rng, 1 + 4 * capacity));
+    resize(&mut ix.names, a, 0);
+    resize(&mut ix.cells, b, NULL);
+    resize(&mut ix.head, c, NULL);
+    resize(&mut ix.lines, d, 0);
+    Live { names: Lent::new(&ix.names, G64), cells: Lent::new(&ix.cells, G32), head: Lent::new(&ix.head, G32), lines: Lent::new(&ix.lines, G64) }
+}
+
+#[derive(Default)]
+struct Tally {
+    calls: u64,
+    touched: u64,
+    by: BTreeMap<(&'static str, u32), u64>,
+}
+
+impl Tally {
+    fn note(&mut self, name: &'static str, number: u32, fine: bool) {
+        self.calls += 1;
+        *self.by.entry((name, number)).or_default() += 1;
+        if !fine {
+            self.touched += 1;
+            println!("touched: {name} answered {number}");
+        }
+    }
+}
+
+fn live_calls(rng: &mut Rng, tally: &mut Tally) {
+    let mut l = live(rng);
+    let mut before = l.clone();
+    for _ in 0..8 {
+        let (h, k) = if rng.below(4) == 0 { (word64(rng, 3), word64(rng, 9)) } else { (rng.below(3), rng.below(8)) };
+        let (name, answer) = match rng.below(9) {
+            0 => ("find", oz::find(l.names.get(), l.cells.get(), l.head.get(), h, k)),
+            1 => ("check", oz::check(l.names.get(), l.cells.get(), l.head.get())),
+            2 => {
+                let answer = oz::sound(l.names.get(), l.cells.get(), l.head.get());
+                (if answer.value == 1 { "sound, yes," } else { "sound" }, answer)
+            }
+            3 | 4 => ("insert", oz::insert(l.names.lend(), l.cells.lend(), l.head.lend(), l.lines.lend(), h, k, 5)),
+            5 | 6 => ("remove", oz::remove(l.names.lend(), l.cells.lend(), l.head.lend(), l.lines.lend(), h, k)),
+            _ => ("rollback", oz::rollback(l.names.lend(), l.cells.lend(), l.head.lend(), l.lines.lend(), word32(rng, 3))),
+        };
+        let writes = matches!(name, "insert" | "remove" | "rollback") && answer.number == 0;
+        let fine = if writes { l.guarded() } else { l == before };
+        tally.note(name, answer.number, fine);
+        if writes {
+            before = l.clone();
+        }
+    }
+}
+
+/// Words of a frozen set, random or nearly so.
+fn set_calls(rng: &mut Rng, tally: &mut Tally) {
+    let tables = 1 + rng.below(4) as usize;
+    let first = 1u32 << rng.below(3);
+    let mut lengths: Vec<u32> = (0..tables).map(|k| first << k).collect();
+    let bins_len: usize = lengths.iter().map(|l| *l as usize).sum();
+    let (slots, headers) = (rng.below(6) as usize, rng.below(3) as usize);
+    let bin = |rng: &mut Rng| match rng.below(8) {
+        0 | 1 => 1,
+        2 => 2 + rng.below(slots as u64 + 1) as u32,
+        3 => 4098 + rng.below(headers as u64 + 1) as u32,
+        4 => rng.next() as u32,
+        _ => 0,
+    };
+    let mut bins: Vec<u32> = (0..bins_len).map(|_| bin(rng)).collect();
+    let mut ix = Index::new(slots, 0);
+    let mut heads: Vec<u32> = (0..headers).flat_map(|_| [NULL, NULL, 0]).collect();
+    if rng.below(2) == 0 {
+        for w in ix.cells.iter_mut().chain(heads.iter_mut()) {
+            *w = word32(rng, slots as u64);
+        }
+        for w in ix.names.iter_mut() {
+            *w = word64(rng, 3);
+        }
+    }
+    if rng.below(10) == 0 {
+        let i = rng.below(tables as u64) as usize;
+        lengths[i] = word32(rng, 16);
+    }
+    let (a, b, c, d, e) = (length(rng, tables), length(rng, bins_len), length(rng, 3 * headers), length(rng, 2 * slots), length(rng, 7 * slots));
+    resize(&mut lengths, a, 0);
+    resize(&mut bins, b, 0);
+    resize(&mut heads, c, NULL);
+    resize(&mut ix.names, d, 0);
+    resize(&mut ix.cells, e, NULL);
+    calls_on(rng, tally, &lengths, &bins, &heads, &ix.names, &ix.cells);
+}
+
+/// An accepted set with a few words changed.
+fn near_calls(rng: &mut Rng, tally: &mut Tally) {
+    let mut s = sets::small(rng);
+    let n = s.names.len() as u64 / 2;
+    for _ in 0..rng.below(4) {
+        let words: &mut Vec<u32> = [&mut s.bins, &mut s.heads, &mut s.cells, &mut s.lengths].into_iter().nth(rng.below(4) as usize).unwrap();
+        if !words.is_empty() {
+            let i = rng.below(words.len() as u64) as usize;
+            words[i] = word32(rng, n + 3);
+        }
+    }
+    calls_on(rng, tally, &s.lengths, &s.bins, &s.heads, &s.names, &s.cells);
+}
+
+fn calls_on(rng: &mut Rng, tally: &mut Tally, lengths: &[u32], bins: &[u32], heads: &[u32], names: &[u64], cells: &[u32]) {
+    let tables = lengths.len() as u64;
+    let set = (Lent::new(lengths, G32), Lent::new(bins, G32), Lent::new(heads, G32), Lent::new(names, G64), Lent::new(cells, G32));
+    let before = set.clone();
+    let answer = oz::accept(set.0.get(), set.1.get(), set.2.get(), set.3.get(), set.4.get());
+    tally.note(if answer.value == 1 { "accept, yes," } else { "accept" }, answer.number, set == before);
+    let table = |rng: &mut Rng| if rng.below(8) == 0 { word32(rng, 9) } else { rng.below(tables + 1) as u32 };
+    for _ in 0..4 {
+        let i = rng.below(names.len() as u64 / 2 + 1) as usize;
+        let (h, k) = if 2 * i + 1 < names.len() { (names[2 * i], names[2 * i + 1]) } else { (word64(rng, 9), word64(rng, 9)) };
+        let answer = oz::lookup(set.0.get(), set.1.get(), set.2.get(), set.3.get(), set.4.get(), table(rng), h, k);
+        tally.note("lookup", answer.number, set == before);
+    }
+    let words: Vec<u32> = (0..length(rng, 11)).map(|_| word32(rng, 4)).collect();
+    let mut cursor = Lent::new(&words, G32);
+    let was = cursor.clone();
+    if rng.below(3) != 0 {
+        let answer = oz::start(set.0.get(), set.1.get(), set.2.get(), set.3.get(), set.4.get(), table(rng), cursor.lend());
+        let fine = cursor.guarded(G32) && (answer.number == 0 || cursor == was);
+        tally.note("start", answer.number, fine && set == before);
+    }
+    for _ in 0..6 {
+        if cursor.len == 11 && rng.below(6) == 0 {
+            let i = rng.below(11) as usize;
+            cursor.lend()[i] = word32(rng, 5);
+        }
+        let was = cursor.clone();
+        let answer = oz::walk(set.0.get(), set.1.get(), set.2.get(), set.3.get(), set.4.get(), cursor.lend());
+        let fine = cursor.guarded(G32) && (answer.number == 0 || cursor == was);
+        let name = if answer.number == 0 && answer.value != NULL { "walk, an entry," } else { "walk" };
+        tally.note(name, answer.number, fine && set == before);
+    }
+}
+
+/// The entries in order.
+fn contents(ix: &Index) -> Vec<(u64, u64, u32)> {
+    let mut all: Vec<_> = (0..ix.slots() as u32)
+        .filter(|&i| ix.cell(i, oz::STATE) != 0)
+        .map(|i| (ix.names[2 * i as usize], ix.names[2 * i as usize + 1], ix.cell(i, oz::PLACE)))
+        .collect();
+    all.sort();
+    all
+}
+
+/// Demand 3: any calls after a mark, then a rollback to it; below the mark and past the length the journal is garbage.
+fn demand3(rng: &mut Rng) -> (u64, Result<u64, String>) {
+    let slots = 1 + rng.below(12) as usize;
+    let capacity = rng.below(24) as usize;
+    let mut ix = Index::new(slots, capacity.max(1));
+    let pairs = 1 + rng.below(slots as u64 + 4);
+    for _ in 0..rng.below(2 * slots as u64) {
+        ix.forget();
+        let (h, k) = (rng.below(2), rng.below(pairs));
+        ix.insert(h, k, rng.next() as u32);
+    }
+    resize(&mut ix.lines, 1 + 4 * capacity, 0);
+    for w in ix.lines[1..].iter_mut() {
+        *w = word64(rng, 4);
+    }
+    let m = rng.below(capacity as u64 + 1) as usize;
+    ix.lines[0] = m as u64;
+    let kept = ix.lines[1..1 + 4 * m].to_vec();
+    let held = contents(&ix);
+    let calls = rng.below(60);
+    for _ in 0..calls {
+        let (h, k) = (rng.below(2), rng.below(pairs));
+        match rng.below(10) {
+            0 => {
+                let length = ix.lines[0];
+                let mark = m as u64 + rng.below(length - m as u64 + 2);
+                ix.rollback(mark as u32);
+            }
+            1..=4 => {
+                ix.remove(h, k);
+            }
+            _ => {
+                ix.insert(h, k, rng.next() as u32);
+            }
+        }
+    }
+    let before = ix.clone();
+    let length = ix.lines[0] as usize;
+    let answer = ix.rollback(m as u32);
+    let fail = |what: &str| (calls, Err(format!("{what}: {slots} slots, {capacity} lines, mark {m}, length {length}, answer {answer:?}")));
+    if answer.number != 0 || answer.value as usize != length - m {
+        return fail("answer");
+    }
+    if ix.sound().value != 1 {
+        return fail("not sound");
+    }
+    if contents(&ix) != held {
+        return fail("contents");
+    }
+    if ix.lines[0] as usize != m || ix.lines[1..1 + 4 * m] != kept[..] {
+        return fail("lines below the mark");
+    }
+    if ix.lines[1 + 4 * m..1 + 4 * length].iter().any(|w| *w != 0) {
+        return fail("lines from the mark");
+    }
+    if ix.lines[1 + 4 * length..] != before.lines[1 + 4 * length..] {
+        return fail("words past the length");
+    }
+    (calls, Ok((length - m) as u64))
+}
+
+fn main() {
+    let calls: u64 = std::env::args().nth(1).map_or(10_000_000, |s| s.parse().expect("a number of calls"));
+    let mut rng = Rng::new(3);
+    let mut tally = Tally::default();
+    while tally.calls < calls {
+        live_calls(&mut rng, &mut tally);
+        set_calls(&mut rng, &mut tally);
+        near_calls(&mut rng, &mut tally);
+    }
+    println!("calls {} on random and damaged words, each slice between guard words", tally.calls);
+    for ((name, number), count) in &tally.by {
+        println!("  {name} answered {number}: {count}");
+    }
+    println!("words touched outside or by a refused call: {}", tally.touched);
+    let runs = calls / 100;
+    let (mut made, mut undone, mut wrong) = (0, 0, 0);
+    for _ in 0..runs {
+        let (calls, outcome) = demand3(&mut rng);
+        made += calls;
+        match outcome {
+            Ok(lines) => undone += lines,
+            Err(what) => {
+                wrong += 1;
+                println!("demand 3: {what}");
+            }
+        }
+    }
+    println!("demand 3: {runs} runs, {made} calls after the mark, {undone} lines undone by the last rollback, wrong {wrong}");
+    std::process::exit((tally.touched + wrong != 0) as i32);
+}

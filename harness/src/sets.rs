@@ -1,0 +1,90 @@
+//! Accepted sets, drawn at random: which bins are Moved, what the others hold, where the slots stand.
+use crate::oz::{self, Index, Set, NULL};
+use crate::rng::Rng;
+use std::collections::BTreeSet;
+
+/// Tables of so many lengths from the first on; about so many entries.
+pub fn draw(rng: &mut Rng, tables: usize, first: u32, entries: usize, spare: usize) -> Set {
+    let lengths: Vec<u32> = (0..tables).map(|k| first << k).collect();
+    let mut s = Set { bins: vec![0; lengths.iter().sum::<u32>() as usize], lengths, heads: Vec::new(), names: Vec::new(), cells: Vec::new() };
+    let moved = rng.below(5);
+    for k in 0..tables - 1 {
+        for i in 0..s.lengths[k] {
+            let open = k == 0 || s.bins[s.begin(k - 1) + (i % s.lengths[k - 1]) as usize] == 1;
+            if open && rng.below(4) < moved {
+                let at = s.begin(k) + i as usize;
+                s.bins[at] = 1;
+            }
+        }
+    }
+    let hashes = [2, 16, 64, u64::MAX][rng.below(4) as usize];
+    let mut pairs = BTreeSet::new();
+    for _ in 0..entries {
+        pairs.insert((rng.below(hashes), rng.below(4 * entries as u64 + 1)));
+    }
+    let mut pairs: Vec<(u64, u64)> = pairs.into_iter().collect();
+    rng.shuffle(&mut pairs);
+    let n = pairs.len() + spare;
+    let mut order: Vec<u32> = (0..n as u32).collect();
+    rng.shuffle(&mut order);
+    s.names = vec![0; 2 * n];
+    s.cells = Index::new(n, 0).cells;
+    let mut held: Vec<Vec<(u64, u64)>> = vec![Vec::new(); s.bins.len()];
+    for (hash, key) in pairs {
+        let mut k = 0;
+        let mut at = (hash & (s.lengths[0] as u64 - 1)) as usize;
+        while s.bins[at] == 1 {
+            k += 1;
+            at = s.begin(k) + (hash & (s.lengths[k] as u64 - 1)) as usize;
+        }
+        held[at].push((hash, key));
+    }
+    let mut next = order.into_iter();
+    for (b, held) in held.iter().enumerate() {
+        if held.is_empty() {
+            continue;
+        }
+        let slots: Vec<u32> = held.iter().map(|_| next.next().unwrap()).collect();
+        let tree = rng.below(2) == 0;
+        let mut ix = Index::new(held.len(), 1);
+        for (hash, key) in held {
+            ix.forget();
+            ix.insert(*hash, *key, rng.next() as u32);
+        }
+        let to = |l: u32| if l == NULL { NULL } else { slots[l as usize] };
+        for (i, at) in slots.iter().enumerate() {
+            let at = *at as usize;
+            s.names[2 * at..2 * at + 2].copy_from_slice(&ix.names[2 * i..2 * i + 2]);
+            s.cells[7 * at] = ix.cells[7 * i];
+            s.cells[7 * at + oz::STATE] = 1;
+            s.cells[7 * at + oz::NEXT] = to(ix.cells[7 * i + oz::NEXT]);
+            if tree {
+                s.cells[7 * at + oz::STATE] = ix.cells[7 * i + oz::STATE];
+                for f in [oz::PARENT, oz::LEFT, oz::RIGHT, oz::PREV] {
+                    s.cells[7 * at + f] = to(ix.cells[7 * i + f]);
+                }
+            }
+        }
+        if tree {
+            s.bins[b] = 4098 + s.heads.len() as u32 / 3;
+            s.heads.extend([to(ix.head[0]), to(ix.head[1]), ix.head[2]]);
+        } else {
+            s.bins[b] = 2 + to(ix.head[1]);
+        }
+    }
+    for _ in 0..rng.below(2) {
+        s.heads.extend([NULL, NULL, 0]);
+    }
+    s
+}
+
+/// A set of one to four tables and up to forty entries; sometimes up to eight tables.
+pub fn small(rng: &mut Rng) -> Set {
+    let most = if rng.below(20) == 0 { 8 } else { 4 };
+    let tables = 1 + rng.below(most) as usize;
+    let first = 1 << rng.below(3);
+    let most = if rng.below(4) == 0 { 41 } else { 9 };
+    let entries = rng.below(most) as usize;
+    let spare = rng.below(3) as usize;
+    draw(rng, tables, first, entries, spare)
+}
