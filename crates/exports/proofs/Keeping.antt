@@ -1,13 +1,28 @@
 -- What a call leaves in the words of a cursor: eleven writes, or none.
 use mathlib.Core.Path.{_≡_}
-use mathlib.Core.List.{List}
+use mathlib.Core.List.{List, [], _∷_}
 use Prim.Native.Nat.{ℕ, _+_, _*_}
 use lib.ListN.{length, getD, set}
 use borrow.Author.Tests.{eq-eqb, ne-eqb}
 use Rattle.slots.specs.Answers.{Answer}
 use Rattle.walks.specs.Cursor.{Cursor, Step}
 use Rattle.exports.specs.Words.{answerWord}
-use Rattle.exports.specs.Cursors.{written, kept, Kept, ofEleven}
+use Rattle.exports.specs.Cursors.{cursorIn, written, kept, Kept, ofEleven}
+
+-- The eleven reads, one after another.
+pub reads : (w : List ℕ) {b d x0 x1 x2 x3 x4 x5 x6 x7 l : ℕ} → b ≡ getD w 0 0
+    → d ≡ getD w 1 0
+    → x0 ≡ getD w 2 0
+    → x1 ≡ getD w 3 0
+    → x2 ≡ getD w 4 0
+    → x3 ≡ getD w 5 0
+    → x4 ≡ getD w 6 0
+    → x5 ≡ getD w 7 0
+    → x6 ≡ getD w 8 0
+    → x7 ≡ getD w 9 0
+    → l ≡ getD w 10 0
+    → _≡_ {A = Cursor} (record { base = b; depth = d; indexes = x0 ∷ x1 ∷ x2 ∷ x3 ∷ x4 ∷ x5 ∷ x6 ∷ x7 ∷ []; last = l }) (cursorIn w)
+reads w e0 e1 e2 e3 e4 e5 e6 e7 e8 e9 e10 = rw (e0, e1, e2, e3, e4, e5, e6, e7, e8, e9, e10)
 
 -- The eleven writes, one after another.
 pub writes : (w : List ℕ) (c : Cursor) {w1 w2 w3 w4 w5 w6 w7 w8 w9 w10 w11 : List ℕ} → w1 ≡ set w 0 (c .base)

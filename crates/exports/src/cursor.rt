@@ -1,29 +1,38 @@
 // A cursor as eleven words: base table, depth, eight indexes, last slot.
 use cursors::walk::Cursor;
 ghost use mathlib.Core.Path.{_≡_};
-ghost use lib.ListN.{length, set};
+ghost use lib.ListN.{getD, set};
 ghost use Rattle.cursors.specs.Answers.{cursorOf};
 ghost use Rattle.exports.specs.Cursors.{cursorIn, written, kept};
 
-pub fn read(words: &[u32]) -> Cursor
-    requires { ⌜ length (now words) ≡ 11 ⌝ }
+// Word k; 0 where there is none.
+fn get(words: &[u32], k: usize) -> u32
+    ensures { λ r. ⌜ r ≡ getD (now (words .entry)) k 0 ⌝ }
+{
+    if k < words.len() { words[k] } else { 0 }
+}
+
+pub(crate) fn read(words: &[u32]) -> Cursor
     ensures { λ r. ⌜ cursorOf r ≡ cursorIn (now (words .entry)) ⌝ }
 {
+    let base = get(words, 0);
+    let depth = get(words, 1);
     let indexes = [
-        words[2],
-        words[3],
-        words[4],
-        words[5],
-        words[6],
-        words[7],
-        words[8],
-        words[9],
+        get(words, 2),
+        get(words, 3),
+        get(words, 4),
+        get(words, 5),
+        get(words, 6),
+        get(words, 7),
+        get(words, 8),
+        get(words, 9),
     ];
+    let last = get(words, 10);
     Cursor {
-        base: words[0],
-        depth: words[1],
+        base,
+        depth,
         indexes,
-        last: words[10],
+        last,
     }
 }
 
@@ -54,7 +63,7 @@ fn write(words: &mut [u32], cursor: Cursor)
 }
 
 // A refused call leaves the words as they were: its number is above 0, so its word is 2^32 or more.
-pub fn keep(words: &mut [u32], told: u64, cursor: Cursor)
+pub(crate) fn keep(words: &mut [u32], told: u64, cursor: Cursor)
     ensures { λ _. ⌜ now (words .exit) ≡ kept (now (words .entry)) told (cursorOf cursor) ⌝ }
 {
     if told < 4294967296 {

@@ -5,27 +5,26 @@ use cursors::walk::Started;
 use index::insert::Inserted;
 use index::remove::Removed;
 use index::rollback::RolledBack;
-use live::check::Checked;
 use live::find::Found;
 use live::sound::Soundness;
 use slots::NULL;
 use tables::lookup::Looked;
 ghost use mathlib.Core.Path.{_≡_};
-ghost use Prim.Native.Nat.{_+_, _*_, _≤_};
-ghost use Rattle.live.specs.Answers.{foundOf, checkedOf, soundOf};
+ghost use Prim.Native.Nat.{_+_, _*_};
+ghost use Rattle.live.specs.Answers.{foundOf, soundOf};
 ghost use Rattle.index.specs.Answers.{insertedOf, removedOf, rolledOf};
 ghost use Rattle.acceptance.specs.Answers.{acceptOf};
 ghost use Rattle.tables.specs.Answers.{lookedOf};
 ghost use Rattle.cursors.specs.Answers.{startedOf, givenOf};
-ghost use Rattle.exports.specs.Words.{answerWord, checkWord};
+ghost use Rattle.exports.specs.Words.{answerWord};
 
-pub fn word(number: u32, value: u32) -> u64
+pub(crate) fn word(number: u32, value: u32) -> u64
     ensures { λ r. ⌜ r ≡ value + 4294967296 * number ⌝ }
 {
     value as u64 + 4294967296 * (number as u64)
 }
 
-pub fn found_word(found: Found) -> u64
+pub(crate) fn found_word(found: Found) -> u64
     ensures { λ r. ⌜ r ≡ answerWord (foundOf found) ⌝ }
 {
     match found {
@@ -36,19 +35,7 @@ pub fn found_word(found: Found) -> u64
     }
 }
 
-pub fn checked_word(checked: Checked) -> u64
-    requires { ⌜ checkedOf checked .number ≤ 108 ⌝ }
-    ensures { λ r. ⌜ r ≡ checkWord (checkedOf checked) ⌝ }
-{
-    match checked {
-        Checked::Passes => word(0, 0),
-        Checked::Fails(test, slot) => word(100 + test, slot),
-        Checked::Unfit => word(1, 0),
-        Checked::Lost => word(9, 0),
-    }
-}
-
-pub fn sound_word(soundness: Soundness) -> u64
+pub(crate) fn sound_word(soundness: Soundness) -> u64
     ensures { λ r. ⌜ r ≡ answerWord (soundOf soundness) ⌝ }
 {
     match soundness {
@@ -58,7 +45,7 @@ pub fn sound_word(soundness: Soundness) -> u64
     }
 }
 
-pub fn inserted_word(inserted: Inserted) -> u64
+pub(crate) fn inserted_word(inserted: Inserted) -> u64
     ensures { λ r. ⌜ r ≡ answerWord (insertedOf inserted) ⌝ }
 {
     match inserted {
@@ -71,7 +58,7 @@ pub fn inserted_word(inserted: Inserted) -> u64
     }
 }
 
-pub fn removed_word(removed: Removed) -> u64
+pub(crate) fn removed_word(removed: Removed) -> u64
     ensures { λ r. ⌜ r ≡ answerWord (removedOf removed) ⌝ }
 {
     match removed {
@@ -83,7 +70,7 @@ pub fn removed_word(removed: Removed) -> u64
     }
 }
 
-pub fn rolled_word(rolled: RolledBack) -> u64
+pub(crate) fn rolled_word(rolled: RolledBack) -> u64
     ensures { λ r. ⌜ r ≡ answerWord (rolledOf rolled) ⌝ }
 {
     match rolled {
@@ -95,7 +82,7 @@ pub fn rolled_word(rolled: RolledBack) -> u64
     }
 }
 
-pub fn accepted_word(acceptance: Acceptance) -> u64
+pub(crate) fn accepted_word(acceptance: Acceptance) -> u64
     ensures { λ r. ⌜ r ≡ answerWord (acceptOf acceptance) ⌝ }
 {
     match acceptance {
@@ -105,7 +92,7 @@ pub fn accepted_word(acceptance: Acceptance) -> u64
     }
 }
 
-pub fn looked_word(looked: Looked) -> u64
+pub(crate) fn looked_word(looked: Looked) -> u64
     ensures { λ r. ⌜ r ≡ answerWord (lookedOf looked) ⌝ }
 {
     match looked {
@@ -117,7 +104,7 @@ pub fn looked_word(looked: Looked) -> u64
     }
 }
 
-pub fn started_word(started: Started) -> u64
+pub(crate) fn started_word(started: Started) -> u64
     ensures { λ r. ⌜ r ≡ answerWord (startedOf started) ⌝ }
 {
     match started {
@@ -127,7 +114,7 @@ pub fn started_word(started: Started) -> u64
     }
 }
 
-pub fn given_word(given: Given) -> u64
+pub(crate) fn given_word(given: Given) -> u64
     ensures { λ r. ⌜ r ≡ answerWord (givenOf given) ⌝ }
 {
     match given {

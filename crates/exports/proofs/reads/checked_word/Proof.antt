@@ -5,8 +5,8 @@ use native.Mathlib.Omega.{arith}
 use borrow.Author.Needs.{needs}
 use Rattle.live.specs.Answers.{checkedOf}
 use Rattle.exports.specs.Words.{checkWord}
-use Rattle.exports.proofs.words.checked_word.Statement.{statement}
-use Rattle.exports.proofs.words.checked_word.Tie as tie
+use Rattle.exports.proofs.reads.checked_word.Statement.{statement}
+use Rattle.exports.proofs.reads.checked_word.Tie as tie
 
 enum-told : tie.Need-enum-told
 enum-told c = search needs
