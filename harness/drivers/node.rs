@@ -47,6 +47,16 @@ pub mod driver {
         unsafe { Tn::get_tree_node(p) }
     }
 
+    /// Writes the colour and the links of a slot's cells to its node; `at` is the node of a link.
+    pub(crate) fn set_links(x: &Tn, c: &[u32], at: impl Fn(u32) -> P) {
+        x.red.store(c[oz::STATE] == 2, O);
+        x.parent.store(at(c[oz::PARENT]), O);
+        x.left.store(at(c[oz::LEFT]), O);
+        x.right.store(at(c[oz::RIGHT]), O);
+        x.prev.store(at(c[oz::PREV]), O);
+        x.node.next.store(at(c[oz::NEXT]), O);
+    }
+
     const O: Ordering = Ordering::Relaxed;
 
     fn get(a: &Atomic<Entry>) -> P {
@@ -132,14 +142,7 @@ pub mod driver {
         pub fn set_words(&mut self, ix: &oz::Index) {
             let at = |l: u32| if l == oz::NULL { null() } else { self.nodes[l as usize] };
             for i in 0..ix.slots() {
-                let x = node(self.nodes[i]);
-                let c = &ix.cells[7 * i..7 * i + 7];
-                x.red.store(c[oz::STATE] == 2, O);
-                x.parent.store(at(c[oz::PARENT]), O);
-                x.left.store(at(c[oz::LEFT]), O);
-                x.right.store(at(c[oz::RIGHT]), O);
-                x.prev.store(at(c[oz::PREV]), O);
-                x.node.next.store(at(c[oz::NEXT]), O);
+                set_links(node(self.nodes[i]), &ix.cells[7 * i..7 * i + 7], at);
             }
             self.bin.root.store(at(ix.head[0]), O);
             self.bin.first.store(at(ix.head[1]), O);

@@ -2,7 +2,7 @@
 pub mod driver {
     use super::*;
     use crate::iter::traverser::NodeIter;
-    use crate::node::driver::{guard, new_node, node, null, Entry, Name, COLLECTOR, P};
+    use crate::node::driver::{guard, new_node, node, null, set_links, Entry, Name, COLLECTOR, P};
     use crate::oz::{self, Set, NULL};
     use std::sync::atomic::AtomicI64;
 
@@ -95,15 +95,7 @@ pub mod driver {
                         let Some(d) = unsafe { nodes[i].deref() }.as_node() else { unreachable!() };
                         d.next.store(at(c[oz::NEXT]), O);
                     }
-                    Kind::Tree => {
-                        let x = node(nodes[i]);
-                        x.red.store(c[oz::STATE] == 2, O);
-                        x.parent.store(at(c[oz::PARENT]), O);
-                        x.left.store(at(c[oz::LEFT]), O);
-                        x.right.store(at(c[oz::RIGHT]), O);
-                        x.prev.store(at(c[oz::PREV]), O);
-                        x.node.next.store(at(c[oz::NEXT]), O);
-                    }
+                    Kind::Tree => set_links(node(nodes[i]), c, at),
                 }
             }
             let trees: Vec<P> = (0..s.heads.len() / 3)

@@ -9,6 +9,9 @@ use std::time::Instant;
 
 const ROUNDS: usize = 25;
 
+/// How many finds a round asks for.
+const ASKED: usize = 1 << 18;
+
 /// Nanoseconds for each of n things that f does, the best of the rounds.
 fn best(n: usize, mut f: impl FnMut()) -> f64 {
     (0..ROUNDS)
@@ -18,6 +21,17 @@ fn best(n: usize, mut f: impl FnMut()) -> f64 {
             from.elapsed().as_nanos() as f64 / n as f64
         })
         .fold(f64::INFINITY, f64::min)
+}
+
+/// Nanoseconds for each of the pairs, asked in their order so many times.
+fn each(times: usize, pairs: &[(u64, u64)], mut find: impl FnMut(u64, u64) -> bool, found: bool) -> f64 {
+    best(times * pairs.len(), || {
+        for _ in 0..times {
+            for (h, k) in pairs {
+                assert_eq!(black_box(find(*h, *k)), found);
+            }
+        }
+    })
 }
 
 fn row(name: &str, ours: f64, source: Option<f64>, map: Option<f64>) {
@@ -30,6 +44,7 @@ fn main() {
     println!("| what | ours, ns | source, ns | BTreeMap, ns | ours / source | ours / BTreeMap |");
     println!("|---|---|---|---|---|---|");
     let mut rng = Rng::new(5);
+    let mut order_rng = Rng::new(8);
     for size in [16usize, 256, 4096] {
         let mut ix = Index::new(size, 1);
         let bin = Bin::new();
@@ -46,30 +61,16 @@ fn main() {
         rng.shuffle(&mut there);
         let absent: Vec<(u64, u64)> = there.iter().map(|(h, _)| (*h, rng.next())).collect();
         let strange: Vec<(u64, u64)> = there.iter().map(|_| (rng.next(), rng.next())).collect();
-        let times = 400_000 / size;
         for (name, pairs, found) in [("find, hit", &there, true), ("find, miss", &strange, false), ("find, miss on an equal hash", &absent, false)] {
-            let ours = best(times * size, || {
-                for _ in 0..times {
-                    for (h, k) in pairs {
-                        assert_eq!(black_box(ix.find(*h, *k)).value != NULL, found);
-                    }
-                }
-            });
-            let source = best(times * size, || {
-                for _ in 0..times {
-                    for (h, k) in pairs {
-                        assert_eq!(black_box(bin.find(*h, *k)), found);
-                    }
-                }
-            });
-            let btree = best(times * size, || {
-                for _ in 0..times {
-                    for (h, k) in pairs {
-                        assert_eq!(black_box(map.get(&(*h, *k))).is_some(), found);
-                    }
-                }
-            });
-            row(&format!("{name}, {size} pairs"), ours, Some(source), Some(btree));
+            // Asked in a drawn order, as names come; and in one short order again and again, which a processor learns by heart.
+            let drawn: Vec<(u64, u64)> = (0..ASKED).map(|_| pairs[order_rng.below(size as u64) as usize]).collect();
+            for (order, pairs) in [("", &drawn), (", in one order again and again", pairs)] {
+                let times = ASKED / pairs.len();
+                let ours = each(times, pairs, |h, k| ix.find(h, k).value != NULL, found);
+                let source = each(times, pairs, |h, k| bin.find(h, k), found);
+                let btree = each(times, pairs, |h, k| map.get(&(h, k)).is_some(), found);
+                row(&format!("{name}, {size} pairs{order}"), ours, Some(source), Some(btree));
+            }
         }
         // Half of the pairs leave and join again, so that the tree stays large.
         let calls = if size == 4096 { 64 } else { size / 2 };

@@ -8,10 +8,13 @@
 //! 4 ROOT FIRST COUNT, then per slot HASH KEY PLACE STATE PARENT LEFT RIGHT PREV NEXT: the words after the call before it
 //! 5 NUMBER VALUE                   the source's check
 //! 6 as 4, but the words are to be taken over: a damaged tree
+//!
+//! sample FOLDER writes into it, instead, call scripts with the answers that the source gives, for crate `replay`: NN.in and NN.out.
 use harness::oz::{self, Index, NULL};
 use harness::rng::Rng;
 use harness::source::{By, Tree};
 use seize::trace;
+use std::path::Path;
 use std::panic::{catch_unwind, AssertUnwindSafe};
 
 fn say(kind: u32, numbers: &[u64]) {
@@ -49,28 +52,39 @@ fn of_source(tree: &Tree, slots: usize) -> Index {
     ix
 }
 
+/// What an insert answers by the source: the number of a refusal or 0, and the slot. 01's lowest free slot is the new one's.
+fn insert(tree: &mut Tree, slots: usize, hash: u64, key: u64, place: u32) -> (u32, u32) {
+    let before = of_source(tree, slots);
+    let there = tree.find(hash, key);
+    let free = (0..slots as u32).find(|&i| before.cell(i, oz::STATE) == 0);
+    match (there, free) {
+        (NULL, None) => (5, 0),
+        (NULL, Some(at)) => {
+            tree.insert(hash, key, place, at);
+            (0, at)
+        }
+        (at, _) => (3, tree.insert(hash, key, place, at)),
+    }
+}
+
+fn remove(tree: &mut Tree, hash: u64, key: u64) -> (u32, u32) {
+    match tree.remove(hash, key).0 {
+        NULL => (4, 0),
+        at => (0, at),
+    }
+}
+
 fn script(rng: &mut Rng, slots: usize, ops: &[(bool, u64, u64)]) {
     say(0, &[slots as u64]);
     let mut tree = Tree::new(slots, By::Bin);
-    for (insert, hash, key) in ops {
-        let before = of_source(&tree, slots);
-        if *insert {
+    for (joins, hash, key) in ops {
+        if *joins {
             let place = rng.below(1000) as u32;
-            let there = tree.find(*hash, *key);
-            let free = (0..slots as u32).find(|&i| before.cell(i, oz::STATE) == 0);
-            let (number, value) = match (there, free) {
-                (NULL, None) => (5, 0),
-                (NULL, Some(at)) => {
-                    tree.insert(*hash, *key, place, at);
-                    (0, at)
-                }
-                (at, _) => (3, tree.insert(*hash, *key, place, at)),
-            };
-            say(1, &[*hash, *key, place as u64, number, value as u64]);
+            let (number, value) = insert(&mut tree, slots, *hash, *key, place);
+            say(1, &[*hash, *key, place as u64, number as u64, value as u64]);
         } else {
-            let (at, _) = tree.remove(*hash, *key);
-            let (number, value) = if at == NULL { (4, 0) } else { (0, at as u64) };
-            say(2, &[*hash, *key, number, value]);
+            let (number, value) = remove(&mut tree, *hash, *key);
+            say(2, &[*hash, *key, number as u64, value as u64]);
         }
         words(4, &of_source(&tree, slots));
         let (hash, key) = (rng.below(3), rng.below(10));
@@ -129,8 +143,67 @@ fn damaged(rng: &mut Rng, tests: &mut [u32; 9]) {
     }
 }
 
+/// The slots, and the lines of the journal, that a script has.
+const ROOM: usize = 512;
+
+/// A call script and its answers, all of them the source's: inserts, removes and finds of a few pairs or many, and lists by its chain.
+fn calls(rng: &mut Rng, pairs: u64, hashes: u64) -> (String, String) {
+    let mut tree = Tree::new(ROOM, By::Bin);
+    let (mut asked, mut answers, mut lines) = (String::new(), String::new(), 0);
+    let told = |(number, value): (u32, u32), word: &str| if number == 0 { format!("{word} {value}\n") } else { format!("no {number}\n") };
+    // A call that the journal has no line for is not asked, since the source has no journal.
+    while lines < ROOM {
+        let (hash, key) = (rng.below(hashes), rng.below(pairs));
+        match rng.below(60) {
+            0..=34 => {
+                let place = rng.below(1 << 32) as u32;
+                let answer = insert(&mut tree, ROOM, hash, key, place);
+                lines += (answer.0 == 0) as usize;
+                asked += &format!("+ {hash} {key} {place}\n");
+                answers += &told(answer, "slot");
+            }
+            35..=49 => {
+                let answer = remove(&mut tree, hash, key);
+                lines += (answer.0 == 0) as usize;
+                asked += &format!("- {hash} {key}\n");
+                answers += &told(answer, "gone");
+            }
+            50..=58 => {
+                asked += &format!("? {hash} {key}\n");
+                answers += &match tree.find(hash, key) {
+                    NULL => "none\n".to_string(),
+                    at => format!("at {at}\n"),
+                };
+            }
+            _ => {
+                let ix = of_source(&tree, ROOM);
+                asked += "l\n";
+                answers += &format!("entries {}\n", ix.head[2]);
+                let mut i = ix.head[1];
+                while i != NULL {
+                    answers += &format!("{} {} {}\n", ix.names[2 * i as usize], ix.names[2 * i as usize + 1], ix.cell(i, oz::PLACE));
+                    i = ix.cell(i, oz::NEXT);
+                }
+            }
+        }
+    }
+    (asked, answers)
+}
+
+fn write_scripts(folder: &Path) {
+    let mut rng = Rng::new(7);
+    for (number, pairs, hashes) in [(49, 12, 3), (50, 40, 7), (51, 100, 2), (52, 200, 1 << 40)] {
+        let (asked, answers) = calls(&mut rng, pairs, hashes);
+        std::fs::write(folder.join(format!("{number}.in")), asked).expect("the script");
+        std::fs::write(folder.join(format!("{number}.out")), answers).expect("its answers");
+    }
+}
+
 fn main() {
     std::panic::set_hook(Box::new(|_| {}));
+    if let Some(folder) = std::env::args().nth(1) {
+        return write_scripts(Path::new(&folder));
+    }
     let mut rng = Rng::new(6);
     for slots in [1, 2, 3, 7, 7, 12, 12, 16] {
         let ops: Vec<(bool, u64, u64)> = (0..12 + 4 * slots).map(|k| (rng.below(8) < if k < 2 * slots { 6 } else { 3 }, rng.below(3), rng.below(10))).collect();

@@ -13,6 +13,7 @@ use lib.Dec.{eqb}
 use borrow.Author.Tests.{eq-eqb, ne-eqb}
 use Rattle.slots.specs.Words.{null, pick, left, right, next, cell, nameOf, hashPart}
 use Rattle.slots.specs.Answers.{Answer, Value, none, some, given, refused}
+use Rattle.slots.proofs.Laws.{some-is}
 use Rattle.shape.specs.Rules.{then}
 use Rattle.sets.specs.Words.{Set, fits, tablesOf, lengthAt, Bin, empty, moved, bad, list, tree, binAt, bini}
 use Rattle.sets.specs.Accepting.{isHome, samePair, unlike, listSlotFine, listFine, treeHome, anyWord, isBlank, headerFine, headersFine, treeFine, placed, ownFine, isMoved, binAsks, binFine, belowFine, tableFine}
@@ -20,9 +21,6 @@ use Rattle.sets.proofs.Fit.{fits-fit, length-bound}
 use Rattle.sets.proofs.Forest.{row-found}
 use Rattle.bins.specs.Answers.{binis}
 use Rattle.acceptance.specs.Room.{Room}
-
-some-is : {a b : ℕ} → some a ≡ some b → a ≡ b
-some-is e = cc
 
 -- The numbers of the recursion stay within their words.
 pub room-near : {lengths : List ℕ} {left k i : ℕ} → Room lengths left k i → left ≢ 0 → Room lengths (left - 1) (k + 1) i

@@ -80,7 +80,7 @@ fn bin_at(lengths: &[u32], bins: &[u32], heads: &[u32], names: &[u64], k: u32, i
 
 // The check of bin i of table k, where so many tables come after that one: the visits left after it and what is below it. A bin whose
 // parent is not Moved may not hold anything.
-pub fn bin_fine(
+pub(crate) fn bin_fine(
     lengths: &[u32],
     bins: &[u32],
     heads: &[u32],

@@ -50,7 +50,7 @@ fn header_fine(heads: &[u32], bins: &[u32], h: u32) -> bool
 }
 
 // Each of the first n headers is null with count 0, or a bin names it.
-pub fn headers_fine(heads: &[u32], bins: &[u32], n: u32) -> bool
+pub(crate) fn headers_fine(heads: &[u32], bins: &[u32], n: u32) -> bool
     ensures { λ r. ⌜ r ≡ headersFine n (now (heads .entry)) (now (bins .entry)) ⌝ }
 {
     let mut h = n;

@@ -20,7 +20,7 @@ ghost use Rattle.sets.specs.Accepting.{isHome, isListSlot, samePair, listSlotFi
 ghost use Rattle.sets.specs.Accepting.{unlike as differs};
 
 // The hash of slot x names bin i of a table of so many bins. With none the mask is 0, and so is the bin.
-pub fn is_home(names: &[u64], length: u32, i: u32, x: u32) -> bool
+pub(crate) fn is_home(names: &[u64], length: u32, i: u32, x: u32) -> bool
     ensures { λ r. ⌜ r ≡ isHome (now (names .entry)) length i x ⌝ }
 {
     let hash = name(names, x, HASH);
@@ -110,7 +110,7 @@ fn list_slot_fine(names: &[u64], cells: &[u32], length: u32, i: u32, x: u32, vis
 }
 
 // The visits left after the list from first, or that it goes wrong.
-pub fn list_fine(
+pub(crate) fn list_fine(
     names: &[u64],
     cells: &[u32],
     length: u32,

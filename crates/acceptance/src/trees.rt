@@ -6,10 +6,7 @@ use slots::RIGHT;
 use slots::get;
 use tree::chain::chain;
 use tree::rules::Rest;
-use tree::rules::coloured;
-use tree::rules::level;
-use tree::rules::reach;
-use tree::rules::rising;
+use tree::rules::survey;
 ghost use mathlib.Core.Path.{_≡_};
 ghost use Prim.Native.Nat.{_/_};
 ghost use lib.ListN.{length};
@@ -53,7 +50,7 @@ fn chain_fine(n: usize, cells: &[u32], first: u32, count: u32) -> bool
     n - rest == count as usize
 }
 
-// A tree whose m slots T3's walk has passed obeys the other rules, and its header has a root, a first and that count.
+// A tree of m slots that obeys T3 to T6: its header has a root, a first and that count, its chain is as long, and each slot is in its bin.
 fn tree_good(
     names: &[u64],
     cells: &[u32],
@@ -76,18 +73,6 @@ fn tree_good(
         return false;
     }
     let n = names.len() / 2;
-    let fourth = rising(names, cells, root);
-    if !fourth {
-        return false;
-    }
-    let fifth = coloured(n, cells, root);
-    if !fifth {
-        return false;
-    }
-    let sixth = level(n, cells, root);
-    if !sixth {
-        return false;
-    }
     let linked = chain_fine(n, cells, first, count);
     if !linked {
         return false;
@@ -96,7 +81,7 @@ fn tree_good(
 }
 
 // The visits left after the tree of a header, or that it goes wrong.
-pub fn tree_fine(
+pub(crate) fn tree_fine(
     names: &[u64],
     cells: &[u32],
     length: u32,
@@ -108,7 +93,7 @@ pub fn tree_fine(
 ) -> Rest
     ensures { λ r. ⌜ restOf r ≡ treeFine (now (names .entry)) (now (cells .entry)) length i root first count visits ⌝ }
 {
-    let walk = reach(names.len() / 2, cells, NULL, root, visits);
+    let walk = survey(names, cells, root, visits);
     let Rest::Left(rest) = walk else {
         return Rest::Wrong;
     };

@@ -3,8 +3,6 @@ use index::insert::Inserted;
 use index::insert::insert;
 use index::remove::Removed;
 use index::remove::remove;
-use index::rollback::RolledBack;
-use index::rollback::rollback;
 use libc::STDOUT_FILENO;
 use live::sound::Soundness;
 use live::sound::sound;
@@ -16,6 +14,8 @@ use slots::get;
 use slots::name;
 use slots::put;
 use slots::put_name;
+use undo::rollback::RolledBack;
+use undo::rollback::rollback;
 
 // Writes words to standard output, which is all that this program writes to.
 fn say(words: &[u8]) {

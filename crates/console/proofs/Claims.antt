@@ -1,12 +1,9 @@
 -- Every claim of the crate holds: what a call returns and leaves is read back off its outcome, field by field.
-use mathlib.Core.Path.{_≡_, refl, ap, sym, _∙_}
-use mathlib.Core.List.{List}
-use Prim.Native.Nat.{ℕ}
+use mathlib.Core.Path.{_≡_, ap, sym, _∙_}
 use Rattle.dialogue.specs.Feeding.{Line as Held, Fed as Outcome}
-use Rattle.console.specs.Meanings.{lineOf, fedOf}
+use Rattle.console.specs.Meanings.{fedOf}
 use Rattle.console.specs.Claims.{Call, indexOf, Claims}
 use Rattle.console.specs.declared.feed.Line.{Line}
-use Rattle.console.specs.declared.feed.Fed.{Fed}
 
 abbrev lineBack : Held → Line
 lineBack l = record { bytes = l .bytes; count = l .count }

@@ -1,14 +1,11 @@
 -- A call and the answer that is printed for it, on plain values, come to what the model says of the command.
-use mathlib.Core.Path.{_≡_, refl, ap, sym, _∙_}
+use mathlib.Core.Path.{_≡_, ap}
 use mathlib.Core.List.{List}
 use Prim.Native.Nat.{ℕ}
 use Rattle.slots.specs.Answers.{Answer}
-use Rattle.demands.specs.Live.{Live}
-use Rattle.demands.specs.Find.{finds}
 use Rattle.demands.specs.Index.{Index, Outcome, outcome}
-use Rattle.dialogue.specs.Text.{slotText, goneText, backText, atText}
-use Rattle.dialogue.specs.Answers.{told, marking, listing, obeyed}
-use Rattle.dialogue.specs.Commands.{Command, insert, remove, find, rollback, mark, list, bad}
+use Rattle.dialogue.specs.Answers.{told}
+use Rattle.dialogue.specs.Commands.{Command}
 use Rattle.dialogue.specs.Feeding.{Paper, Turn, typed, turned}
 use Rattle.dialogue.proofs.Feeding.{Within, typed-within}
 

@@ -5,7 +5,7 @@ use Rattle.slots.specs.Answers.{Value as Count, none, some}
 use Rattle.demands.specs.Index.{Index}
 use Rattle.dialogue.specs.Text.{newline, noneText, noText}
 use Rattle.dialogue.specs.Answers.{counted}
-use Rattle.dialogue.specs.Feeding.{Line as Held, Paper, Desk, Fed as Outcome}
+use Rattle.dialogue.specs.Feeding.{Line as Held, Fed as Outcome}
 use Rattle.console.specs.declared.answer.Met.{Met}
 use Rattle.console.specs.declared.answer.Met.the-variants.{Slots, Lost}
 use Rattle.console.specs.declared.answer.Reply.{Reply}

@@ -9,7 +9,7 @@ ghost use Rattle.walks.specs.Cursor.{fine as allFine};
 ghost use Rattle.walks.specs.Walk.{place, kept, trimmed, advanced};
 
 // The index at level j.
-pub fn index_at(indexes: &[u32; 8], j: u32) -> u32
+pub(crate) fn index_at(indexes: &[u32; 8], j: u32) -> u32
     requires { ⌜ j < 8 ⌝ }
     ensures { λ r. ⌜ r ≡ getD (now (indexes .entry)) j 0 ⌝ }
 {
@@ -18,7 +18,7 @@ pub fn index_at(indexes: &[u32; 8], j: u32) -> u32
 }
 
 // Writes the index at level j.
-pub fn set_index(indexes: &mut [u32; 8], j: u32, i: u32)
+pub(crate) fn set_index(indexes: &mut [u32; 8], j: u32, i: u32)
     requires { ⌜ j < 8 ⌝ }
     ensures { λ _. ⌜ now (indexes .exit) ≡ set (now (indexes .entry)) j i ⌝ }
 {
@@ -73,7 +73,14 @@ fn base_fine(length: u32, depth: u32, i: u32) -> bool
 }
 
 // A cursor's numbers, over tables of these lengths, at most eight, and n slots.
-pub fn fine(lengths: &[u32], n: usize, base: u32, depth: u32, indexes: &[u32; 8], last: u32) -> bool
+pub(crate) fn fine(
+    lengths: &[u32],
+    n: usize,
+    base: u32,
+    depth: u32,
+    indexes: &[u32; 8],
+    last: u32,
+) -> bool
     requires { ⌜ length (now lengths) ≤ 8 ⌝ }
     ensures { λ r. ⌜ r ≡ allFine (now (lengths .entry)) n base depth (now (indexes .entry)) last ⌝ }
 {
@@ -104,7 +111,7 @@ fn keep(indexes: &[u32; 8], depth: u32, j: u32) -> u32
 }
 
 // The indexes, 0 past the depth.
-pub fn trim(indexes: &[u32; 8], depth: u32) -> [u32; 8]
+pub(crate) fn trim(indexes: &[u32; 8], depth: u32) -> [u32; 8]
     ensures { λ r. ⌜ r ≡ trimmed depth (now (indexes .entry)) ⌝ }
 {
     let a = keep(indexes, depth, 0);
@@ -119,7 +126,7 @@ pub fn trim(indexes: &[u32; 8], depth: u32) -> [u32; 8]
 }
 
 // The source's recover_state: that index plus the upper length, while below the lower length; then up. It gives the depth.
-pub fn advance(lengths: &[u32], base: u32, depth: u32, indexes: &mut [u32; 8]) -> u32
+pub(crate) fn advance(lengths: &[u32], base: u32, depth: u32, indexes: &mut [u32; 8]) -> u32
     requires { ⌜ (depth < 8) × (base + depth < 2 ^ 32) × (getD (now indexes) 0 0 + 1 < 2 ^ 32) ⌝ }
     ensures { λ r. ⌜ place r (now (indexes .exit)) ≡ advanced depth (now (lengths .entry)) base (now (indexes .entry)) ⌝ }
 {

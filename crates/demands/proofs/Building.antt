@@ -1,23 +1,22 @@
 -- A tree that is built is sound: a slot of the tree has its words from the tree and the chain, any other is cleared.
-use mathlib.Core.Path.{_≡_, refl, ap, sym, _∙_}
-use mathlib.Core.Logic.{_≢_, _↔_, _⊎_, inl, inr}
-use mathlib.Core.Bool.{Bool, true, false}
-use mathlib.Core.List.{List, [], _∷_, _++_}
-use Prim.Native.Nat.{ℕ, zero, suc, _+_, _<_, _≤_}
+use mathlib.Core.Path.{_≡_, refl, sym, _∙_}
+use mathlib.Core.Logic.{_≢_, _↔_, inl, inr}
+use mathlib.Core.List.{List}
+use Prim.Native.Nat.{ℕ, _<_, _≤_}
 use native.Mathlib.Decide.{ℕ-discrete}
 use native.Mathlib.Omega.{arith}
 use lib.ListN.{length}
 use borrow.Author.Tests.{eq-eqb}
 use Rattle.slots.specs.Words.{null, state, parent, left, right, prev, next, free, cell, Colour, black, red, code}
 use Rattle.shape.specs.Check.{Named, LinksNamed}
-use Rattle.shape.specs.Tree.{Tree, leaf, node, top, slots, times, Hangs, Rooted}
+use Rattle.shape.specs.Tree.{Tree, leaf, node, top, slots, times, Hangs}
 use Rattle.shape.specs.Tree.Hangs.{none as hangsNone, some as hangsSome}
 use Rattle.shape.specs.Chain.{Chain, ended, linked}
 use Rattle.shape.proofs.Counting.{times-cases, times-around, exactly-length}
 use Rattle.shape.proofs.Reaching.{length-node, hangs-stand, hangs-inside}
 use Rattle.shape.proofs.Chaining.{chain-inside}
 use Rattle.demands.specs.Live.{Live, Fit, rootOf, firstOf, countOf, capacityOf}
-use Rattle.demands.specs.Sound.{Sound, T1, T2, T3, T7, used, Cleared}
+use Rattle.demands.specs.Sound.{Sound, used, Cleared}
 use Rattle.demands.specs.Built.{Built}
 use Rattle.demands.proofs.Rules.{small, used-hued}
 

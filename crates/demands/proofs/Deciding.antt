@@ -1,17 +1,16 @@
 -- Whether a sound tree has a pair can be decided slot by slot, and the search decides it so.
-use mathlib.Core.Path.{_≡_, refl, ap, sym, _∙_}
+use mathlib.Core.Path.{_≡_, ap}
 use mathlib.Core.List.{List, [], _∷_}
-use Prim.Native.Nat.{ℕ, _+_, _<_, _≤_}
+use Prim.Native.Nat.{ℕ, _≤_}
 use native.Mathlib.Decide.{ℕ-discrete}
 use native.Mathlib.Omega.{arith}
 use Rattle.slots.specs.Words.{nameOf, hashPart, keyPart}
 use Rattle.slots.specs.Pairs.{Pair, pair, pairOf}
-use Rattle.slots.specs.Answers.{Answer, Value, some, none, given, nothing}
-use Rattle.shape.specs.Find.{found}
-use Rattle.shape.specs.Tree.{Tree, slots, times}
+use Rattle.slots.specs.Answers.{Answer, some, none}
+use Rattle.shape.specs.Tree.{slots, times}
 use Rattle.shape.proofs.Counting.{times-cases, times-head, times-rest}
 use Rattle.redblack.specs.Holding.{Has, Stands}
-use Rattle.demands.specs.Live.{Live, Fit, rootOf}
+use Rattle.demands.specs.Live.{Live, Fit}
 use Rattle.demands.specs.Sound.{Sound}
 use Rattle.demands.specs.Insert.{soughtIn}
 use Rattle.demands.proofs.Seeking.{found-at, found-none}

@@ -3,29 +3,28 @@
 use mathlib.Core.Path.{_≡_, refl, ap, sym, _∙_, subst}
 use mathlib.Core.Logic.{_≢_, _⊎_, inl, inr}
 use mathlib.Core.List.{List, [], _∷_}
-use Prim.Native.Nat.{ℕ, suc, _+_, _-_, _<_, _≤_}
+use Prim.Native.Nat.{ℕ, suc, _-_, _<_, _≤_}
 use native.Mathlib.Numerals.{add-one}
 use native.Mathlib.Omega.{arith}
 use lib.ListN.{length, getD}
 use Rattle.slots.specs.Words.{place, cell}
-use Rattle.slots.specs.Pairs.{Pair, pair, pairOf}
-use Rattle.slots.specs.Answers.{Answer, given}
-use Rattle.shape.specs.Tree.{Tree, slots}
+use Rattle.slots.specs.Answers.{given}
+use Rattle.shape.specs.Tree.{Tree}
 use Rattle.redblack.specs.Holding.{Has, Stands}
-use Rattle.demands.specs.Live.{Live, Fit, capacityOf}
+use Rattle.demands.specs.Live.{capacityOf}
 use Rattle.demands.specs.Sound.{Sound}
-use Rattle.demands.specs.Index.{Index, FitIndex, Outcome, lengthOf, linesOf, lineWord, at, kindWord, hashWord, keyWord, placeWord}
+use Rattle.demands.specs.Index.{Index, FitIndex, lengthOf, lineWord, at, kindWord, hashWord, keyWord, placeWord}
 use Rattle.demands.specs.Insert.{inserts}
 use Rattle.demands.specs.Remove.{removes}
 use Rattle.demands.specs.Rollback.{rolls}
 use Rattle.demands.specs.Contents.{Entry, entry, entryOf, contents, put, without, In, Lacks}
 use Rattle.demands.specs.Undoing.{lineEntry, Undoes, back, insertLine, removeLine}
-use Rattle.demands.specs.Calls.{Call, insertCall, removeCall, rollbackCall, called, after, Allowed, nothing, inserting, removing, rolling, Places, OneLine, BackTo}
+use Rattle.demands.specs.Calls.{Call, insertCall, removeCall, rollbackCall, after, Allowed, nothing, inserting, removing, rolling, Places, OneLine, BackTo}
 use Rattle.demands.specs.Claims.{Demand3}
 use Rattle.demands.proofs.Listing.{ascends-map, in-put, without-put, put-all, without-in, lacks-without, put-without, length-without}
 use Rattle.demands.proofs.Undoing.{undoes-one, undoes-cut, SameLine, undoes-frame}
 use Rattle.demands.proofs.Holding.{stands-in, lacks-of}
-use Rattle.demands.proofs.Unrolling.{tree-one, contents-one, contents-most}
+use Rattle.demands.proofs.Unrolling.{tree-one, contents-most}
 use Rattle.demands.proofs.Inserting.{insert-claims, insert-settled}
 use Rattle.demands.proofs.Removing.{remove-claims, remove-settled}
 use Rattle.demands.proofs.Rolling.{rollback-claims, rollback-settled}

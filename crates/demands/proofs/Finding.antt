@@ -1,10 +1,10 @@
 -- find on a sound tree, from the law of the search there; and that the contents of a sound tree are one list.
-use mathlib.Core.Path.{_≡_, refl, ap, sym, _∙_, subst}
-use mathlib.Core.Logic.{_↔_}
-use Prim.Native.Nat.{ℕ, _≤_}
+use mathlib.Core.Path.{_≡_, refl, sym, _∙_, subst}
+use Prim.Native.Nat.{ℕ}
 use native.Mathlib.Omega.{arith}
 use Rattle.slots.specs.Pairs.{pair, pairOf}
-use Rattle.slots.specs.Answers.{Answer, Value, some, none, given, nothing, refused}
+use Rattle.slots.specs.Answers.{none, given, nothing, refused}
+use Rattle.slots.proofs.Laws.{number, none-some, value}
 use Rattle.shape.specs.Find.{found}
 use Rattle.redblack.specs.Holding.{Has, Stands}
 use Rattle.demands.specs.Live.{Live, Fit, rootOf}
@@ -16,10 +16,7 @@ use Rattle.demands.proofs.Seeking.{found-at, found-none}
 use Rattle.demands.proofs.Deciding.{Seen, there, absent, seen}
 use Rattle.demands.proofs.Holding.{contents-length}
 use Rattle.demands.proofs.Unrolling.{contents-one}
-use Rattle.demands.proofs.Inserting.{number, value-inj}
-
-none-some : {x : ℕ} → none ≡ some x → ⊥
-none-some e = let z : _≡_ {A = ℕ} 0 1 = cc in omega arith
+use Rattle.demands.proofs.Inserting.{value-inj}
 
 module _ {t : Live} (fit : Fit t) (h : Sound t) (hash key : ℕ) where
   is : finds t hash key ≡ found (t .names) (t .cells) (rootOf t) hash key .answer
@@ -42,10 +39,10 @@ module _ {t : Live} (fit : Fit t) (h : Sound t) (hash key : ℕ) where
           go (there x z n s) =
               let y : x ≡ slot = value-inj (sym (at-slot x z n) ∙ e) refl refl in
               (subst (λ (k : ℕ). Stands k (h .tree)) y z, subst (λ (k : ℕ). pairOf (t .names) k ≡ pair hash key) y n)
-          go (absent n s) = absurd (none-some (ap (λ (a : Answer). a .value) (sym (at-none n) ∙ e)))
+          go (absent n s) = absurd (none-some (value (sym (at-none n) ∙ e)))
 
       lacks : finds t hash key ≡ nothing → Has (t .names) (h .tree) hash key → ⊥
-      lacks e a = none-some (ap (λ (r : Answer). r .value) (sym e ∙ at-slot (a .slot) (a .stands) (a .named)))
+      lacks e a = none-some (value (sym e ∙ at-slot (a .slot) (a .stands) (a .named)))
 
       nine : finds t hash key ≡ refused 9 → Seen h hash key → ⊥
       nine e (there x z n s) = omega (arith, number (sym (at-slot x z n) ∙ e))

@@ -1,23 +1,23 @@
 -- What a sound tree holds after a slot joins or leaves it: the other entries are as they were, so the list changes by this entry alone.
 use mathlib.Core.Path.{_≡_, refl, ap, sym, _∙_, subst}
-use mathlib.Core.Logic.{_≢_, _⊎_, inl, inr}
+use mathlib.Core.Logic.{_⊎_, inl, inr}
 use mathlib.Core.List.{List, [], _∷_, _++_, map}
-use Prim.Native.Nat.{ℕ, _+_, _-_, _<_, _≤_}
+use Prim.Native.Nat.{ℕ, _+_, _-_, _≤_}
 use native.Mathlib.Omega.{arith}
 use lib.ListN.{length, length-map}
-use Rattle.slots.specs.Words.{place, cell, nameOf, hashPart, keyPart}
+use Rattle.slots.specs.Words.{place, cell}
 use Rattle.slots.specs.Pairs.{Pair, pair, pairOf}
-use Rattle.shape.specs.Tree.{Tree, slots, times, Rising}
+use Rattle.shape.specs.Tree.{slots, times}
 use Rattle.shape.proofs.Counting.{times-append, times-head, times-rest, times-cases}
 use Rattle.redblack.specs.Balance.{Less}
 use Rattle.redblack.specs.Holding.{Has}
-use Rattle.demands.specs.Live.{Live, Fit, capacityOf, countOf}
+use Rattle.demands.specs.Live.{Live, countOf}
 use Rattle.demands.specs.Sound.{Sound}
-use Rattle.demands.specs.Contents.{Entry, entry, entryOf, listed, contents, put, without, In, first, later, Lacks, empty, other}
+use Rattle.demands.specs.Contents.{Entry, entry, entryOf, contents, put, without, In, first, later, Lacks, empty, other}
 use Rattle.demands.proofs.Frames.{Kept, sound-count}
 use Rattle.demands.proofs.Growing.{Grown}
 use Rattle.demands.proofs.Shrinking.{Shrunk}
-use Rattle.demands.proofs.Listing.{Ascends, ascends-map, ascends-weak, put-at, without-at, in-at, lacks-at, in-lacks}
+use Rattle.demands.proofs.Listing.{Ascends, ascends-map, put-at, without-at, in-lacks}
 
 map-append : (t : Live) (a b : List ℕ) → map (entryOf t) (a ++ b) ≡ map (entryOf t) a ++ map (entryOf t) b
 map-append t [] b = refl
@@ -67,13 +67,6 @@ module _ {t u : Live} {h : Sound t} {x hash key p : ℕ} (g : Grown t u h x hash
   pub grown-contents : contents (g .sound) ≡ put (entry hash key p) (contents h)
   grown-contents = grown-split .more ∙ sym (ap (put (entry hash key p)) (grown-split .less) ∙ put-at (entry hash key p) (grown-split .lower) (grown-split .upper) grown-ascends)
 
-  pub grown-in : In (entry hash key p) (contents (g .sound))
-  grown-in = rw (grown-split .more) (in-at (entry hash key p) (grown-split .lower) (grown-split .upper))
-
-  pub grown-without : without hash key (contents (g .sound)) ≡ contents h
-  grown-without =
-      ap (without hash key) (grown-split .more) ∙ without-at (entry hash key p) (grown-split .lower) (grown-split .upper) grown-ascends ∙ sym (grown-split .less)
-
 -- The other way round: t has the slot x, which u has not.
 module _ {t u : Live} {h : Sound t} {x : ℕ} (g : Shrunk t u h x) where
   shrunk-split : Split u t (slots (h .tree)) (slots (g .sound .tree)) (entryOf t x)
@@ -88,16 +81,6 @@ module _ {t u : Live} {h : Sound t} {x : ℕ} (g : Shrunk t u h x) where
   shrunk-contents =
       shrunk-split .less
       ∙ sym (ap (without (entryOf t x .hash) (entryOf t x .key)) (shrunk-split .more) ∙ without-at (entryOf t x) (shrunk-split .lower) (shrunk-split .upper) shrunk-ascends)
-
-  pub shrunk-lacks : Lacks (entryOf t x .hash) (entryOf t x .key) (contents (g .sound))
-  shrunk-lacks = rw (shrunk-split .less) (lacks-at (entryOf t x) (shrunk-split .lower) (shrunk-split .upper) shrunk-ascends)
-
-  pub shrunk-put : put (entryOf t x) (contents (g .sound)) ≡ contents h
-  shrunk-put =
-      ap (put (entryOf t x)) (shrunk-split .less) ∙ put-at (entryOf t x) (shrunk-split .lower) (shrunk-split .upper) shrunk-ascends ∙ sym (shrunk-split .more)
-
-  pub shrunk-in : In (entryOf t x) (contents h)
-  shrunk-in = rw (shrunk-split .more) (in-at (entryOf t x) (shrunk-split .lower) (shrunk-split .upper))
 
 -- The contents are as many as the count.
 pub contents-length : {t : Live} (h : Sound t) → length (contents h) ≡ countOf t

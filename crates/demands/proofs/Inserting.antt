@@ -1,17 +1,17 @@
 -- insert, by cases: the tests in 01's order settle which, and each answer is given in one of them only.
 use mathlib.Core.Path.{_≡_, refl, ap, sym, _∙_, subst}
-use mathlib.Core.Logic.{_≢_, _↔_, _⊎_, inl, inr}
+use mathlib.Core.Logic.{_≢_, _⊎_, inl, inr}
 use mathlib.Core.Bool.{Bool, true, false, false≢true}
-use mathlib.Core.List.{List, _∷_}
-use Prim.Native.Nat.{ℕ, _+_, _*_, _<_, _≤_}
+use mathlib.Core.List.{_∷_}
+use Prim.Native.Nat.{ℕ, _<_}
 use native.Mathlib.Decide.{ℕ-discrete, decLt}
 use native.Mathlib.Omega.{arith}
 use lib.ListN.{length}
-use lib.Dec.{eqb}
 use borrow.Author.Tests.{eq-eqb, ne-eqb}
-use Rattle.slots.specs.Words.{null, pick, state, free, cell}
+use Rattle.slots.specs.Words.{null, state, free, cell}
 use Rattle.slots.specs.Pairs.{pair, pairOf}
-use Rattle.slots.specs.Answers.{Answer, Value, some, none, given, refused}
+use Rattle.slots.specs.Answers.{Answer, some, none, given, refused}
+use Rattle.slots.proofs.Laws.{number, some-is, value}
 use Rattle.shape.specs.Tree.{Tree}
 use Rattle.redblack.specs.Holding.{Has, Stands}
 use Rattle.demands.specs.Live.{Live, Fit, capacityOf}
@@ -25,7 +25,7 @@ use Rattle.demands.proofs.Rules.{small}
 use Rattle.demands.proofs.Sounding.{sound-yes, yes-sound, unsound}
 use Rattle.demands.proofs.Journal.{fits-index, index-fits, lines-capacity, one-line}
 use Rattle.demands.proofs.Growing.{grown-fit, grown-sound}
-use Rattle.demands.proofs.Free.{LowestFree, lowest-free, none-free}
+use Rattle.demands.proofs.Free.{lowest-free, none-free}
 use Rattle.demands.proofs.Deciding.{Seen, there, absent, seen}
 use Rattle.demands.proofs.Seeking.{found-at, found-none}
 use Rattle.demands.proofs.Holding.{grown-contents}
@@ -36,14 +36,8 @@ pub false-of : (b : Bool) → (b ≡ true → ⊥) → b ≡ false
 false-of true n = absurd (n refl)
 false-of false n = refl
 
-pub number : {a b : Answer} → a ≡ b → a .number ≡ b .number
-number e = ap (λ (a : Answer). a .number) e
-
-some-inj : {a b : ℕ} → some a ≡ some b → a ≡ b
-some-inj e = cc
-
 pub value-inj : {a b : Answer} {x y : ℕ} → a ≡ b → a .value ≡ some x → b .value ≡ some y → x ≡ y
-value-inj {a} {b} e p q = some-inj (sym p ∙ ap (λ (r : Answer). r .value) e ∙ q)
+value-inj {a} {b} e p q = some-is (sym p ∙ value e ∙ q)
 
 -- Why the tests of an index come out as they do.
 module _ (ix : Index) where

@@ -1,23 +1,21 @@
 -- The words of the journal after a line is written, appended or cleared: those four words, and no other.
-use mathlib.Core.Path.{_≡_, refl, ap, sym, _∙_}
+use mathlib.Core.Path.{_≡_, refl, _∙_}
 use mathlib.Core.Logic.{_≢_}
-use mathlib.Core.Bool.{Bool, true, false}
-use mathlib.Core.List.{List, [], _∷_}
-use Prim.Native.Nat.{ℕ, zero, suc, _+_, _-_, _*_, _/_, _<_, _≤_}
+use mathlib.Core.Bool.{true}
+use mathlib.Core.List.{List}
+use Prim.Native.Nat.{ℕ, zero, suc, _+_, _-_, _*_, _<_, _≤_}
 use native.Mathlib.Decide.{ℕ-discrete, decLt}
 use native.Mathlib.Omega.{arith}
 use lib.ListN.{length, getD, set, length-set}
 use lib.Seq.{getD-set-same, getD-set-other}
 use lib.Dec.{eqb, leb}
 use borrow.Author.Tests.{eqb-true, leb-true, eq-eqb, le-leb}
-use Rattle.slots.specs.Words.{pick}
-use Rattle.demands.specs.Live.{Live, fits}
+use Rattle.demands.specs.Live.{fits}
 use Rattle.demands.specs.Index.{Index, FitIndex, fitsJournal, fitsIndex, lengthOf, linesOf, at, lineWord, kindWord, hashWord, keyWord, placeWord, lined, appended}
 use Rattle.demands.specs.Rollback.{blanked}
 use Rattle.demands.specs.Calls.{OneLine, BackTo}
 use Rattle.demands.proofs.Fit.{both, fits-fit, fit-fits}
 use Rattle.demands.proofs.Rules.{and}
-use Rattle.demands.proofs.Undoing.{SameLine}
 
 -- The test of the whole index.
 pub fits-index : (ix : Index) → fitsIndex ix ≡ true → FitIndex ix
@@ -114,15 +112,6 @@ module _ (lines : List ℕ) (kind hash key place : ℕ) (room : at (lengthOf lin
   pub appended-past : (j : ℕ) → at (lengthOf lines) 3 < j → getD (appended lines kind hash key place) j 0 ≡ getD lines j 0
   appended-past j l = appended-word j (omega arith) ∙ lined-past lines (lengthOf lines) kind hash key place j l
 
-  pub appended-same : (k : ℕ) → k < lengthOf lines → SameLine lines (appended lines kind hash key place) k
-  appended-same k l =
-      record {
-        kinds = appended-below (at k kindWord) (omega arith) (omega arith);
-        hashes = appended-below (at k hashWord) (omega arith) (omega arith);
-        keys = appended-below (at k keyWord) (omega arith) (omega arith);
-        places = appended-below (at k placeWord) (omega arith) (omega arith);
-      }
-
   pub appended-kind : lineWord (appended lines kind hash key place) (lengthOf lines) kindWord ≡ kind
   appended-kind = appended-word (at (lengthOf lines) kindWord) (omega arith) ∙ lined-kind lines (lengthOf lines) kind hash key place room
 
@@ -211,15 +200,6 @@ module _ (c : ℕ) (lines : List ℕ) (m : ℕ) (room : at (m + c) 0 ≤ length 
 
   pub rolled-past : (j : ℕ) → at (m + c) 0 ≤ j → getD (rolledLines c lines m) j 0 ≡ getD lines j 0
   rolled-past j l = getD-set-other (blanked c lines m) 0 j m 0 (omega arith) ∙ blanked-past c lines m j l
-
-  pub rolled-same : (k : ℕ) → k < m → SameLine lines (rolledLines c lines m) k
-  rolled-same k l =
-      record {
-        kinds = rolled-below (at k kindWord) (omega arith) (omega arith);
-        hashes = rolled-below (at k hashWord) (omega arith) (omega arith);
-        keys = rolled-below (at k keyWord) (omega arith) (omega arith);
-        places = rolled-below (at k placeWord) (omega arith) (omega arith);
-      }
 
 pub back-to : (lines : List ℕ) (m : ℕ) → m ≤ lengthOf lines → at (lengthOf lines) 0 ≤ length lines → BackTo m lines (rolledLines (lengthOf lines - m) lines m)
 back-to lines m l room =

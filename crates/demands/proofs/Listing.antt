@@ -1,18 +1,17 @@
 -- Entries in order: in a list whose pairs strictly rise an entry has one place, so that to put it in and to take it out undo each other.
 use mathlib.Core.Path.{_≡_, refl, ap, sym, _∙_, subst}
-use mathlib.Core.Logic.{_≢_, _⊎_, inl, inr, _↔_}
+use mathlib.Core.Logic.{_⊎_, inl, inr}
 use mathlib.Core.Bool.{Bool, true, false}
 use mathlib.Core.List.{List, [], _∷_, _++_, map}
-use Prim.Native.Nat.{ℕ, suc, _+_, _<_, _≤_}
+use Prim.Native.Nat.{ℕ, suc, _+_}
 use lib.ListN.{length, length-append}
 use native.Mathlib.Decide.{ℕ-discrete}
 use native.Mathlib.Omega.{arith}
-use lib.Dec.{eqb, ltb}
 use borrow.Author.Tests.{eq-eqb, ne-eqb}
 use Rattle.slots.specs.Words.{pick}
 use Rattle.slots.specs.Pairs.{Pair, pair, pairOf, Less, before}
 use Rattle.slots.proofs.Order.{less-irreflexive, less-transitive, before-less}
-use Rattle.shape.specs.Tree.{Tree, slots, Below, Rising}
+use Rattle.shape.specs.Tree.{Below, Rising}
 use Rattle.demands.specs.Live.{Live}
 use Rattle.demands.specs.Contents.{Entry, entryOf, put, isPair, without, In, first, later, Lacks, empty, other}
 

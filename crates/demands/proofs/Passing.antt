@@ -2,18 +2,17 @@
 -- hashes', and the colours the last.
 use mathlib.Core.Path.{_≡_, refl, ap, sym, _∙_}
 use mathlib.Core.Logic.{_≢_, _⊎_, inl, inr}
-use mathlib.Core.Bool.{Bool, true, false}
+use mathlib.Core.Bool.{true}
 use mathlib.Core.List.{List, [], _∷_, _++_}
-use Prim.Native.Nat.{ℕ, zero, suc, _+_, _-_, _*_, _<_, _≤_}
+use Prim.Native.Nat.{ℕ, zero, suc, _+_, _-_, _<_, _≤_}
 use native.Mathlib.Omega.{arith}
-use lib.ListN.{length, length-append}
-use Rattle.slots.specs.Words.{null, state, parent, left, right, prev, next, cell, nameOf, hashPart, Colour, black, red, code}
+use lib.ListN.{length}
+use Rattle.slots.specs.Words.{null, state, parent, left, right, prev, next, cell, Colour, black, red, code}
 use Rattle.slots.specs.Pairs.{Pair, pairOf, Less}
 use Rattle.slots.specs.Answers.{nothing}
-use Rattle.slots.proofs.Laws.{cell-null}
 use Rattle.shape.specs.Find.{slotsOf}
-use Rattle.shape.specs.Check.{test, firstFailing, Walk, passed, LinksNamed, Walks, absent, both, Back}
-use Rattle.shape.specs.Tree.{Tree, leaf, node, top, colour, slots, times, Cell, Hangs, Below, Rising, empty, rise, Calm, nothing as calmNothing, darkly, redly}
+use Rattle.shape.specs.Check.{test, firstFailing, passed, LinksNamed, Walks, absent, both, Back}
+use Rattle.shape.specs.Tree.{Tree, leaf, node, top, colour, slots, times, Hangs, Below, Rising, empty, rise, Calm, darkly, redly}
 use Rattle.shape.specs.Tree.Hangs.{none as hangsNone, some as hangsSome}
 use Rattle.shape.specs.Chain.{Chain, ended, linked}
 use Rattle.shape.specs.Claims.{Tests}
@@ -21,9 +20,9 @@ use Rattle.shape.proofs.Counting.{times-append, times-head, times-rest, times-c
 use Rattle.shape.proofs.Reaching.{length-node, hangs-inside, rooted-most}
 use Rattle.shape.proofs.Claims.{claims}
 use Rattle.demands.specs.Live.{Live, Fit, rootOf, firstOf, capacityOf}
-use Rattle.demands.specs.Sound.{Sound, used}
+use Rattle.demands.specs.Sound.{Sound}
 use Rattle.demands.specs.Check.{checks}
-use Rattle.demands.proofs.Rules.{small, ends}
+use Rattle.demands.proofs.Rules.{small}
 use Rattle.demands.proofs.Reading.{check-claims}
 
 -- A slot of the chain leads on and back.

@@ -1,12 +1,13 @@
 -- find and check answer 1 exactly where the words are not fit; on fit words they are the search and the walk, whose answers are none of them 1.
-use mathlib.Core.Path.{_≡_, refl, ap, sym, _∙_}
+use mathlib.Core.Path.{_≡_, refl, sym, _∙_}
 use mathlib.Core.Logic.{_↔_}
 use mathlib.Core.Bool.{Bool, true, false}
 use mathlib.Core.List.{List}
-use Prim.Native.Nat.{ℕ, _+_}
+use Prim.Native.Nat.{ℕ}
 use native.Mathlib.Omega.{arith}
 use Rattle.slots.specs.Words.{pick}
-use Rattle.slots.specs.Answers.{Answer, Value, some, none, given, nothing, refused}
+use Rattle.slots.specs.Answers.{Answer, none, refused}
+use Rattle.slots.proofs.Laws.{number}
 use Rattle.shape.specs.Find.{found, slotsOf}
 use Rattle.shape.specs.Check.{checked, walked, Walk, walkAnswer, passed, failed, strayed}
 use Rattle.shape.specs.Claims.{Finds as Searches, Checks as Walkings}
@@ -16,9 +17,6 @@ use Rattle.demands.specs.Find.{finds}
 use Rattle.demands.specs.Check.{checks}
 use Rattle.demands.specs.Claims.{Finds, Checks}
 use Rattle.demands.proofs.Fit.{fits-fit, fit-fits}
-
-number : {a b : Answer} → a ≡ b → a .number ≡ b .number
-number e = ap (λ (a : Answer). a .number) e
 
 -- An answer given on fit words only, with 1 on others.
 module _ (t : Live) (inner : Answer) where

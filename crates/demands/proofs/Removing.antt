@@ -1,21 +1,20 @@
 -- remove, by cases: the tests in 01's order settle which, and each answer is given in one of them only.
 use mathlib.Core.Path.{_≡_, refl, ap, sym, _∙_, subst}
-use mathlib.Core.Logic.{_≢_, _↔_, _⊎_, inl, inr}
+use mathlib.Core.Logic.{_≢_, _⊎_, inl, inr}
 use mathlib.Core.Bool.{Bool, true, false, false≢true}
-use mathlib.Core.List.{List}
-use Prim.Native.Nat.{ℕ, _+_, _*_, _<_, _≤_}
+use Prim.Native.Nat.{ℕ, _<_}
 use native.Mathlib.Decide.{ℕ-discrete}
 use native.Mathlib.Omega.{arith}
 use lib.ListN.{length}
-use lib.Dec.{eqb}
 use borrow.Author.Tests.{eq-eqb, ne-eqb}
-use Rattle.slots.specs.Words.{pick, place, cell}
+use Rattle.slots.specs.Words.{place, cell}
 use Rattle.slots.specs.Pairs.{Pair, pair, pairOf}
-use Rattle.slots.specs.Answers.{Answer, Value, some, none, given, refused}
+use Rattle.slots.specs.Answers.{Answer, some, none, given, refused}
+use Rattle.slots.proofs.Laws.{number}
 use Rattle.shape.specs.Tree.{Tree}
 use Rattle.redblack.specs.Balance.{Less}
 use Rattle.redblack.specs.Holding.{Has, Stands}
-use Rattle.demands.specs.Live.{Live, Fit, capacityOf}
+use Rattle.demands.specs.Live.{capacityOf}
 use Rattle.demands.specs.Sound.{Sound, sound}
 use Rattle.demands.specs.Index.{Index, index, FitIndex, Outcome, outcome, fitsIndex, lengthOf, linesOf, appended, at}
 use Rattle.demands.specs.Insert.{soughtIn}
@@ -29,7 +28,7 @@ use Rattle.demands.proofs.Shrinking.{shrunk-fit, shrunk-sound}
 use Rattle.demands.proofs.Deciding.{Seen, there, absent, seen}
 use Rattle.demands.proofs.Holding.{shrunk-contents}
 use Rattle.demands.proofs.Unrolling.{tree-one, shrunk-capacity}
-use Rattle.demands.proofs.Inserting.{number, value-inj, unfit-false, unsound-false, sought-at, sought-none}
+use Rattle.demands.proofs.Inserting.{value-inj, unfit-false, unsound-false, sought-at, sought-none}
 
 module _ (ix : Index) (hash key : ℕ) where
   unfit-one : fitsIndex ix ≡ false → removes ix hash key ≡ outcome (refused 1) ix

@@ -1,28 +1,25 @@
 -- rollback, by cases: the tests in 01's order settle which, and each answer is given in one of them only.
 use mathlib.Core.Path.{_≡_, refl, ap, sym, _∙_, subst}
-use mathlib.Core.Logic.{_≢_, _↔_, _⊎_, inl, inr}
+use mathlib.Core.Logic.{_≢_, _⊎_, inl, inr}
 use mathlib.Core.Bool.{Bool, true, false, false≢true}
-use mathlib.Core.List.{List}
-use Prim.Native.Nat.{ℕ, _+_, _-_, _*_, _<_, _≤_}
+use Prim.Native.Nat.{ℕ, _+_, _-_, _<_, _≤_}
 use native.Mathlib.Decide.{decLt}
 use native.Mathlib.Omega.{arith}
-use lib.ListN.{length, set}
-use lib.Dec.{ltb}
 use borrow.Author.Tests.{lt-ltb, le-ltb}
-use Rattle.slots.specs.Words.{pick}
-use Rattle.slots.specs.Answers.{Answer, Value, some, none, given, refused}
-use Rattle.demands.specs.Live.{Live, Fit, capacityOf}
+use Rattle.slots.specs.Answers.{Answer, given, refused}
+use Rattle.slots.proofs.Laws.{number}
+use Rattle.demands.specs.Live.{Live, capacityOf}
 use Rattle.demands.specs.Sound.{Sound, sound}
-use Rattle.demands.specs.Index.{Index, index, FitIndex, Outcome, outcome, fitsIndex, lengthOf, linesOf, at}
-use Rattle.demands.specs.Rollback.{Undo, stays, misfit, unrolled, blanked, rolls}
-use Rattle.demands.specs.Contents.{Entry, contents}
+use Rattle.demands.specs.Index.{Index, index, FitIndex, Outcome, outcome, fitsIndex, lengthOf}
+use Rattle.demands.specs.Rollback.{Undo, stays, misfit, unrolled, rolls}
+use Rattle.demands.specs.Contents.{contents}
 use Rattle.demands.specs.Undoing.{Undoes, Fits}
 use Rattle.demands.specs.Calls.{BackTo}
 use Rattle.demands.specs.Claims.{Rolls}
 use Rattle.demands.proofs.Sounding.{sound-yes, yes-sound, unsound}
-use Rattle.demands.proofs.Journal.{fits-index, index-fits, lines-capacity, rolledLines, back-to}
-use Rattle.demands.proofs.Unrolling.{contents-one, Rolled, unrolled-undoes, undoes-unrolled}
-use Rattle.demands.proofs.Inserting.{number, value-inj, unfit-false, unsound-false}
+use Rattle.demands.proofs.Journal.{fits-index, index-fits, rolledLines, back-to}
+use Rattle.demands.proofs.Unrolling.{Rolled, unrolled-undoes, undoes-unrolled}
+use Rattle.demands.proofs.Inserting.{value-inj, unfit-false, unsound-false}
 
 not-stays : {u : Live} → misfit ≡ stays u → ⊥
 not-stays e = let z : _≡_ {A = ℕ} 0 1 = cc in omega arith

@@ -1,21 +1,20 @@
 -- Each rule's test holds exactly where the rule does, given the rules before it: T1 and T2 word by word, T3 and T7 by counting
 -- distinct slots, T4 to T6 by the laws of one tree.
-use mathlib.Core.Path.{_≡_, refl, ap, sym, _∙_}
+use mathlib.Core.Path.{_≡_, refl, sym, _∙_}
 use mathlib.Core.Logic.{_≢_, _↔_, _⊎_, inl, inr}
 use mathlib.Core.Bool.{Bool, true, false, false≢true}
-use mathlib.Core.List.{List, [], _∷_}
-use Prim.Native.Nat.{ℕ, zero, suc, _+_, _-_, _*_, _<_, _≤_}
+use mathlib.Core.List.{List}
+use Prim.Native.Nat.{ℕ, zero, suc, _-_, _*_, _<_, _≤_}
 use native.Mathlib.Decide.{ℕ-discrete}
 use native.Mathlib.Omega.{arith}
 use lib.ListN.{length}
-use lib.Dec.{eqb, leb, ltb}
+use lib.Dec.{eqb, leb}
 use borrow.Author.Tests.{eqb-true, eqb-false, eq-eqb, ne-eqb, leb-true, le-leb}
 use Rattle.slots.specs.Words.{null, pick, place, state, parent, left, right, prev, next, free, cell, nameOf, hashPart, keyPart, Colour, black, red, code}
 use Rattle.slots.specs.Answers.{Value, some, none}
-use Rattle.shape.specs.Check.{inRange, linksIn, Named, LinksNamed}
-use Rattle.shape.specs.Tree.{Tree, slots, times, Rooted, Rising, Coloured, Level}
-use Rattle.shape.specs.Rules.{reached, rises, coloured, level}
-use Rattle.shape.specs.Chain.{Chain, ended, linked, chained, tally}
+use Rattle.shape.specs.Check.{inRange, linksIn, LinksNamed}
+use Rattle.shape.specs.Tree.{Tree, slots, times}
+use Rattle.shape.specs.Chain.{Chain, ended, linked}
 use Rattle.shape.proofs.Walking.{named, ranged, links-named, links-in}
 use Rattle.shape.proofs.Counting.{exactly, exactly-length, times-cases, times-head}
 use Rattle.shape.proofs.Reaching.{hangs-stand, hangs-inside, reached-rooted, rooted-most, rooted-reached}

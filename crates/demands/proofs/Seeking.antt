@@ -1,18 +1,16 @@
 -- The search on a rising tree finds the pair exactly where it is: every look goes to the side on which the order has it,
 -- and where the look goes by a null child the other side is empty.
 use mathlib.Core.Path.{_≡_, refl, ap, subst, sym, _∙_}
-use mathlib.Core.Logic.{_≢_, _⊎_, inl, inr}
-use mathlib.Core.Bool.{Bool, true, false}
-use mathlib.Core.List.{List, [], _∷_, _++_}
-use Prim.Native.Nat.{ℕ, zero, suc, _+_, _<_, _≤_}
+use mathlib.Core.Logic.{_⊎_, inl, inr}
+use mathlib.Core.List.{List, _∷_}
+use Prim.Native.Nat.{ℕ, zero, suc, _<_, _≤_}
 use native.Mathlib.Decide.{ℕ-discrete, decLt}
 use native.Mathlib.Omega.{arith}
 use lib.ListN.{length}
 use Rattle.slots.specs.Words.{null, left, right, cell, nameOf, hashPart, keyPart, Colour}
 use Rattle.slots.specs.Pairs.{Pair, pair, pairOf, Less}
 use Rattle.slots.specs.Answers.{Answer, given, nothing}
-use Rattle.slots.proofs.Order.{less-irreflexive}
-use Rattle.shape.specs.Find.{Look, here, on, decided, looked, Search, after, slotsOf, searched, found}
+use Rattle.shape.specs.Find.{Look, here, on, looked, Search, after, slotsOf, searched, found}
 use Rattle.shape.specs.Tree.{Tree, leaf, node, top, slots, times, Hangs, Rising}
 use Rattle.shape.specs.Tree.Hangs.{none as hangsNone, some as hangsSome}
 use Rattle.shape.specs.Claims.{Looks}

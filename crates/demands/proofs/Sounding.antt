@@ -1,19 +1,18 @@
 -- The full check says yes exactly of sound trees: the seven tests in turn, each with its rule.
-use mathlib.Core.Path.{_≡_, refl, ap, sym, _∙_}
+use mathlib.Core.Path.{_≡_, refl, sym, _∙_}
 use mathlib.Core.Logic.{_↔_}
 use mathlib.Core.Bool.{Bool, true, false, false≢true}
-use Prim.Native.Nat.{ℕ}
 use native.Mathlib.Omega.{arith}
 use Rattle.slots.specs.Words.{pick}
-use Rattle.slots.specs.Answers.{Answer, Value, some, none, given, refused}
-use Rattle.shape.specs.Tree.{Tree}
-use Rattle.demands.specs.Live.{Live, Fit, fits}
-use Rattle.demands.specs.Sound.{Sound, T3, rule1, rule2, rule3, rule4, rule5, rule6, rule7, sound, sounds}
+use Rattle.slots.specs.Answers.{Answer, given, refused}
+use Rattle.slots.proofs.Laws.{given-is, number}
+use Rattle.demands.specs.Live.{Live, Fit}
+use Rattle.demands.specs.Sound.{Sound, rule1, rule2, rule3, rule4, rule5, rule6, sound, sounds}
 use Rattle.demands.specs.Claims.{Sounds}
 use Rattle.demands.proofs.Fit.{both}
 use Rattle.demands.proofs.Rules.{and, rule-one, rule-two, rule-three, rule-four, rule-five, rule-six, rule-seven}
 use Rattle.demands.proofs.Passing.{sound-passes}
-use Rattle.demands.proofs.Reading.{gated, one-only, others}
+use Rattle.demands.proofs.Reading.{one-only, others}
 
 module _ {t : Live} (fit : Fit t) where
   pub sound-yes : Sound t → sound t ≡ true
@@ -48,15 +47,6 @@ module _ {t : Live} (fit : Fit t) where
 
   pub unsound : sound t ≡ false → Sound t → ⊥
   unsound e h = false≢true (sym e ∙ sound-yes h)
-
-pub number : {a b : Answer} → a ≡ b → a .number ≡ b .number
-number e = ap (λ (a : Answer). a .number) e
-
-some-is : {a b : ℕ} → some a ≡ some b → a ≡ b
-some-is e = cc
-
-given-is : {a b : ℕ} → given a ≡ given b → a ≡ b
-given-is e = some-is (ap (λ (a : Answer). a .value) e)
 
 -- yes is 1 and no is 0.
 pub verdict : (b : Bool) → (pick b (given 1) (given 0) ≡ given 1) ↔ (b ≡ true)

@@ -1,14 +1,12 @@
 -- Undoing goes by the lines alone: it ends in one way, it can be cut at any mark, and other words of the journal do not matter.
-use mathlib.Core.Path.{_≡_, refl, ap, sym, _∙_, subst}
+use mathlib.Core.Path.{_≡_, refl, sym, _∙_, subst}
 use mathlib.Core.Logic.{_≢_}
-use mathlib.Core.List.{List, [], _∷_}
-use Prim.Native.Nat.{ℕ, zero, suc, _+_, _-_, _*_, _<_, _≤_}
+use mathlib.Core.List.{List}
+use Prim.Native.Nat.{ℕ, suc, _-_, _<_, _≤_}
 use native.Mathlib.Decide.{ℕ-discrete}
 use native.Mathlib.Omega.{arith}
-use lib.ListN.{length, getD, set, length-set}
-use lib.Seq.{getD-set-same, getD-set-other}
 use Rattle.demands.specs.Contents.{Entry, entry, put, without, In, Lacks}
-use Rattle.demands.specs.Index.{at, lineWord, kindWord, hashWord, keyWord, placeWord, lined, appended, lengthOf}
+use Rattle.demands.specs.Index.{lineWord, kindWord, hashWord, keyWord, placeWord}
 use Rattle.demands.specs.Undoing.{lineEntry, Undoes, back, insertLine, removeLine}
 
 module _ {n m : ℕ} {lines : List ℕ} where

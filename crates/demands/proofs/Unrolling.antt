@@ -1,22 +1,22 @@
 -- The drivers undo a line exactly where the line fits, and what they leave is what 01's sentence leaves.
 use mathlib.Core.Path.{_≡_, refl, ap, sym, _∙_, subst}
-use mathlib.Core.Logic.{_≢_, _⊎_, inl, inr, _↔_}
+use mathlib.Core.Logic.{_≢_, _↔_}
 use mathlib.Core.Bool.{Bool, true, false}
-use mathlib.Core.List.{List, [], _∷_}
+use mathlib.Core.List.{List}
 use Prim.Native.Nat.{ℕ, zero, suc, _+_, _-_, _/_, _<_, _≤_}
 use native.Mathlib.Decide.{ℕ-discrete, decLt}
 use native.Mathlib.Omega.{arith}
 use lib.ListN.{length}
-use lib.Dec.{eqb, ltb}
-use borrow.Author.Tests.{eq-eqb, ne-eqb, lt-ltb, le-ltb, eqb-true, ltb-true}
+use lib.Dec.{eqb}
+use borrow.Author.Tests.{eq-eqb, ne-eqb, lt-ltb, le-ltb}
 use Rattle.slots.specs.Words.{null, pick, place, state, free, cell}
 use Rattle.slots.specs.Pairs.{Pair, pair, pairOf}
-use Rattle.slots.specs.Answers.{Value, some, none}
+use Rattle.slots.specs.Answers.{some, none}
 use Rattle.shape.specs.Tree.{Tree, slots, times}
 use Rattle.shape.specs.Chain.{tally}
 use Rattle.shape.proofs.Reaching.{rooted-unique}
 use Rattle.redblack.specs.Holding.{Has}
-use Rattle.demands.specs.Live.{Live, Fit, rootOf, countOf, capacityOf}
+use Rattle.demands.specs.Live.{Live, Fit, rootOf, capacityOf}
 use Rattle.demands.specs.Sound.{Sound, used}
 use Rattle.demands.specs.Index.{lineWord, kindWord, hashWord, keyWord, placeWord}
 use Rattle.demands.specs.Insert.{lowestFree, soughtIn, grown}
@@ -26,9 +26,9 @@ use Rattle.demands.specs.Contents.{Entry, entry, entryOf, contents, put,
 use Rattle.demands.specs.Undoing.{lineEntry, Undoes, back, insertLine, removeLine}
 use Rattle.demands.proofs.Rules.{small}
 use Rattle.demands.proofs.Frames.{paired-length}
-use Rattle.demands.proofs.Growing.{Grown, grown-fit, grown-sound}
-use Rattle.demands.proofs.Shrinking.{Shrunk, shrunk-fit, shrunk-sound}
-use Rattle.demands.proofs.Free.{LowestFree, lowest-free, none-free}
+use Rattle.demands.proofs.Growing.{grown-fit, grown-sound}
+use Rattle.demands.proofs.Shrinking.{shrunk-fit, shrunk-sound}
+use Rattle.demands.proofs.Free.{lowest-free, none-free}
 use Rattle.demands.proofs.Deciding.{Seen, there, absent, seen}
 use Rattle.demands.proofs.Holding.{grown-contents, shrunk-contents, contents-length, stands-in, in-stands, lacks-of, of-lacks}
 use Rattle.demands.proofs.Seeking.{found-at, found-none}

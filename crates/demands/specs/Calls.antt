@@ -2,17 +2,15 @@
 use mathlib.Core.Path.{_≡_}
 use mathlib.Core.List.{List, [], _∷_}
 use mathlib.Core.Logic.{_≢_}
-use Prim.Native.Nat.{ℕ, _+_, _-_, _*_, _<_, _≤_}
+use Prim.Native.Nat.{ℕ, _+_, _<_, _≤_}
 use lib.ListN.{length, getD}
 use Rattle.slots.specs.Words.{state, free, cell}
-use Rattle.slots.specs.Answers.{Answer, given}
 use Rattle.demands.specs.Live.{Live, capacityOf}
-use Rattle.demands.specs.Sound.{Sound}
-use Rattle.demands.specs.Index.{Index, Outcome, lengthOf, linesOf, lineWord, at, kindWord, hashWord, keyWord, placeWord}
+use Rattle.demands.specs.Index.{Index, Outcome, lengthOf, lineWord, at, kindWord, hashWord, keyWord, placeWord}
 use Rattle.demands.specs.Insert.{inserts}
 use Rattle.demands.specs.Remove.{removes}
 use Rattle.demands.specs.Rollback.{rolls}
-use Rattle.demands.specs.Contents.{Entry, contents, In}
+use Rattle.demands.specs.Contents.{Entry, In}
 
 pub data Call : Type 0 where
   insertCall : ℕ → ℕ → ℕ → Call

@@ -7,9 +7,9 @@ use Prim.Native.Nat.{ℕ, _+_, _-_, _<_, _≤_}
 use lib.ListN.{length, getD}
 use Rattle.slots.specs.Words.{place, cell}
 use Rattle.slots.specs.Pairs.{pair, pairOf}
-use Rattle.slots.specs.Answers.{Answer, some, given, nothing, refused}
+use Rattle.slots.specs.Answers.{some, given, nothing, refused}
 use Rattle.shape.specs.Find.{Lost, Here, Missed}
-use Rattle.shape.specs.Check.{Walk, passed, failed, strayed, Walks}
+use Rattle.shape.specs.Check.{passed, failed, strayed, Walks}
 use Rattle.demands.specs.Live.{Live, Fit, rootOf, countOf, capacityOf}
 use Rattle.demands.specs.Find.{finds}
 use Rattle.demands.specs.Check.{checks}
@@ -21,7 +21,7 @@ use Rattle.demands.specs.Index.{Index, FitIndex, lengthOf, linesOf, at}
 use Rattle.demands.specs.Insert.{inserts}
 use Rattle.demands.specs.Remove.{removes}
 use Rattle.demands.specs.Rollback.{rolls}
-use Rattle.demands.specs.Contents.{Entry, entry, contents, put, without}
+use Rattle.demands.specs.Contents.{entry, contents, put, without}
 use Rattle.demands.specs.Undoing.{Undoes, Fits}
 use Rattle.demands.specs.Calls.{Call, after, Allowed, Places, Lowest, NoneFree, OneLine, BackTo}
 

@@ -1,8 +1,8 @@
 -- What a sound tree holds: its pairs with their places, in order.
 use mathlib.Core.Path.{_≡_}
-use mathlib.Core.Bool.{Bool, true, false}
+use mathlib.Core.Bool.{Bool, false}
 use mathlib.Core.List.{List, [], _∷_, map}
-use Prim.Native.Nat.{ℕ, _<_}
+use Prim.Native.Nat.{ℕ}
 use lib.Dec.{eqb}
 use Rattle.slots.specs.Words.{pick, place, cell, nameOf, hashPart, keyPart}
 use Rattle.slots.specs.Pairs.{before}

@@ -1,11 +1,11 @@
 -- A live tree with its journal: the words that insert, remove and rollback are lent.
-use mathlib.Core.Bool.{Bool, true, false}
+use mathlib.Core.Bool.{Bool, false}
 use mathlib.Core.List.{List}
 use mathlib.Core.Path.{_≡_}
 use Prim.Native.Nat.{ℕ, _+_, _-_, _*_, _/_, _≤_}
 use lib.ListN.{length, getD, set}
 use lib.Dec.{eqb, leb}
-use Rattle.slots.specs.Words.{null, pick}
+use Rattle.slots.specs.Words.{pick}
 use Rattle.slots.specs.Answers.{Answer}
 use Rattle.demands.specs.Live.{Live, Fit, fits}
 

@@ -4,7 +4,7 @@ use Prim.Native.Nat.{ℕ, zero, suc, _+_}
 use lib.ListN.{set}
 use lib.Dec.{eqb}
 use Rattle.slots.specs.Words.{null, pick, place, state, prev, next, free, cell, write, rename, hashPart, keyPart}
-use Rattle.slots.specs.Answers.{Answer, Value, some, none, given, refused}
+use Rattle.slots.specs.Answers.{Value, some, none, given, refused}
 use Rattle.shape.specs.Find.{found}
 use Rattle.redblack.specs.Links.{Links}
 use Rattle.redblack.specs.Hanging.{inserted, placed}

@@ -3,8 +3,7 @@ use mathlib.Core.List.{List}
 use Prim.Native.Nat.{ℕ, _-_}
 use lib.Dec.{eqb}
 use Rattle.slots.specs.Words.{null, pick, place, state, parent, left, right, prev, next, free, cell, write, rename, hashPart, keyPart}
-use Rattle.slots.specs.Answers.{Answer, Value, some, none, given, refused}
-use Rattle.redblack.specs.Links.{Links}
+use Rattle.slots.specs.Answers.{some, none, given, refused}
 use Rattle.redblack.specs.Removal.{removed}
 use Rattle.demands.specs.Live.{Live, rootOf, firstOf, countOf, capacityOf}
 use Rattle.demands.specs.Sound.{sound}

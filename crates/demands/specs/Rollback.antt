@@ -1,11 +1,10 @@
 -- "Rollback to mark m undoes lines from the last down to number m by the same drivers, clears them to zero and sets the length to m."
 use mathlib.Core.List.{List}
-use mathlib.Core.Bool.{Bool}
 use Prim.Native.Nat.{ℕ, zero, suc, _+_, _-_}
 use lib.ListN.{set}
 use lib.Dec.{eqb, ltb}
 use Rattle.slots.specs.Words.{null, pick, place, cell}
-use Rattle.slots.specs.Answers.{Answer, Value, some, none, given, refused}
+use Rattle.slots.specs.Answers.{Value, some, none, given, refused}
 use Rattle.demands.specs.Live.{Live}
 use Rattle.demands.specs.Sound.{sound}
 use Rattle.demands.specs.Index.{Index, index, Outcome, outcome, fitsIndex, lengthOf, lineWord, kindWord, hashWord, keyWord, placeWord, lined}

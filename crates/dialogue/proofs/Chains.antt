@@ -1,19 +1,19 @@
 -- On a sound tree the list is the chain's: as many slots are met as the count says, and their lines are the chain's in order.
 use mathlib.Core.Path.{_≡_, refl, ap, sym, _∙_}
-use mathlib.Core.List.{List, [], _∷_, _++_}
-use Prim.Native.Nat.{ℕ, zero, suc, _<_, _≤_}
+use mathlib.Core.List.{List, _++_}
+use Prim.Native.Nat.{ℕ, zero, suc, _≤_}
 use native.Mathlib.Omega.{arith}
 use lib.ListN.{length}
-use Rattle.slots.specs.Words.{null, cell, next}
-use Rattle.slots.specs.Answers.{Value, none, some}
+use Rattle.slots.specs.Words.{null}
+use Rattle.slots.specs.Answers.{some}
 use Rattle.shape.specs.Chain.{Chain, ended, linked}
 use Rattle.shape.proofs.Chaining.{chain-inside, chain-most}
 use Rattle.shape.proofs.Counting.{exactly-length}
-use Rattle.demands.specs.Live.{Live, Fit, fits, firstOf, countOf, capacityOf}
+use Rattle.demands.specs.Live.{Live, Fit, firstOf, countOf, capacityOf}
 use Rattle.demands.specs.Sound.{Sound, used}
 use Rattle.demands.proofs.Fit.{fit-fits, half}
 use Rattle.dialogue.specs.Text.{entriesText}
-use Rattle.dialogue.specs.Answers.{counted, more, met, entryLine, entryLines, linesOf, counting, listing}
+use Rattle.dialogue.specs.Answers.{counted, more, met, entryLine, entryLines, linesOf, listing}
 use Rattle.dialogue.proofs.Listing.{met-null, met-on}
 
 -- Visits for each slot of the chain are enough.

@@ -1,16 +1,15 @@
 -- Every statement of the crate, proved.
 use mathlib.Core.Path.{_≡_, refl, ap, sym, _∙_}
-use mathlib.Core.Logic.{_≢_, _⊎_, inl, inr, _↔_}
-use mathlib.Core.List.{List, [], _∷_, _++_}
-use Prim.Native.Nat.{ℕ, zero, suc, _+_, _<_, _≤_, _^_}
+use mathlib.Core.Logic.{_≢_, _⊎_, inl, inr}
+use mathlib.Core.List.{List}
+use Prim.Native.Nat.{ℕ, _<_, _≤_}
 use native.Mathlib.Decide.{decLt}
 use native.Mathlib.Omega.{arith}
 use lib.ListN.{length, length-append}
 use borrow.Author.Tests.{lt-ltb, le-ltb}
 use Rattle.demands.specs.Index.{Index}
-use Rattle.dialogue.specs.Text.{decimal}
 use Rattle.dialogue.specs.Commands.{Command, insert, remove, find, rollback, mark, list, bad, meant, spoken, textOf, Fits}
-use Rattle.dialogue.specs.Feeding.{Line, longest, Desk, Fed, feeding, feeds, deskOf}
+use Rattle.dialogue.specs.Feeding.{Line, longest, Desk, Fed, feeds, deskOf}
 use Rattle.dialogue.specs.Claims.{Means, Calls, Claims}
 use Rattle.dialogue.proofs.Numbers.{decimal-claims}
 use Rattle.dialogue.proofs.Meaning.{meant-told, text-meant}

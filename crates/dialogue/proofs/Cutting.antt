@@ -1,9 +1,7 @@
 -- What is printed and left does not depend on how the input is cut: a call takes the bytes one after another, as all of them are heard.
 use mathlib.Core.Path.{_≡_, refl, ap, sym, _∙_}
-use mathlib.Core.Logic.{_≢_, _⊎_, inl, inr, _↔_}
-use mathlib.Core.Bool.{Bool, true, false}
-use mathlib.Core.List.{List, [], _∷_, _++_, append-assoc, append-nil}
-use Prim.Native.Nat.{ℕ, zero, suc, _+_, _-_, _<_, _≤_}
+use mathlib.Core.List.{List, [], _∷_, _++_, append-assoc}
+use Prim.Native.Nat.{ℕ, suc, _+_, _-_, _<_, _≤_}
 use native.Mathlib.Decide.{ℕ-discrete, decLt}
 use native.Mathlib.Omega.{arith}
 use lib.ListN.{length, take, drop}
@@ -12,9 +10,9 @@ use Rattle.demands.specs.Index.{Index}
 use Rattle.dialogue.specs.Text.{newline}
 use Rattle.dialogue.specs.Commands.{spoken}
 use Rattle.dialogue.specs.Answers.{Said, obeyed}
-use Rattle.dialogue.specs.Feeding.{Line, blank, heldOf, noted, Paper, typed, longest, Desk, answered, fedByte, Fed, fed, roomLeft, feeding, feeds, Heard, prefixed, heard, deskOf, printed, Run, over, call}
+use Rattle.dialogue.specs.Feeding.{Line, blank, heldOf, longest, Desk, answered, fedByte, Fed, roomLeft, feeding, feeds, Heard, prefixed, heard, deskOf, printed, Run, over, call}
 use Rattle.dialogue.proofs.Feeding.{Within, byte-within, feeds-short, feeds-long}
-use Rattle.dialogue.proofs.Room.{answer-short, Whole, typed-whole}
+use Rattle.dialogue.proofs.Room.{answer-short, typed-whole}
 
 -- What stands on the paper, before all that is still heard.
 abbrev soFar : Desk → List ℕ → Heard
@@ -22,9 +20,6 @@ soFar d input = prefixed (take (d .paper .at) (d .paper .bytes)) (heard (d .line
 
 prefixed-twice : (a b : List ℕ) (h : Heard) → prefixed (a ++ b) h ≡ prefixed a (prefixed b h)
 prefixed-twice a b h = ap (λ (t : List ℕ). record { text = t; line = h .line; index = h .index }) (append-assoc a b (h .text))
-
-prefixed-none : (h : Heard) → prefixed [] h ≡ h
-prefixed-none h = refl
 
 -- One byte, with room for any answer.
 byte-heard : (d : Desk) (b : ℕ) (l : List ℕ) → Within (d .paper) → longest ≤ roomLeft (d .paper) → soFar (fedByte d b) l ≡ soFar d (b ∷ l)

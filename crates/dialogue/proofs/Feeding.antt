@@ -1,16 +1,13 @@
 -- What a byte and a chunk come to, step by step.
-use mathlib.Core.Path.{_≡_, refl, ap, sym, _∙_}
+use mathlib.Core.Path.{_≡_}
 use mathlib.Core.Logic.{_≢_}
-use mathlib.Core.Bool.{Bool, true, false}
-use mathlib.Core.List.{List, [], _∷_, _++_}
-use Prim.Native.Nat.{ℕ, zero, suc, _+_, _-_, _<_, _≤_}
+use mathlib.Core.List.{List, [], _∷_}
+use Prim.Native.Nat.{ℕ, _+_, _-_, _<_, _≤_}
 use native.Mathlib.Decide.{ℕ-discrete, decLt}
 use native.Mathlib.Numerals.{add-one}
 use native.Mathlib.Omega.{arith}
-use lib.ListN.{length, drop, getD, set, length-set}
+use lib.ListN.{length, drop, getD, length-set}
 use borrow.Author.Tests.{lt-ltb, le-ltb, eq-eqb, ne-eqb}
-use Rattle.slots.specs.Words.{pick}
-use Rattle.demands.specs.Index.{Index}
 use Rattle.dialogue.specs.Text.{newline}
 use Rattle.dialogue.specs.Commands.{spoken}
 use Rattle.dialogue.specs.Feeding.{Line, blank, heldOf, noted, Paper, typedOne, typed, longest, Turn, turned, Desk, answered, fedByte, Fed, fed, roomLeft, feeding, feeds, ends}

@@ -1,20 +1,19 @@
 -- A whole line, however it came, is answered as it is meant: at most 81 bytes of it are kept, and one that long is bad in any case.
 use mathlib.Core.Path.{_≡_, refl, ap, sym, _∙_}
 use mathlib.Core.Logic.{_≢_}
-use mathlib.Core.Bool.{Bool, true, false}
 use mathlib.Core.List.{List, [], _∷_, _++_, append-assoc, append-nil}
-use Prim.Native.Nat.{ℕ, zero, suc, _+_, _-_, _<_, _≤_, min}
+use Prim.Native.Nat.{ℕ, _+_, _-_, _<_, _≤_}
 use native.Mathlib.Decide.{decLt, decLe}
 use native.Mathlib.Numerals.{add-one}
 use native.Mathlib.Omega.{arith}
-use lib.ListN.{length, take, set, length-set, length-take, length-append, length-replicate}
+use lib.ListN.{length, take, set, length-set, length-take, length-replicate}
 use lib.Seq.{take-all, take-append-le, take-suc-set}
 use borrow.Author.Tests.{lt-ltb, le-ltb, ne-eqb}
 use Rattle.demands.specs.Index.{Index}
 use Rattle.dialogue.specs.Text.{newline}
 use Rattle.dialogue.specs.Commands.{Command, spoken}
 use Rattle.dialogue.specs.Answers.{Said, obeyed}
-use Rattle.dialogue.specs.Feeding.{width, Line, blank, heldOf, noted, Paper, typed, longest, Desk, answered, Fed, fed, ends, Heard, prefixed, heard, deskOf, printed, NoNewline, nothing, another}
+use Rattle.dialogue.specs.Feeding.{width, Line, blank, heldOf, noted, longest, answered, Fed, ends, prefixed, heard, deskOf, printed, NoNewline, nothing, another}
 use Rattle.dialogue.proofs.Feeding.{ends-none}
 use Rattle.dialogue.proofs.Room.{answer-short, typed-whole}
 

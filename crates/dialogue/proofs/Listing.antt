@@ -2,17 +2,16 @@
 use mathlib.Core.Path.{_≡_, refl, ap, sym, _∙_}
 use mathlib.Core.Logic.{_≢_}
 use mathlib.Core.Bool.{Bool, true, false}
-use mathlib.Core.List.{List, [], _∷_, _++_}
+use mathlib.Core.List.{List, _∷_, _++_}
 use Prim.Native.Nat.{ℕ, zero, suc, _+_, _-_, _<_, _≤_}
 use native.Mathlib.Omega.{arith}
-use lib.Dec.{eqb, ltb}
 use borrow.Author.Tests.{lt-ltb, le-ltb, eq-eqb, ne-eqb}
-use Rattle.slots.specs.Words.{null, pick, place, next, cell, nameOf, hashPart, keyPart}
+use Rattle.slots.specs.Words.{null, place, next, cell, nameOf, hashPart, keyPart}
 use Rattle.slots.specs.Answers.{Value, none, some}
 use Rattle.demands.specs.Live.{Live, fits, firstOf, capacityOf}
 use Rattle.demands.specs.Index.{Index, fitsIndex, fitsJournal, lengthOf}
 use Rattle.dialogue.specs.Text.{newline, space, decimal, entriesText, noText, markText}
-use Rattle.dialogue.specs.Answers.{counted, more, met, entryLine, entryLines, counting, listing, marking}
+use Rattle.dialogue.specs.Answers.{counted, more, met, entryLine, entryLines, listing, marking}
 use Rattle.dialogue.specs.Feeding.{Paper, typedOne, typed}
 use Rattle.dialogue.proofs.Typing.{typed-append}
 

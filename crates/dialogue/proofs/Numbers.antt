@@ -1,20 +1,20 @@
 -- A number is read exactly from its decimal digits: what is read has this one text, and this text is read.
 use mathlib.Core.Path.{_≡_, refl, ap, sym, _∙_}
 use mathlib.Core.Logic.{_≢_, _⊎_, inl, inr}
-use mathlib.Core.Bool.{Bool, true, false, false≢true}
+use mathlib.Core.Bool.{Bool, true, false}
 use mathlib.Core.List.{List, [], _∷_, _++_, append-assoc, append-nil}
 use Prim.Native.Nat.{ℕ, zero, suc, _+_, _-_, _*_, _/_, _%_, _^_, _<_, _≤_}
 use native.Mathlib.Nat.{pow-suc}
 use native.Mathlib.Decide.{decLt}
 use native.Mathlib.Omega.{arith}
 use lib.ListN.{length}
-use lib.Dec.{eqb, leb, ltb}
+use lib.Dec.{eqb, leb}
 use borrow.Author.Tests.{le-leb, leb-true, lt-ltb, le-ltb, eqb-true, eqb-false, ne-eqb}
 use Rattle.slots.specs.Words.{pick}
 use Rattle.demands.proofs.Fit.{both}
 use Rattle.dialogue.specs.Text as Text
 use Rattle.dialogue.specs.Claims.{Decimals}
-use Rattle.dialogue.specs.Text.{worth, digits, decimal, Read, read, unread, isDigit, readOn, readNumber}
+use Rattle.dialogue.specs.Text.{worth, digits, decimal, read, unread, isDigit, readOn, readNumber}
 use Rattle.dialogue.proofs.Reading.{digit-in}
 
 -- Which way a test went.

@@ -1,16 +1,14 @@
 -- How long an answer can be, and that what there is room for is written whole.
 use mathlib.Core.Path.{_≡_, refl, ap, sym, _∙_}
-use mathlib.Core.Logic.{_⊎_, inl, inr}
 use mathlib.Core.Bool.{Bool, true, false}
 use mathlib.Core.List.{List, [], _∷_, _++_, append-assoc, append-nil}
-use Prim.Native.Nat.{ℕ, zero, suc, _+_, _-_, _*_, _/_, _%_, _<_, _≤_}
-use native.Mathlib.Decide.{decLt}
+use Prim.Native.Nat.{ℕ, zero, suc, _+_, _-_, _*_, _/_, _%_, _≤_}
 use native.Mathlib.Numerals.{add-one}
 use native.Mathlib.Omega.{arith}
 use lib.ListN.{length, take, set, length-append, length-set}
 use lib.Seq.{take-suc-set}
 use lib.Dec.{eqb, ltb}
-use borrow.Author.Tests.{lt-ltb, le-ltb}
+use borrow.Author.Tests.{lt-ltb}
 use Rattle.slots.specs.Words.{null, pick, place, next, cell, nameOf, hashPart, keyPart}
 use Rattle.slots.specs.Answers.{Answer, Value, none, some}
 use Rattle.demands.specs.Live.{Live, fits, firstOf, capacityOf}
@@ -20,7 +18,7 @@ use Rattle.demands.specs.Insert.{inserts}
 use Rattle.demands.specs.Remove.{removes}
 use Rattle.demands.specs.Rollback.{rolls}
 use Rattle.demands.proofs.Fit.{fits-fit, half}
-use Rattle.dialogue.specs.Text.{digits, decimal, newline, space, noneText, noText, entriesText, markText, slotText, goneText, atText, backText}
+use Rattle.dialogue.specs.Text.{digits, noText, markText, slotText, goneText, atText, backText}
 use Rattle.dialogue.specs.Commands.{Command, insert, remove, find, rollback, mark, list, bad}
 use Rattle.dialogue.specs.Answers.{counted, valued, told, more, met, entryLine, entryLines, counting, listing, marking, obeyed}
 use Rattle.dialogue.specs.Feeding.{Paper, typedOne, typed, longest}

@@ -3,7 +3,7 @@ use mathlib.Core.List.{List, [], _∷_, _++_}
 use Prim.Native.Nat.{ℕ, zero, suc}
 use lib.Dec.{eqb, ltb}
 use Rattle.slots.specs.Words.{null, pick, place, next, cell, nameOf, hashPart, keyPart}
-use Rattle.slots.specs.Answers.{Answer, Value, none, some, refused}
+use Rattle.slots.specs.Answers.{Answer, Value, none, some}
 use Rattle.demands.specs.Live.{Live, fits, firstOf, capacityOf}
 use Rattle.demands.specs.Find.{finds}
 use Rattle.demands.specs.Index.{Index, Outcome, fitsIndex, lengthOf}

@@ -1,6 +1,6 @@
 -- What crate `dialogue` proves of its models, in one record. Every statement of the crate stands here.
 use mathlib.Core.Path.{_≡_}
-use mathlib.Core.Logic.{_≢_, _⊎_, _↔_}
+use mathlib.Core.Logic.{_≢_, _↔_}
 use mathlib.Core.List.{List, [], _∷_, _++_}
 use Prim.Native.Nat.{ℕ, _+_, _^_, _<_, _≤_}
 use lib.ListN.{length, take}
@@ -10,7 +10,7 @@ use Rattle.demands.specs.Sound.{Sound}
 use Rattle.dialogue.specs.Text.{newline, decimal, worth, Digits, entriesText}
 use Rattle.dialogue.specs.Commands.{Command, bad, spoken, textOf, Fits}
 use Rattle.dialogue.specs.Answers.{counted, linesOf, listing, obeyed}
-use Rattle.dialogue.specs.Feeding.{Line, blank, Paper, typed, longest, Desk, Fed, feeds, ends, Heard, prefixed, heard, deskOf, printed, Run, NoNewline}
+use Rattle.dialogue.specs.Feeding.{Line, blank, Paper, typed, longest, feeds, ends, Heard, prefixed, heard, deskOf, printed, Run, NoNewline}
 
 -- "decimal numbers", "with no leading zero".
 pub record Decimals (x : ℕ) : Type 0 where

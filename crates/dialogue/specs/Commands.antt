@@ -1,5 +1,4 @@
 -- What a line of a script means.
-use mathlib.Core.Path.{_≡_}
 use mathlib.Core.List.{List, [], _∷_, _++_}
 use Prim.Native.Nat.{ℕ, _<_, _^_}
 use lib.ListN.{length, drop}

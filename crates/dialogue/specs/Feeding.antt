@@ -2,14 +2,14 @@
 use mathlib.Core.Path.{_≡_}
 use mathlib.Core.Logic.{_≢_}
 use mathlib.Core.List.{List, [], _∷_, _++_}
-use Prim.Native.Nat.{ℕ, suc, _+_, _-_, _*_, _≤_}
+use Prim.Native.Nat.{ℕ, suc, _+_, _-_, _≤_}
 use lib.ListN.{length, take, drop, set, replicate}
 use lib.Dec.{eqb, ltb}
 use Rattle.slots.specs.Words.{pick}
 use Rattle.demands.specs.Index.{Index}
 use Rattle.dialogue.specs.Text.{newline}
 use Rattle.dialogue.specs.Commands.{Command, spoken}
-use Rattle.dialogue.specs.Answers.{Said, obeyed}
+use Rattle.dialogue.specs.Answers.{obeyed}
 
 -- The line that has come so far: at most 81 bytes of it, since one over 80 is bad whatever follows.
 abbrev pub width : ℕ

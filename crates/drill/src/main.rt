@@ -10,8 +10,6 @@ use console::feed::feed;
 use drivers::journal::word;
 use index::insert::Inserted;
 use index::insert::insert;
-use index::rollback::RolledBack;
-use index::rollback::rollback;
 use libc::STDOUT_FILENO;
 use live::sound::Soundness;
 use live::sound::sound;
@@ -22,6 +20,8 @@ use table::clear_all;
 use table::cut_at;
 use table::note;
 use table::same;
+use undo::rollback::RolledBack;
+use undo::rollback::rollback;
 ghost use Prim.Native.Nat.{_<_, _≤_};
 ghost use lib.ListN.{length as size};
 

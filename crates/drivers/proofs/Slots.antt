@@ -9,14 +9,12 @@ use lib.Dec.{eqb}
 use borrow.Author.Tests.{le-leb, ne-eqb}
 use Rattle.slots.specs.Words.{null, pick}
 use Rattle.slots.specs.Answers.{some, none}
+use Rattle.slots.proofs.Laws.{some-is}
 use Rattle.demands.specs.Live.{Live, countOf}
 use Rattle.demands.specs.Index.{lengthOf, appended}
 use Rattle.demands.specs.Insert.{grown}
 use Rattle.demands.specs.Remove.{shrunk}
 use Rattle.drivers.specs.Answers.{slotOf, appendedIf, shrunkIf, grownIf}
-
-some-is : {a b : ℕ} → some a ≡ some b → a ≡ b
-some-is e = cc
 
 -- A link as a slot, read back.
 pub slot-some : (i x : ℕ) → some x ≡ slotOf i → (eqb i null ≡ false) × (x ≡ i)

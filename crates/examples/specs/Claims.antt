@@ -1,9 +1,9 @@
 -- "Small trees, worked": the starred ones, proved from the definitions, in 01's order.
 use mathlib.Core.Path.{_≡_}
-use mathlib.Core.List.{List, [], _∷_}
-use Prim.Native.Nat.{ℕ, _+_, _<_}
+use mathlib.Core.List.{[], _∷_}
+use Prim.Native.Nat.{ℕ, _+_}
 use lib.ListN.{length}
-use Rattle.slots.specs.Answers.{Answer, some, given, nothing, refused}
+use Rattle.slots.specs.Answers.{some, given, nothing, refused}
 use Rattle.shape.specs.Find.{found}
 use Rattle.redblack.specs.Holding.{Has}
 use Rattle.demands.specs.Live.{Live, Fit, rootOf, countOf}
@@ -17,7 +17,7 @@ use Rattle.demands.specs.Calls.{after, Lowest}
 use Rattle.walks.specs.Cursor.{starts}
 use Rattle.walks.specs.Walk.{nexts}
 use Rattle.walks.specs.Held.{after as stepped}
-use Rattle.examples.specs.Worked.{empty, add, take, Drawing, none, black, red, drawn, chainOf, tables, bin}
+use Rattle.examples.specs.Worked.{empty, add, take, none, black, red, drawn, chainOf, tables, bin}
 use Rattle.examples.specs.Worked.{given as walks}
 
 -- 1, 2, 3 and then 4; then without 1.

@@ -5,7 +5,7 @@ use Prim.Native.Nat.{ℕ, zero, suc, _+_, _-_, _≤_}
 use native.Mathlib.Omega.{arith}
 use lib.Dec.{eqb, leb}
 use Rattle.slots.specs.Words.{null, pick, left, right, cell}
-use Rattle.slots.specs.Answers.{Answer, refused}
+use Rattle.slots.specs.Answers.{refused}
 use Rattle.shape.specs.Find.{slotsOf}
 use Rattle.shape.specs.Check.{test, firstFrom, firstFailing, linksIn, Walk, passed, failed, strayed, onward, walked, walkAnswer, checked}
 use Rattle.demands.specs.Live.{Live, rootOf, fits}

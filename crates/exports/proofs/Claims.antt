@@ -1,5 +1,5 @@
 -- Every claim of the crate holds.
-use mathlib.Core.Path.{_≡_, sym, _∙_}
+use mathlib.Core.Path.{sym, _∙_}
 use native.Mathlib.Omega.{arith}
 use Rattle.exports.specs.Claims.{Claims}
 

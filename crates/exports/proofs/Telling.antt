@@ -3,7 +3,7 @@ use mathlib.Core.Path.{_≡_, ap, _∙_}
 use Prim.Native.Nat.{ℕ}
 use Rattle.slots.specs.Answers.{Answer}
 use Rattle.demands.specs.Index.{Index, Outcome}
-use Rattle.exports.specs.Words.{answerWord, Told, told}
+use Rattle.exports.specs.Words.{answerWord, told}
 
 -- Of a call that writes: the outcome's answer becomes its word, what is left stays.
 pub tells : {w : ℕ} {a : Answer} {ix : Index} {o : Outcome} → w ≡ answerWord a → record { answer = a; left = ix } ≡ o → record { word = w; left = ix } ≡ told o

@@ -4,7 +4,7 @@ use crate::words::removed_word;
 use crate::words::rolled_word;
 use index::insert::insert;
 use index::remove::remove;
-use index::rollback::rollback;
+use undo::rollback::rollback;
 ghost use mathlib.Core.Path.{_≡_};
 ghost use Rattle.demands.specs.Live.{Live};
 ghost use Rattle.demands.specs.Index.{Index};

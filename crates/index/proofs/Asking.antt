@@ -10,6 +10,7 @@ use types.Run.{OneOf}
 use denote.Enum.Declared.{tagOf}
 use Rattle.slots.specs.Words.{null, pick}
 use Rattle.slots.specs.Answers.{Answer, Value, some, none, given}
+use Rattle.slots.proofs.Laws.{given-is, number, value}
 use Rattle.shape.specs.Find.{found}
 use Rattle.shape.specs.Chain.{tally}
 use Rattle.demands.specs.Live.{Live, Fit, rootOf, countOf, capacityOf, fits}
@@ -28,18 +29,6 @@ use Rattle.tree.specs.Find.{answerOf}
 use Rattle.tree.specs.declared.find.Found.{Found}
 use Rattle.tree.specs.declared.find.Found.the-variants.{At, Nothing, Lost}
 use Rattle.tree.proofs.find.Found.{the-type as searched}
-
-pub number : {a b : Answer} → a ≡ b → a .number ≡ b .number
-number e = ap (λ (a : Answer). a .number) e
-
-value : {a b : Answer} → a ≡ b → a .value ≡ b .value
-value e = ap (λ (a : Answer). a .value) e
-
-some-is : {a b : ℕ} → some a ≡ some b → a ≡ b
-some-is e = cc
-
-pub given-is : {a b : ℕ} → given a ≡ given b → a ≡ b
-given-is e = some-is (value e)
 
 -- The two tests of fitness, as code asks them.
 module _ (ix : Index) {b : Bool} (e : b ≡ fits (ix .live)) where

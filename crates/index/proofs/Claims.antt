@@ -7,14 +7,12 @@ use Rattle.slots.specs.Words.{pick}
 use Rattle.slots.specs.Answers.{Answer, Value, some, none}
 use Rattle.slots.proofs.Laws.{told-apart}
 use Rattle.demands.specs.Index.{Outcome}
-use Rattle.index.specs.Answers.{insertedOf, removedOf, rolledOf}
+use Rattle.index.specs.Answers.{insertedOf, removedOf}
 use Rattle.index.specs.Claims.{Call, outcomeOf, Claims}
 use Rattle.index.specs.declared.insert.Inserted.{Inserted}
 use Rattle.index.specs.declared.insert.Inserted.the-variants.{At as InsertAt, Unfit as InsertUnfit, Damaged as InsertDamaged, Present, Full, JournalFull as InsertJournalFull}
 use Rattle.index.specs.declared.remove.Removed.{Removed}
 use Rattle.index.specs.declared.remove.Removed.the-variants.{At as RemoveAt, Unfit as RemoveUnfit, Damaged as RemoveDamaged, Absent, JournalFull as RemoveJournalFull}
-use Rattle.index.specs.declared.rollback.RolledBack.{RolledBack}
-use Rattle.index.specs.declared.rollback.RolledBack.the-variants.{Lines, Unfit as RollUnfit, Damaged as RollDamaged, BadMark, Misfit}
 
 abbrev insertBack : ℕ → Value → Inserted
 insertBack number (some slot) = pick (eqb number 0) (InsertAt slot) (Present slot)
@@ -47,27 +45,13 @@ remove-back RemoveJournalFull = refl
 removed-one-to-one : (a b : Removed) → removedOf a ≡ removedOf b → a ≡ b
 removed-one-to-one = told-apart removedOf (λ a. removeBack (a .number) (a .value)) remove-back
 
-abbrev rollBack : ℕ → Value → RolledBack
-rollBack number (some count) = Lines count
-rollBack number none = pick (eqb number 1) RollUnfit (pick (eqb number 2) RollDamaged (pick (eqb number 7) BadMark Misfit))
-
-roll-back : (r : RolledBack) → rollBack (rolledOf r .number) (rolledOf r .value) ≡ r
-roll-back (Lines count) = refl
-roll-back RollUnfit = refl
-roll-back RollDamaged = refl
-roll-back BadMark = refl
-roll-back Misfit = refl
-
-rolled-one-to-one : (a b : RolledBack) → rolledOf a ≡ rolledOf b → a ≡ b
-rolled-one-to-one = told-apart rolledOf (λ a. rollBack (a .number) (a .value)) roll-back
-
 -- Calls whose outcomes are one are one.
 module _ {A : Type 0} (f : A → Answer) (apart : (a b : A) → f a ≡ f b → a ≡ b) where
   call : {a b : A} {n c h l n′ c′ h′ l′ : List ℕ} → a ≡ b → n ≡ n′ → c ≡ c′ → h ≡ h′ → l ≡ l′
       → _≡_ {A = Call A} (record { answer = a; names = n; cells = c; head = h; lines = l }) (record { answer = b; names = n′; cells = c′; head = h′; lines = l′ })
   call e1 e2 e3 e4 e5 = rw (e1, e2, e3, e4, e5)
 
-  one : (o : Outcome) (c d : Call A) → outcomeOf f c ≡ o → outcomeOf f d ≡ o → c ≡ d
+  pub one : (o : Outcome) (c d : Call A) → outcomeOf f c ≡ o → outcomeOf f d ≡ o → c ≡ d
   one o c d p q =
       let e = p ∙ sym q in
       call
@@ -84,6 +68,5 @@ claims =
       insert-one = λ ix hash key p c d. one insertedOf inserted-one-to-one _ c d;
       removed-one-to-one = removed-one-to-one;
       remove-one = λ ix hash key c d. one removedOf removed-one-to-one _ c d;
-      rolled-one-to-one = rolled-one-to-one;
-      rollback-one = λ ix m c d. one rolledOf rolled-one-to-one _ c d;
+      fit-index-one = λ ix a b p q. p ∙ sym q;
     }

@@ -4,14 +4,12 @@ use mathlib.Core.Path.{_≡_}
 use mathlib.Core.List.{List}
 use Prim.Native.Nat.{ℕ}
 use Rattle.slots.specs.Answers.{Answer, OneAnswer}
-use Rattle.demands.specs.Index.{Index, Outcome}
+use Rattle.demands.specs.Index.{Index, Outcome, fitsIndex}
 use Rattle.demands.specs.Insert.{inserts}
 use Rattle.demands.specs.Remove.{removes}
-use Rattle.demands.specs.Rollback.{rolls}
-use Rattle.index.specs.Answers.{insertedOf, removedOf, rolledOf}
+use Rattle.index.specs.Answers.{insertedOf, removedOf}
 use Rattle.index.specs.declared.insert.Inserted.{Inserted}
 use Rattle.index.specs.declared.remove.Removed.{Removed}
-use Rattle.index.specs.declared.rollback.RolledBack.{RolledBack}
 
 -- What a call returns, and the words of the four slices after it.
 pub record Call (A : Type 0) : Type 0 where
@@ -33,5 +31,4 @@ pub record Claims : Type 0 where
   pub insert-one : (ix : Index) (hash key p : ℕ) → OneAnswer (λ c. outcomeOf insertedOf c ≡ inserts ix hash key p)
   pub removed-one-to-one : (a b : Removed) → removedOf a ≡ removedOf b → a ≡ b
   pub remove-one : (ix : Index) (hash key : ℕ) → OneAnswer (λ c. outcomeOf removedOf c ≡ removes ix hash key)
-  pub rolled-one-to-one : (a b : RolledBack) → rolledOf a ≡ rolledOf b → a ≡ b
-  pub rollback-one : (ix : Index) (m : ℕ) → OneAnswer (λ c. outcomeOf rolledOf c ≡ rolls ix m)
+  pub fit-index-one : (ix : Index) → OneAnswer (λ r. r ≡ fitsIndex ix)

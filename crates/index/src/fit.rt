@@ -5,7 +5,7 @@ ghost use mathlib.Core.Path.{_≡_};
 ghost use Rattle.demands.specs.Live.{Live};
 ghost use Rattle.demands.specs.Index.{Index, fitsIndex};
 
-pub(crate) fn fit_index(names: &[u64], cells: &[u32], head: &[u32], lines: &[u64]) -> bool
+pub fn fit_index(names: &[u64], cells: &[u32], head: &[u32], lines: &[u64]) -> bool
     ensures { λ r. ⌜ r ≡ fitsIndex (record { live = record { names = now (names .entry); cells = now (cells .entry); head = now (head .entry) }; lines = now (lines .entry) }) ⌝ }
 {
     let tree = fit(names, cells, head);

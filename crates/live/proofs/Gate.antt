@@ -1,7 +1,6 @@
 -- What the test of fitness decides: 1, or the answer of what is asked on fit words.
-use mathlib.Core.Path.{_≡_, refl, ap, sym, _∙_}
+use mathlib.Core.Path.{_≡_}
 use mathlib.Core.Bool.{Bool, true, false}
-use mathlib.Core.List.{List}
 use Prim.Native.Nat.{ℕ}
 use Rattle.slots.specs.Answers.{Answer, refused}
 use Rattle.shape.specs.Find.{found}

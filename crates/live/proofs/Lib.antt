@@ -1,3 +1,4 @@
 pub mod Gate
 pub mod Slots
+pub mod Walked
 pub mod Claims

@@ -1,4 +1,4 @@
-// The full check of a live tree: T1 to T7, a function for each rule.
+// The full check of a live tree: T1 to T7, where one walk of the tree answers for T3 to T6.
 use crate::fit::COUNT;
 use crate::fit::FIRST;
 use crate::fit::ROOT;
@@ -22,10 +22,8 @@ use tree::chain::chain;
 use tree::check::in_range;
 use tree::check::links_in;
 use tree::rules::Rest;
-use tree::rules::coloured;
-use tree::rules::level;
-use tree::rules::reach;
-use tree::rules::rising;
+use tree::rules::Size;
+use tree::rules::tree_size;
 ghost use mathlib.Core.Path.{_≡_};
 ghost use mathlib.Core.Bool.{true, false};
 ghost use mathlib.Core.List.{[]};
@@ -36,8 +34,9 @@ ghost use Rattle.slots.specs.Words.{null, pick, state, free, cell};
 ghost use Rattle.shape.specs.Chain.{tally};
 ghost use Rattle.demands.specs.Live.{Live};
 ghost use Rattle.demands.specs.Sound.{used, isCleared, slotFine, slotsFine, agree, sounds};
-ghost use Rattle.demands.specs.Sound.{rule1 as obeys1, rule2 as obeys2, rule3 as obeys3, rule4 as obeys4, rule5 as obeys5, rule6 as obeys6, rule7 as obeys7, sound as obeysAll};
+ghost use Rattle.demands.specs.Sound.{rule1 as obeys1, rule2 as obeys2, rule7 as obeys7, sound as obeysAll};
 ghost use Rattle.live.specs.Answers.{soundOf};
+ghost use Rattle.live.specs.Sound.{treeRules};
 
 // Slot i is cleared: all zero with null links.
 fn is_cleared(names: &[u64], cells: &[u32], i: u32) -> bool
@@ -190,45 +189,22 @@ fn rule2(head: &[u32]) -> bool
     null_if_none(word(head, FIRST), count)
 }
 
-// T3: the root's parent is null, each child points back, and as many slots are reached from the root as the count says.
-fn rule3(names: &[u64], cells: &[u32], head: &[u32]) -> bool
-    ensures { λ r. ⌜ r ≡ obeys3 (record { names = now (names .entry); cells = now (cells .entry); head = now (head .entry) }) ⌝ }
+// T3 to T6 in one walk: the tree from the root obeys them, and has as many slots as the count says.
+fn rules_of_the_tree(names: &[u64], cells: &[u32], head: &[u32]) -> bool
+    ensures { λ r. ⌜
+        r ≡ treeRules (record { names = now (names .entry); cells = now (cells .entry); head = now (head .entry) })
+        ⌝ }
 {
-    let n = names.len() / 2;
     let root = word(head, ROOT);
-    let walk = reach(n, cells, NULL, root, n);
-    let Rest::Left(rest) = walk else {
+    let size = tree_size(names, cells, root);
+    let Size::Slots(m) = size else {
         return false;
     };
     let count = word(head, COUNT);
-    if n - rest != count as usize {
+    if m != count as usize {
         return false;
     }
     true
-}
-
-// T4: read left, self, right, the pairs strictly rise.
-fn rule4(names: &[u64], cells: &[u32], head: &[u32]) -> bool
-    ensures { λ r. ⌜ r ≡ obeys4 (record { names = now (names .entry); cells = now (cells .entry); head = now (head .entry) }) ⌝ }
-{
-    let root = word(head, ROOT);
-    rising(names, cells, root)
-}
-
-// T5: the root is black; no red slot has a red child.
-fn rule5(names: &[u64], cells: &[u32], head: &[u32]) -> bool
-    ensures { λ r. ⌜ r ≡ obeys5 (record { names = now (names .entry); cells = now (cells .entry); head = now (head .entry) }) ⌝ }
-{
-    let root = word(head, ROOT);
-    coloured(names.len() / 2, cells, root)
-}
-
-// T6: every way from the root to a null link meets equally many black slots.
-fn rule6(names: &[u64], cells: &[u32], head: &[u32]) -> bool
-    ensures { λ r. ⌜ r ≡ obeys6 (record { names = now (names .entry); cells = now (cells .entry); head = now (head .entry) }) ⌝ }
-{
-    let root = word(head, ROOT);
-    level(names.len() / 2, cells, root)
 }
 
 // A link is null or its slot is not free.
@@ -279,20 +255,8 @@ fn is_sound(names: &[u64], cells: &[u32], head: &[u32]) -> bool
     if !second {
         return false;
     }
-    let third = rule3(names, cells, head);
-    if !third {
-        return false;
-    }
-    let fourth = rule4(names, cells, head);
-    if !fourth {
-        return false;
-    }
-    let fifth = rule5(names, cells, head);
-    if !fifth {
-        return false;
-    }
-    let sixth = rule6(names, cells, head);
-    if !sixth {
+    let hung = rules_of_the_tree(names, cells, head);
+    if !hung {
         return false;
     }
     rule7(names, cells, head)

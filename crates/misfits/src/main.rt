@@ -2,8 +2,6 @@
 // they were before the call.
 use index::insert::insert;
 use index::remove::remove;
-use index::rollback::RolledBack;
-use index::rollback::rollback;
 use libc::STDOUT_FILENO;
 use slots::FREE;
 use slots::NULL;
@@ -13,6 +11,8 @@ use slots::get;
 use slots::name;
 use slots::put;
 use slots::put_name;
+use undo::rollback::RolledBack;
+use undo::rollback::rollback;
 
 // The words of a line, by their place.
 const KIND: u32 = 0;

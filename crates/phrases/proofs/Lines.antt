@@ -1,11 +1,11 @@
 -- What the readings of a line's numbers come to, on plain values: where one is missing the line is bad, else the command stands alone.
-use mathlib.Core.Path.{_≡_, refl, ap, sym, _∙_}
-use mathlib.Core.Bool.{Bool, true, false}
-use mathlib.Core.List.{List, [], _∷_}
+use mathlib.Core.Path.{_≡_}
+use mathlib.Core.Bool.{true, false}
+use mathlib.Core.List.{List}
 use Prim.Native.Nat.{ℕ, _<_, _≤_}
 use lib.ListN.{length, drop}
 use borrow.Author.Tests.{lt-ltb, le-ltb}
-use Rattle.dialogue.specs.Text.{Read, read, unread, readNumber, readNext, begins, plusWord, minusWord, askWord, rollWord, markWord, listWord}
+use Rattle.dialogue.specs.Text.{read, unread, readNumber, readNext, begins, plusWord, minusWord, askWord, rollWord, markWord, listWord}
 use Rattle.dialogue.specs.Commands.{Command, insert, remove, find, rollback, mark, list, bad, most64, most32, alone, entryOf, pairOf, markOf, meant, spoken}
 
 module _ (l : List ℕ) where

@@ -7,7 +7,7 @@ use Prim.Native.Nat.{ℕ, suc, zero, _<_}
 use native.Mathlib.Omega.{arith}
 use native.Mathlib.Decide.{ℕ-discrete}
 use lib.Dec.{eqb}
-use borrow.Author.Tests.{eq-eqb, ne-eqb, lt-ltb, le-ltb, ltb-true, eqb-false}
+use borrow.Author.Tests.{eq-eqb, ne-eqb, ltb-true, eqb-false}
 use Rattle.slots.specs.Words.{null, place, state, parent, prev, next, fields, Colour, red, Side, other, toward}
 use Rattle.slots.proofs.Laws.{pick-eq, cell-across}
 use Rattle.redblack.specs.Links.{Links, read, painted, isRed, done}

@@ -179,8 +179,3 @@ pub insertion : {n : ℕ} {σ : Side} {C : Way} {c : Colour} {x : ℕ} (m : ℕ)
     → Outcome n (balancedInsertion m s x) (slots (plug C (fork σ red bare x bare)))
 unfolding balancedInsertion
 insertion m s w h l = mends m .mend w void void h l
-
--- So it is where the tree holds x already, in any colour.
-pub insertion-hung : {n : ℕ} {s : Links} {σ : Side} {C : Way} {c d : Colour} {x : ℕ} (m : ℕ) → Wants 0 c C → Site n s C (fork σ d bare x bare) → length C < m
-    → Outcome n (balancedInsertion m s x) (slots (plug C (fork σ red bare x bare)))
-insertion-hung {s = s} m w h l = insertion m s w (painting red h) l

@@ -286,17 +286,9 @@ module _ {f : ℕ} (a : Aside f) where
   keeps : {s t : Links} → ((j : ℕ) → Held Any j f s t) → Keeps f s t
   keeps h = record { long = h 0 .long; same = λ j. h j .same }
 
-  pub painted-keeps : (s : Links) (i : ℕ) (c : Colour) → Keeps f s (painted s i c)
-  unfolding Any
-  painted-keeps s i c = keeps (λ j. held-painted (aside-off j) (aside-pale j) i c tt (start j s))
-
   pub rotated-keeps : {near far : ℕ} (s : Links) (p : ℕ) → Link near → Link far → Keeps f s (rotated near far s p)
   unfolding Any
   rotated-keeps s p ln lf = keeps (λ j. held-rotated (aside-off j) (aside-pale j) p ln lf tt (start j s))
-
-  pub insertionTurns-keeps : (m : ℕ) (s : Links) (x : ℕ) → Keeps f s (insertionTurns m s x)
-  unfolding Any
-  insertionTurns-keeps m s x = keeps (λ j. held-insertionTurns (aside-off j) (aside-pale j) m x tt (start j s))
 
   pub insertion-keeps : (m : ℕ) (s : Links) (x : ℕ) → Keeps f s (balancedInsertion m s x)
   unfolding Any
@@ -306,21 +298,9 @@ module _ {f : ℕ} (a : Aside f) where
   unfolding Any
   deletion-keeps m s x = keeps (λ j. held-deletion (aside-off j) (aside-pale j) m x tt (start j s))
 
-  pub dropped-keeps : (m : ℕ) (s : Links) (p : ℕ) → Keeps f s (dropped m s p)
-  unfolding Any
-  dropped-keeps m s p = keeps (λ j. held-dropped (aside-off j) (aside-pale j) m p tt (start j s))
-
-  pub traded-keeps : (s : Links) (p t : ℕ) → Keeps f s (traded s p t)
-  unfolding Any
-  traded-keeps s p t = keeps (λ j. held-traded (aside-off j) (aside-pale j) p t tt tt (start j s))
-
   pub removed-keeps : (m : ℕ) (s : Links) (p : ℕ) → Keeps f s (removed m s p)
   unfolding Any
   removed-keeps m s p = keeps (λ j. held-removed (aside-off j) (aside-pale j) m p tt (start j s))
-
-  pub hooked-keeps : (s : Links) (x : ℕ) (at : Spot) → Link (at .side) → Keeps f s (hooked s x at)
-  unfolding Any
-  hooked-keeps s x at l = keeps (λ j. held-hooked (aside-off j) (aside-pale j) x at l tt tt (start j s))
 
   pub inserted-keeps : (m : ℕ) (s : Links) (x : ℕ) (at : Spot) → Link (at .side) → Keeps f s (inserted m s x at)
   unfolding Any

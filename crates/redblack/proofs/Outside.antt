@@ -15,12 +15,12 @@ use Rattle.redblack.specs.Rotate.{rotated}
 use Rattle.redblack.specs.Insertion.{balancedInsertion}
 use Rattle.redblack.specs.Hanging.{spot, hooked, inserted}
 use Rattle.redblack.specs.Deletion.{balancedDeletion}
-use Rattle.redblack.specs.Removal.{dropped, removed}
+use Rattle.redblack.specs.Removal.{removed}
 use Rattle.redblack.specs.Kept.{Link, Agree, Absent, up, on}
 use Rattle.redblack.proofs.Reading.{reads, roomy-cap}
 use Rattle.redblack.proofs.Frames.{hit-same, hit-ne, apart, count-plug, whole}
 use Rattle.redblack.proofs.Hanging.{hooked-site, turns-first}
-use Rattle.redblack.proofs.Kept.{link-small, Closed, Held, held-painted, held-rotated, held-insertionTurns, held-insertion, held-deletion, held-dropped, held-removed}
+use Rattle.redblack.proofs.Kept.{link-small, Closed, Held, held-rotated, held-insertionTurns, held-insertion, held-deletion, held-removed}
 
 -- The slots of a tree, and null.
 In : Sided → ℕ → Type 0
@@ -90,9 +90,6 @@ begin C j f h = record { closed = closed-site C h; long = refl; same = refl }
 
 -- The routines at a slot i of the tree, for a slot j that is none of it.
 module _ {n : ℕ} {s : Links} {σ : Side} {c : Colour} {a b : Sided} {i j : ℕ} {C : Way} (h : Site n s C (fork σ c a i b)) (k : Absent j (plug C (fork σ c a i b))) where
-  pub painting-spares : (d : Colour) → Agree s (painted s i d) j
-  painting-spares d = record { same = λ f l. held-painted (out-off k f l) (out-pale k f l) i d (view-in C σ c a i b) (begin C j f h) .same }
-
   pub rotation-spares : {near far : ℕ} → Link near → Link far → Agree s (rotated near far s i) j
   rotation-spares ln lf = record { same = λ f l. held-rotated (out-off k f l) (out-pale k f l) i ln lf (view-in C σ c a i b) (begin C j f h) .same }
 
@@ -101,9 +98,6 @@ module _ {n : ℕ} {s : Links} {σ : Side} {c : Colour} {a b : Sided} {i j : ℕ
 
   pub deletion-spares : (m : ℕ) → Agree s (balancedDeletion m s i) j
   deletion-spares m = record { same = λ f l. held-deletion (out-off k f l) (out-pale k f l) m i (view-in C σ c a i b) (begin C j f h) .same }
-
-  pub dropping-spares : (m : ℕ) → Agree s (dropped m s i) j
-  dropping-spares m = record { same = λ f l. held-dropped (out-off k f l) (out-pale k f l) m i (view-in C σ c a i b) (begin C j f h) .same }
 
   pub removal-spares : (m : ℕ) → Agree s (removed m s i) j
   removal-spares m = record { same = λ f l. held-removed (out-off k f l) (out-pale k f l) m i (view-in C σ c a i b) (begin C j f h) .same }

@@ -13,7 +13,7 @@ use Rattle.slots.specs.Words.{pick, null, parent, left, right, Colour, Side, ot
 use Rattle.slots.proofs.Laws.{length-write}
 use Rattle.redblack.specs.Links.{Links, read, stored, painted, isRed}
 use Rattle.redblack.specs.Sided.{Sided, Way, top, upper, plug, slots, count, Site, bare, fork, none, home}
-use Rattle.redblack.specs.Balance.{RedBlack, Wants, Part, Outcome, void, dark, rosy, blackPart, redPart}
+use Rattle.redblack.specs.Balance.{Wants, Part, Outcome, void, dark, rosy, blackPart, redPart}
 use Rattle.redblack.specs.Deletion.{balancedDeletion}
 use Rattle.redblack.specs.Removal.{replaced, replacement, spliced, detached, dropped}
 use Rattle.redblack.specs.Kept.{Agree, up}
@@ -23,7 +23,7 @@ use Rattle.redblack.proofs.Paint.{painting}
 use Rattle.redblack.proofs.Order.{slots-plug}
 use Rattle.redblack.proofs.Depth.{depth}
 use Rattle.redblack.proofs.Looks.{red-top, dark-top}
-use Rattle.redblack.proofs.Parts.{plug-black, plug-any, part-of}
+use Rattle.redblack.proofs.Parts.{plug-black, plug-any}
 use Rattle.redblack.proofs.Seat.{rewire, heads-on, Seat, seat}
 use Rattle.redblack.proofs.Deletion.{turn-red, deletion-root, deletion-done, deletion}
 
@@ -169,7 +169,3 @@ dropping-part {C = C} m l (blackPart w (dark (rosy {σ = σ} {i = x} void void) 
       same = slots-plug C (fork σ black bare x bare) (fork σ red bare x bare) refl;
     }
 dropping-part m l (redPart w (rosy void void)) h = bare-red m (omega (arith, depth h)) w h
-
--- The slot p in view, which has at most the child a, goes from a red-black tree.
-pub dropping : {n k : ℕ} {s : Links} {ρ : Side} {d : Colour} {a : Sided} {p : ℕ} {C : Way} (m : ℕ) → n ≤ m → RedBlack black k (plug C (fork ρ d a p bare)) → Site n s C (fork ρ d a p bare) → Outcome n (dropped m s p) (slots (plug C a))
-dropping {C = C} m l v h = dropping-part m l (part-of C v) h

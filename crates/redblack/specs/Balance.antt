@@ -4,7 +4,7 @@ use mathlib.Core.List.{List, [], _∷_, _++_}
 use Prim.Native.Nat.{ℕ, suc}
 use Rattle.slots.specs.Words.{Side, Colour, black, red}
 use Rattle.redblack.specs.Links.{Links}
-use Rattle.redblack.specs.Sided.{Sided, bare, fork, Frame, frame, Way, plug, around, slots, Site}
+use Rattle.redblack.specs.Sided.{Sided, bare, fork, frame, Way, plug, around, slots, Site}
 
 -- `RedBlack c h t`: the tree t has the colour c at its top (black where it is bare), every way down it meets h black slots,
 -- and no red slot is a child of a red one.

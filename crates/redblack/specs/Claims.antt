@@ -2,10 +2,10 @@
 use mathlib.Core.Path.{_≡_}
 use mathlib.Core.Logic.{_≢_, _⊎_, _↔_}
 use mathlib.Core.List.{List, [], _∷_}
-use mathlib.Core.Bool.{true, false}
-use Prim.Native.Nat.{ℕ, suc, _+_, _<_, _≤_}
-use lib.ListN.{length, getD}
-use Rattle.slots.specs.Words.{null, place, state, parent, left, right, prev, next, Colour, black, red, code, Side, other, toward}
+use mathlib.Core.Bool.{true}
+use Prim.Native.Nat.{ℕ, suc, _<_, _≤_}
+use lib.ListN.{length}
+use Rattle.slots.specs.Words.{null, place, state, parent, prev, next, Colour, black, red, code, Side, other, toward}
 use Rattle.slots.specs.Pairs.{pair, pairOf}
 use Rattle.redblack.specs.Links.{Links, read, painted, isRed, done}
 use Rattle.redblack.specs.Rotate.{rotated}

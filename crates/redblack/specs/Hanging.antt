@@ -4,7 +4,7 @@ use Prim.Native.Nat.{ℕ, zero, suc}
 use lib.Dec.{eqb}
 use Rattle.slots.specs.Words.{null, pick, parent, left, right, cell, nameOf, hashPart, keyPart}
 use Rattle.slots.specs.Pairs.{before}
-use Rattle.redblack.specs.Links.{Links, read, stored}
+use Rattle.redblack.specs.Links.{Links, stored}
 use Rattle.redblack.specs.Insertion.{balancedInsertion}
 
 -- The slot above, null where the tree is empty, and the field of the side to hang on.

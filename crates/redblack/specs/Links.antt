@@ -1,9 +1,9 @@
 -- One tree's links: the cells, and the root.
-use mathlib.Core.Bool.{Bool, true, false}
+use mathlib.Core.Bool.{Bool}
 use mathlib.Core.List.{List}
 use Prim.Native.Nat.{ℕ}
 use lib.Dec.{eqb}
-use Rattle.slots.specs.Words.{null, pick, state, cell, write, Colour, black, red, code}
+use Rattle.slots.specs.Words.{pick, state, cell, write, Colour, black, red, code}
 
 pub record Links : Type 0 where
   pub cells : List ℕ

@@ -1,7 +1,7 @@
 -- A slot leaves the tree, as 01 condenses the JDK's drivers. The chain and the slot's own words are the live tree's.
 use Prim.Native.Nat.{ℕ, zero, suc}
 use lib.Dec.{eqb}
-use Rattle.slots.specs.Words.{null, pick, parent, left, right, black, red}
+use Rattle.slots.specs.Words.{null, pick, parent, left, right, black}
 use Rattle.redblack.specs.Links.{Links, read, stored, rooted, painted, isRed, colourOf}
 use Rattle.redblack.specs.Deletion.{balancedDeletion}
 

@@ -5,7 +5,7 @@ use mathlib.Core.List.{List, [], _∷_, _++_}
 use Prim.Native.Nat.{ℕ, _+_, _*_, _<_, _≤_}
 use lib.ListN.{length}
 use lib.Dec.{eqb}
-use Rattle.slots.specs.Words.{null, pick, state, parent, Colour, black, code, Side, leftward, rightward, other, toward}
+use Rattle.slots.specs.Words.{null, pick, state, parent, Colour, code, Side, leftward, rightward, other, toward}
 use Rattle.redblack.specs.Links.{Links, read}
 
 -- `fork σ c a i b` is the slot i, of colour c, with a on its side σ and b on the other:

@@ -5,7 +5,8 @@ use mathlib.Core.Bool.{Bool, true, false, false≢true}
 use native.Mathlib.Omega.{arith}
 use Rattle.slots.specs.Words.{pick}
 use Rattle.slots.specs.Answers.{Answer, given}
-use Rattle.demands.proofs.Sounding.{number, verdict, verdict-no, not-one}
+use Rattle.slots.proofs.Laws.{number}
+use Rattle.demands.proofs.Sounding.{verdict, verdict-no, not-one}
 use Rattle.sets.specs.Words.{Set, Fit}
 use Rattle.sets.specs.Accepted.{Accepted}
 use Rattle.sets.specs.Accepting.{accepted, accepts}

@@ -12,11 +12,12 @@ use borrow.Author.Tests.{eqb-true, eqb-false, eq-eqb, ne-eqb}
 use Rattle.slots.specs.Words.{null, pick, left, right, cell, nameOf, hashPart}
 use Rattle.slots.specs.Answers.{Value, none, some}
 use Rattle.shape.specs.Tree.{Tree, top, slots, times, Hangs, Rooted, Rising, Coloured, Level}
-use Rattle.shape.specs.Rules.{then, reached, rises, coloured, level}
+use Rattle.shape.specs.Rules.{then, obeyed}
 use Rattle.shape.specs.Chain.{Chain, chained}
 use Rattle.shape.proofs.Counting.{times-append, times-head, times-rest, times-around}
 use Rattle.shape.proofs.Reaching.{refuted, length-node, reached-tree, tree-reached}
 use Rattle.shape.proofs.Chaining.{chained-chain, chain-chained, chain-most}
+use Rattle.shape.proofs.Sizing.{Obeyed, obeyed-each, each-obeyed}
 use Rattle.shape.proofs.Rising.{rises-rising}
 use Rattle.shape.proofs.Colouring.{coloured-coloured}
 use Rattle.shape.proofs.Levelling.{level-level}
@@ -89,25 +90,22 @@ module _ {s : Set} (fit : Fit s) (len i : ℕ) where
       (rw (w .lefts) f) (rw (w .rights) g)
 
   module _ (h : ℕ) where
-    good-grown : (t : Tree) (m : ℕ) → Rooted (slotsIn s) (s .cells) (rootAt s h) t → length (slots t) ≡ m → treeGood (s .names) (s .cells) len i (rootAt s h) (firstAt s h) (countAt s h) m ≡ true → Grown s len i h t
+    good-grown : (t : Tree) (m : ℕ) → Rooted (slotsIn s) (s .cells) (rootAt s h) t → length (slots t) ≡ m → {v rest : ℕ} → Obeyed (s .names) (s .cells) (rootAt s h) v rest → treeGood (s .names) (s .cells) len i (rootAt s h) (firstAt s h) (countAt s h) m ≡ true → Grown s len i h t
     unfolding treeGood
-    good-grown t m r l e =
+    good-grown t m r l o e =
         let a = unless (eqb (rootAt s h) null) _ e in
         let b = unless (eqb (firstAt s h) null) _ (a .1) in
         let c = both (eqb m (countAt s h)) _ (b .1) in
-        let d = both (rises (s .names) (s .cells) (rootAt s h)) _ (c .1) in
-        let f = both (coloured (slotsIn s) (s .cells) (rootAt s h)) _ (d .1) in
-        let g = both (level (slotsIn s) (s .cells) (rootAt s h)) _ (f .1) in
-        let p = both (leaves (slotsIn s) (countAt s h) (chained (slotsIn s) (slotsIn s) (s .cells) null (firstAt s h))) _ (g .1) in
+        let p = both (leaves (slotsIn s) (countAt s h) (chained (slotsIn s) (slotsIn s) (s .cells) null (firstAt s h))) _ (c .1) in
         let u = left-of (slotsIn s) (countAt s h) _ (p .0) in
         let k = chained-chain (slotsIn s) (s .cells) (small fit) (firstAt s h) (u .0) (u .1) in
         record {
           root = eqb-false _ _ (a .0);
           first = eqb-false _ _ (b .0);
           rooted = r;
-          rising = rises-rising (s .names) (s .cells) (small fit) (rootAt s h) r .0 (d .0);
-          hues = coloured-coloured (slotsIn s) (s .cells) (small fit) (ends fit) (rootAt s h) r .0 (f .0);
-          even = level-level (slotsIn s) (s .cells) (small fit) (rootAt s h) r .0 (g .0);
+          rising = rises-rising (s .names) (s .cells) (small fit) (rootAt s h) r .0 (o .rise);
+          hues = coloured-coloured (slotsIn s) (s .cells) (small fit) (ends fit) (rootAt s h) r .0 (o .hues);
+          even = level-level (slotsIn s) (s .cells) (small fit) (rootAt s h) r .0 (o .even);
           count = l ∙ eqb-true _ _ (c .0);
           chain = (k .0, k .1, omega (arith, k .2, u .2));
           home = home-tree (slotsIn s) (r .hangs) (rw (r .from) at (p .1));
@@ -121,32 +119,38 @@ module _ {s : Set} (fit : Fit s) (len i : ℕ) where
         (eq-eqb _ _ (all-but (slotsIn s) (length (g .chain .0)) (countAt s h) (chain-most (slotsIn s) (s .cells) (small fit) (firstAt s h) (g .chain .1)) (g .chain .2)))
         in
         let k : treeHome (slotsIn s) (s .names) (s .cells) len i (rootAt s h) ≡ true = rw (g .rooted .from) (tree-home (slotsIn s) (g .rooted .hangs) b (g .home)) in
-        besides (ne-eqb _ _ (g .root)) (besides (ne-eqb _ _ (g .first)) (and (eq-eqb _ _ (sym l ∙ g .count))
-        (and (rises-rising (s .names) (s .cells) (small fit) (rootAt s h) (g .rooted) .1 (g .rising))
-        (and (coloured-coloured (slotsIn s) (s .cells) (small fit) (ends fit) (rootAt s h) (g .rooted) .1 (g .hues))
-        (and (level-level (slotsIn s) (s .cells) (small fit) (rootAt s h) (g .rooted) .1 (g .even)) (and c k))))))
+        besides (ne-eqb _ _ (g .root)) (besides (ne-eqb _ _ (g .first)) (and (eq-eqb _ _ (sym l ∙ g .count)) (and c k)))
 
     pub fine-grown : (v rest : ℕ) → treeFine (s .names) (s .cells) len i (rootAt s h) (firstAt s h) (countAt s h) v ≡ some rest → (t : Tree) × Grown s len i h t × (length (slots t) + rest ≡ v)
     unfolding treeFine
-    fine-grown v rest e = go (reached v (slotsIn s) (s .cells) null (rootAt s h) v) refl e
+    fine-grown v rest e = go (obeyed (s .names) (s .cells) (rootAt s h) v) refl e
       where
-        pass : (m : ℕ) → reached v (slotsIn s) (s .cells) null (rootAt s h) v ≡ some m → (b : Bool) → treeGood (s .names) (s .cells) len i (rootAt s h) (firstAt s h) (countAt s h) (v - m) ≡ b
+        pass : (m : ℕ) → Obeyed (s .names) (s .cells) (rootAt s h) v m → (b : Bool) → treeGood (s .names) (s .cells) len i (rootAt s h) (firstAt s h) (countAt s h) (v - m) ≡ b
             → pick b (some m) none ≡ some rest → (t : Tree) × Grown s len i h t × (length (slots t) + rest ≡ v)
-        pass m r false g e = refuted e
-        pass m r true g e =
-            let k = reached-tree (slotsIn s) (s .cells) (small fit) (rootAt s h) v m r in
+        pass m o false g e = refuted e
+        pass m o true g e =
+            let k = reached-tree (slotsIn s) (s .cells) (small fit) (rootAt s h) v m (o .reaches) in
             let z : m ≡ rest = cc in
-            (k .0, good-grown (k .0) (v - m) (k .1) (omega (arith, k .2)) g, omega (arith, k .2))
+            (k .0, good-grown (k .0) (v - m) (k .1) (omega (arith, k .2)) o g, omega (arith, k .2))
 
-        go : (o : Value) → reached v (slotsIn s) (s .cells) null (rootAt s h) v ≡ o → then o (λ rest. pick (treeGood (s .names) (s .cells) len i (rootAt s h) (firstAt s h) (countAt s h) (v - rest)) (some rest) none) ≡ some rest
+        go : (o : Value) → obeyed (s .names) (s .cells) (rootAt s h) v ≡ o → then o (λ rest. pick (treeGood (s .names) (s .cells) len i (rootAt s h) (firstAt s h) (countAt s h) (v - rest)) (some rest) none) ≡ some rest
             → (t : Tree) × Grown s len i h t × (length (slots t) + rest ≡ v)
         go none r e = refuted e
-        go (some m) r e = pass m r (treeGood (s .names) (s .cells) len i (rootAt s h) (firstAt s h) (countAt s h) (v - m)) refl e
+        go (some m) r e = pass m (obeyed-each (s .names) (s .cells) (rootAt s h) v m r) (treeGood (s .names) (s .cells) len i (rootAt s h) (firstAt s h) (countAt s h) (v - m)) refl e
+
+    grown-obeyed : (v : ℕ) (t : Tree) → Grown s len i h t → length (slots t) ≤ v → Obeyed (s .names) (s .cells) (rootAt s h) v (v - length (slots t))
+    grown-obeyed v t g b =
+        record {
+          reaches = tree-reached (slotsIn s) (s .cells) (small fit) (rootAt s h) v (g .rooted) b;
+          rise = rises-rising (s .names) (s .cells) (small fit) (rootAt s h) (g .rooted) .1 (g .rising);
+          hues = coloured-coloured (slotsIn s) (s .cells) (small fit) (ends fit) (rootAt s h) (g .rooted) .1 (g .hues);
+          even = level-level (slotsIn s) (s .cells) (small fit) (rootAt s h) (g .rooted) .1 (g .even);
+        }
 
     pub grown-fine : (v : ℕ) (t : Tree) → Grown s len i h t → length (slots t) ≤ v → length (slots t) ≤ slotsIn s → treeFine (s .names) (s .cells) len i (rootAt s h) (firstAt s h) (countAt s h) v ≡ some (v - length (slots t))
     unfolding treeFine
     grown-fine v t g b c =
         rw (
-          tree-reached (slotsIn s) (s .cells) (small fit) (rootAt s h) v (g .rooted) b,
+          each-obeyed (s .names) (s .cells) (rootAt s h) v (v - length (slots t)) (grown-obeyed v t g b),
           grown-good t (v - (v - length (slots t))) (omega arith) c g,
         )

@@ -8,7 +8,7 @@ use lib.Dec.{eqb, ltb}
 use Rattle.slots.specs.Words.{null, pick, state, parent, left, right, prev, next, cell, nameOf, hashPart, keyPart}
 use Rattle.slots.specs.Answers.{Answer, Value, none, some, given, refused}
 use Rattle.shape.specs.Find.{slotsOf}
-use Rattle.shape.specs.Rules.{then, reached, rises, coloured, level}
+use Rattle.shape.specs.Rules.{then, obeyed}
 use Rattle.shape.specs.Chain.{chained, tally}
 use Rattle.demands.specs.Sound.{used, slotsFine, leaves}
 use Rattle.sets.specs.Words.{Set, tablesOf, lengthAt, slotsIn, headersIn, rootAt, firstAt, countAt, fits, Bin, empty, moved, bad, list, tree, binAt, bini}
@@ -59,26 +59,20 @@ treeHome (suc depth) names cells len i x =
     (pick (treeHome depth names cells len i (cell cells x left)) (treeHome depth names cells len i (cell cells x right)) false)
     false)
 
--- A tree whose m slots T3's walk has passed: its header has a root, a first and that count, it obeys T4 to T6, its chain has as many
--- slots, and its slots are in the bin that their hashes name.
+-- A tree of m slots that obeys T3 to T6: its header has a root, a first and that count, its chain has as many slots, and its slots are
+-- in the bin that their hashes name.
 unfoldable pub treeGood : List ℕ → List ℕ → ℕ → ℕ → ℕ → ℕ → ℕ → ℕ → Bool
 treeGood names cells len i root first count m =
     pick (eqb root null) false
     (pick (eqb first null) false
     (pick (eqb m count)
-    (pick (rises names cells root)
-    (pick (coloured (slotsOf names) cells root)
-    (pick (level (slotsOf names) cells root)
     (pick (leaves (slotsOf names) count (chained (slotsOf names) (slotsOf names) cells null first)) (treeHome (slotsOf names) names cells len i root) false)
-    false)
-    false)
-    false)
     false))
 
 -- The tree of a header, with v visits left: the visits left after it, or none where it goes wrong.
 unfoldable pub treeFine : List ℕ → List ℕ → ℕ → ℕ → ℕ → ℕ → ℕ → ℕ → Value
 treeFine names cells len i root first count v =
-    then (reached v (slotsOf names) cells null root v) (λ rest. pick (treeGood names cells len i root first count (v - rest)) (some rest) none)
+    then (obeyed names cells root v) (λ rest. pick (treeGood names cells len i root first count (v - rest)) (some rest) none)
 
 -- A bin may stand where it does: it is not bad, it is empty unless it `may` hold something, and a Moved one has tables after its own.
 unfoldable pub placed : Bin → Bool → ℕ → Bool

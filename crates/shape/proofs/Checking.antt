@@ -1,18 +1,19 @@
 -- The source's check answers what 01 says: each test means what it is named for, the first that fails is the one of least number,
 -- and the walk's outcome is read back off the answer.
-use mathlib.Core.Path.{_≡_, refl, ap, sym, _∙_}
+use mathlib.Core.Path.{_≡_, refl, ap, sym}
 use mathlib.Core.Logic.{_≢_, _⊎_, inl, inr, ⊎-map, _↔_}
 use mathlib.Core.Bool.{Bool, true, false, false≢true}
 use mathlib.Core.List.{List}
 use Prim.Native.Nat.{ℕ, zero, suc, _+_, _<_, _≤_}
 use native.Mathlib.Decide.{ℕ-discrete}
 use native.Mathlib.Omega.{arith}
-use lib.Dec.{eqb, leb}
+use lib.Dec.{eqb}
 use borrow.Author.Tests.{eq-eqb, ne-eqb, eqb-true, eqb-false, leb-true, le-leb}
-use Rattle.slots.specs.Words.{null, pick, state, parent, left, right, prev, next, cell, nameOf, hashPart}
-use Rattle.slots.specs.Answers.{Answer, Value, some, none, nothing, refused}
+use Rattle.slots.specs.Words.{null, pick, parent, left, right, prev, next, cell}
+use Rattle.slots.specs.Answers.{Answer, some, none, nothing, refused}
+use Rattle.slots.proofs.Laws.{some-is}
 use Rattle.shape.specs.Find.{slotsOf}
-use Rattle.shape.specs.Check.{pointsBack, isChild, leftHash, rightHash, redSlot, notAllRed, test, firstFrom, firstFailing, Walk, passed, failed, strayed, walked, walkAnswer, checked, Back, Child, LeftHash, RightHash, NotAllRed, Walks}
+use Rattle.shape.specs.Check.{pointsBack, isChild, leftHash, rightHash, notAllRed, test, firstFrom, firstFailing, Walk, passed, failed, strayed, walked, walkAnswer, checked, Back, Child, LeftHash, RightHash, NotAllRed, Walks}
 use Rattle.shape.specs.Claims.{Tests, Checks}
 use Rattle.shape.proofs.Walking.{walks, walks-only}
 
@@ -151,9 +152,6 @@ module _ (names cells : List ℕ) (root : ℕ) where
   back-passed (passed v) e = (v, refl)
   back-passed (failed t i) e = absurd (omega (arith, ap (λ (a : Answer). a .number) e))
   back-passed strayed e = absurd (omega (arith, ap (λ (a : Answer). a .number) e))
-
-  some-is : {a b : ℕ} → some a ≡ some b → a ≡ b
-  some-is e = cc
 
   back-failed : (o : Walk) (t i : ℕ) → walkAnswer o ≡ record { number = 100 + t; value = some i } → o ≡ failed t i
   back-failed (passed v) t i e = absurd (omega (arith, ap (λ (a : Answer). a .number) e))

@@ -7,27 +7,11 @@ use Prim.Native.Nat.{ℕ, zero, suc, _+_, _-_, _<_, _≤_}
 use native.Mathlib.Decide.{ℕ-discrete, decLt, decLe}
 use native.Mathlib.Omega.{arith}
 use lib.ListN.{length, getD, drop}
-use borrow.Author.Tests.{eq-eqb, ne-eqb, lt-ltb, le-ltb}
-use Rattle.slots.specs.Words.{null, pick}
-use Rattle.slots.specs.Answers.{Answer, Value, some, none, given, nothing, refused}
-use Rattle.shape.specs.Find.{Look, here, on, decided, looked, Search, ends, after, slotsOf, searched, found, Follows, start, step, Lost, Here, Missed}
+use Rattle.slots.specs.Words.{null}
+use Rattle.slots.specs.Answers.{given, nothing, refused}
+use Rattle.slots.proofs.Laws.{number, given-is, nothing-given}
+use Rattle.shape.specs.Find.{Look, here, on, looked, Search, after, slotsOf, searched, found, Follows, start, step, Lost, Here, Missed}
 use Rattle.shape.proofs.Searching.{at-null, out-of-range, visits-spent, at-slot}
-
--- The three answers are three.
-number : {a b : Answer} → a ≡ b → a .number ≡ b .number
-number e = ap (λ (a : Answer). a .number) e
-
-none-some : {v : ℕ} → none ≡ some v → ⊥
-none-some e = let z : _≡_ {A = ℕ} 0 1 = cc in omega arith
-
-nothing-given : {v : ℕ} → nothing ≡ given v → ⊥
-nothing-given e = none-some (ap (λ (a : Answer). a .value) e)
-
-some-inj : {u v : ℕ} → some u ≡ some v → u ≡ v
-some-inj e = cc
-
-given-inj : {u v : ℕ} → given u ≡ given v → u ≡ v
-given-inj e = some-inj (ap (λ (a : Answer). a .value) e)
 
 -- A list whose rest from k on begins with p.
 record Starts (p : ℕ) (l : List ℕ) : Type 0 where
@@ -160,7 +144,7 @@ module _ (names cells : List ℕ) (root hash key : ℕ) where
     where
       go : Outcome (found names cells root hash key) → Here names cells root hash key slot
       go (lost h a) = absurd (omega (arith, number (sym a ∙ e)))
-      go (hit h a) = rw (given-inj (sym a ∙ e)) at h
+      go (hit h a) = rw (given-is (sym a ∙ e)) at h
       go (miss h a) = absurd (nothing-given (sym a ∙ e))
 
   pub nothing-missed : found names cells root hash key .answer ≡ nothing → Missed names cells root hash key

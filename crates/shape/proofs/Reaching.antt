@@ -12,6 +12,7 @@ use lib.Dec.{eqb, ltb}
 use borrow.Author.Tests.{eq-eqb, ne-eqb, lt-ltb, ltb-true, eqb-true, eqb-false}
 use Rattle.slots.specs.Words.{null, pick, state, parent, left, right, cell, Colour, black, red, code}
 use Rattle.slots.specs.Answers.{Value, none, some}
+use Rattle.slots.proofs.Laws.{none-some}
 use Rattle.shape.specs.Tree.{Tree, leaf, node, top, slots, times, Cell, Hangs, Rooted}
 use Rattle.shape.specs.Rules.{then, stands, reached}
 use Rattle.shape.proofs.Rank.{Rank, home, rank-up, Under, under-self, under-above, under-one, under-deep}
@@ -19,7 +20,7 @@ use Rattle.shape.proofs.Counting.{times-append, times-head, times-else,
 
 -- A number is no refusal.
 pub refuted : {A : Type 0} {v : ℕ} → none ≡ some v → A
-refuted e = absurd (let z : _≡_ {A = ℕ} 0 1 = cc in omega arith)
+refuted e = absurd (none-some e)
 
 -- No slot is null.
 pub solid : {n i : ℕ} → n ≤ null → i < n → i ≢ null

@@ -1,13 +1,12 @@
 -- What one turn of a search comes to, by its tests.
-use mathlib.Core.Path.{_≡_, refl, ap, sym, _∙_}
+use mathlib.Core.Path.{_≡_}
 use mathlib.Core.Logic.{_≢_}
 use mathlib.Core.List.{List}
 use Prim.Native.Nat.{ℕ, zero, suc, _<_, _≤_}
-use lib.Dec.{eqb, leb}
 use borrow.Author.Tests.{eq-eqb, ne-eqb, le-leb, lt-leb}
-use Rattle.slots.specs.Words.{null, pick}
+use Rattle.slots.specs.Words.{null}
 use Rattle.slots.specs.Answers.{nothing, refused}
-use Rattle.shape.specs.Find.{looked, Search, ends, after, slotsOf, searched}
+use Rattle.shape.specs.Find.{looked, ends, after, slotsOf, searched}
 
 module _ (names cells : List ℕ) (hash key : ℕ) where
   pub at-null : (visits p : ℕ) → p ≡ null → searched names cells visits p hash key ≡ ends nothing

@@ -1,5 +1,5 @@
--- The size of a tree is given where the words hold one that obeys T3 to T6: the walk of T3 finds it, and the others are asked of that one.
-use mathlib.Core.Path.{_≡_, refl, ap}
+-- Four rules asked at once are the four; and the size of a tree is given where the words hold one that obeys T3 to T6: the walk of T3 finds it, and the others are asked of that one.
+use mathlib.Core.Path.{_≡_, refl, ap, _∙_}
 use mathlib.Core.Logic.{_↔_}
 use mathlib.Core.Bool.{Bool, true, false}
 use mathlib.Core.List.{List}
@@ -9,40 +9,61 @@ use lib.ListN.{length}
 use Rattle.slots.specs.Words.{null, pick}
 use Rattle.slots.specs.Answers.{Value, none, some}
 use Rattle.shape.specs.Find.{slotsOf}
-use Rattle.shape.specs.Tree.{Tree, slots, Rooted, Rising, Coloured, Level, Shaped}
-use Rattle.shape.specs.Rules.{then, reached, rises, coloured, level, treeSize}
+use Rattle.shape.specs.Tree.{Shaped}
+use Rattle.shape.specs.Rules.{then, reached, rises, coloured, level, obeyed, treeSize}
 use Rattle.shape.proofs.Reaching.{refuted, reached-rooted, rooted-reached, rooted-most}
 use Rattle.shape.proofs.Rising.{rises-rising}
 use Rattle.shape.proofs.Colouring.{coloured-coloured}
 use Rattle.shape.proofs.Levelling.{level-level}
 
+-- The four rules are obeyed where each is.
+pub record Obeyed (names cells : List ℕ) (root v rest : ℕ) : Type 0 where
+  pub reaches : reached v (slotsOf names) cells null root v ≡ some rest
+  pub rise : rises names cells root ≡ true
+  pub hues : coloured (slotsOf names) cells root ≡ true
+  pub even : level (slotsOf names) cells root ≡ true
+
+module _ (names cells : List ℕ) (root v rest : ℕ) where
+  pub obeyed-each : obeyed names cells root v ≡ some rest → Obeyed names cells root v rest
+  unfolding obeyed
+  obeyed-each e = go (reached v (slotsOf names) cells null root v) refl (rises names cells root) refl (coloured (slotsOf names) cells root) refl (level (slotsOf names) cells root) refl e
+    where
+      go : (o : Value) → reached v (slotsOf names) cells null root v ≡ o
+          → (a : Bool) → rises names cells root ≡ a → (b : Bool) → coloured (slotsOf names) cells root ≡ b → (c : Bool) → level (slotsOf names) cells root ≡ c
+          → then o (λ rest. pick a (pick b (pick c (some rest) none) none) none) ≡ some rest
+          → Obeyed names cells root v rest
+      go none p a x b y c z e = refuted e
+      go (some m) p false x b y c z e = refuted e
+      go (some m) p true x false y c z e = refuted e
+      go (some m) p true x true y false z e = refuted e
+      go (some m) p true x true y true z e = record { reaches = p ∙ e; rise = x; hues = y; even = z }
+
+  pub each-obeyed : Obeyed names cells root v rest → obeyed names cells root v ≡ some rest
+  unfolding obeyed
+  each-obeyed h = rw (h .reaches, h .rise, h .hues, h .even)
+
 module _ (names cells : List ℕ) (small : slotsOf names ≤ null) (ends : length cells ≤ 7 * null) (root m : ℕ) where
   size-shaped : treeSize names cells root ≡ some m → Shaped names cells root m
   unfolding treeSize
-  size-shaped e = go (reached (slotsOf names) (slotsOf names) cells null root (slotsOf names)) refl (rises names cells root) refl (coloured (slotsOf names) cells root) refl (level (slotsOf names) cells root) refl e
+  size-shaped e = go (obeyed names cells root (slotsOf names)) refl e
     where
-      go : (v : Value) → reached (slotsOf names) (slotsOf names) cells null root (slotsOf names) ≡ v
-          → (a : Bool) → rises names cells root ≡ a → (b : Bool) → coloured (slotsOf names) cells root ≡ b → (c : Bool) → level (slotsOf names) cells root ≡ c
-          → then v (λ rest. pick a (pick b (pick c (some (slotsOf names - rest)) none) none) none) ≡ some m
-          → Shaped names cells root m
-      go none p a x b y c z e = refuted e
-      go (some rest) p false x b y c z e = refuted e
-      go (some rest) p true x false y c z e = refuted e
-      go (some rest) p true x true y false z e = refuted e
-      go (some rest) p true x true y true z e =
-          let h = reached-rooted (slotsOf names) cells small root rest p in
+      go : (o : Value) → obeyed names cells root (slotsOf names) ≡ o → then o (λ rest. some (slotsOf names - rest)) ≡ some m → Shaped names cells root m
+      go none p e = refuted e
+      go (some rest) p e =
+          let o = obeyed-each names cells root (slotsOf names) rest p in
+          let h = reached-rooted (slotsOf names) cells small root rest (o .reaches) in
           let s : slotsOf names - rest ≡ m = cc in
           record {
             tree = h .0;
             rooted = h .1;
-            rising = rises-rising names cells small root (h .1) .0 x;
-            coloured = coloured-coloured (slotsOf names) cells small ends root (h .1) .0 y;
-            level = level-level (slotsOf names) cells small root (h .1) .0 z;
+            rising = rises-rising names cells small root (h .1) .0 (o .rise);
+            coloured = coloured-coloured (slotsOf names) cells small ends root (h .1) .0 (o .hues);
+            level = level-level (slotsOf names) cells small root (h .1) .0 (o .even);
             size = omega (arith, h .2, s);
           }
 
   shaped-size : Shaped names cells root m → treeSize names cells root ≡ some m
-  unfolding treeSize
+  unfolding treeSize obeyed
   shaped-size h =
       rw (
         rooted-reached (slotsOf names) cells small root (h .rooted),

@@ -1,5 +1,5 @@
 -- The walks of T3 and T7 a visit at a time: neither hands back more visits than it was given, and fuel past the visits changes nothing.
-use mathlib.Core.Path.{_≡_, refl, sym, ap, _∙_}
+use mathlib.Core.Path.{_≡_, refl, sym, _∙_}
 use mathlib.Core.Logic.{_≢_}
 use mathlib.Core.Bool.{Bool, true, false}
 use mathlib.Core.List.{List}
@@ -10,12 +10,10 @@ use lib.Dec.{eqb, ltb}
 use borrow.Author.Tests.{eq-eqb, ne-eqb, eqb-false, lt-ltb, le-ltb}
 use Rattle.slots.specs.Words.{null, pick, left, right, prev, next, cell}
 use Rattle.slots.specs.Answers.{Value, none, some}
+use Rattle.slots.proofs.Laws.{some-is}
 use Rattle.shape.specs.Rules.{then, stands, reached}
 use Rattle.shape.specs.Chain.{chained}
 use Rattle.shape.proofs.Reaching.{refuted}
-
-some-is : {a b : ℕ} → some a ≡ some b → a ≡ b
-some-is e = cc
 
 -- The tests of a visit, and what comes after them.
 abbrev gate : ℕ → Bool → Bool → Bool → Bool → Value → Value
@@ -110,16 +108,6 @@ module _ (n : ℕ) (cells : List ℕ) where
               → reached k n cells q i k ≡ then (reached (k - 1) n cells i (cell cells i left) (k - 1)) (λ rest. reached (k - 1) n cells i (cell cells i right) rest)
           go zero z = absurd (z refl)
           go (suc k) z = rw (ne-eqb i null d, lt-ltb i n l, ne-eqb (suc k) 0 z, ← s, e, sub-one)
-
-      pub reach-left-wrong : stand ≡ true → {t : ℕ} → t ≡ cell cells i left → none ≡ reached (v - 1) n cells i t (v - 1) → none ≡ reached v n cells q i v
-      reach-left-wrong e p a = sym (reach-on e ∙ rw (← p, ← a))
-
-      pub reach-both : stand ≡ true → {t r rest : ℕ} {o : Value} → t ≡ cell cells i left → some rest ≡ reached (v - 1) n cells i t (v - 1)
-          → r ≡ cell cells i right → o ≡ reached rest n cells i r rest → o ≡ reached v n cells q i v
-      reach-both e {t} {r} {rest} p a b c =
-          c ∙ ap (λ (j : ℕ). reached rest n cells i j rest) b
-          ∙ reached-fuel rest (v - 1) i (cell cells i right) rest (omega arith) (reached-within (v - 1) i t (v - 1) rest (sym a))
-          ∙ sym (reach-on e ∙ rw (← p, ← a))
 
 -- One step along the chain.
 module _ (n : ℕ) (cells : List ℕ) (q i : ℕ) where

@@ -1,13 +1,13 @@
 -- The walk of the source's check: what one visit comes to, and that the model is the walk in 01's words, whatever the fuel past the visits.
 use mathlib.Core.Path.{_≡_, refl, ap, sym, _∙_}
-use mathlib.Core.Logic.{_≢_, _⊎_, inl, inr}
+use mathlib.Core.Logic.{_≢_, inl, inr}
 use mathlib.Core.Bool.{Bool, true, false, false≢true}
 use mathlib.Core.List.{List}
 use Prim.Native.Nat.{ℕ, zero, suc, _-_, _<_, _≤_}
 use native.Mathlib.Decide.{ℕ-discrete, decLt}
 use native.Mathlib.Omega.{arith}
 use lib.Dec.{eqb, leb, ltb}
-use borrow.Author.Tests.{eq-eqb, ne-eqb, le-leb, lt-leb, lt-ltb, ltb-true, eqb-true, eqb-false, ltb-false, le-ltb}
+use borrow.Author.Tests.{eq-eqb, ne-eqb, le-leb, lt-leb, lt-ltb, ltb-true, eqb-true}
 use Rattle.slots.specs.Words.{null, pick, parent, left, right, prev, next, cell}
 use Rattle.shape.specs.Find.{slotsOf}
 use Rattle.shape.specs.Check.{inRange, linksIn, firstFailing, Walk, passed, failed, strayed, onward, walked, Named, LinksNamed, Walks, absent, outside, spent, loose, fails, leftStops, both}

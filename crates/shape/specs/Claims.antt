@@ -6,9 +6,9 @@ use mathlib.Core.Bool.{true, false}
 use Prim.Native.Nat.{ℕ, _+_, _-_, _*_, _<_, _≤_}
 use lib.ListN.{length, getD}
 use Rattle.slots.specs.Words.{null, parent, left, right, prev, next}
-use Rattle.slots.specs.Answers.{Answer, some, given, nothing, refused}
+use Rattle.slots.specs.Answers.{some, given, nothing, refused}
 use Rattle.shape.specs.Find.{here, on, decided, slotsOf, found, Follows, Lost, Here, Missed}
-use Rattle.shape.specs.Check.{test, firstFailing, Walk, passed, failed, strayed, checked, Back, Child, LeftHash, RightHash, NotAllRed, Walks}
+use Rattle.shape.specs.Check.{test, firstFailing, passed, failed, strayed, checked, Back, Child, LeftHash, RightHash, NotAllRed, Walks}
 use Rattle.shape.specs.Tree.{Tree, slots, times, Rooted, Rising, Coloured, Level, Shaped}
 use Rattle.shape.specs.Rules.{reached, rises, coloured, level, treeSize}
 use Rattle.shape.specs.Chain.{Chain, chained}

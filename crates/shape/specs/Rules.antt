@@ -81,10 +81,14 @@ coloured n cells root = pick (eqb (cell cells root state) 2) false (calmed n cel
 unfoldable pub level : ℕ → List ℕ → ℕ → Bool
 level n cells root = isSome (levelled n cells root)
 
+-- T3 to T6 of the tree from root, with v visits: the visits left, or none where one of the four is broken.
+unfoldable pub obeyed : List ℕ → List ℕ → ℕ → ℕ → Value
+obeyed names cells root v =
+    then (reached v (slotsOf names) cells null root v)
+    (λ rest. pick (rises names cells root)
+    (pick (coloured (slotsOf names) cells root) (pick (level (slotsOf names) cells root) (some rest) none) none)
+    none)
+
 -- The number of slots of the tree from root where it obeys T3 to T6, else none.
 unfoldable pub treeSize : List ℕ → List ℕ → ℕ → Value
-treeSize names cells root =
-    then (reached (slotsOf names) (slotsOf names) cells null root (slotsOf names))
-    (λ rest. pick (rises names cells root)
-    (pick (coloured (slotsOf names) cells root) (pick (level (slotsOf names) cells root) (some (slotsOf names - rest)) none) none)
-    none)
+treeSize names cells root = then (obeyed names cells root (slotsOf names)) (λ rest. some (slotsOf names - rest))

@@ -1,7 +1,7 @@
 -- A tree of slots in its plain form, what it means that words hold it, and T3 to T6 of one tree.
 use mathlib.Core.Path.{_≡_}
 use mathlib.Core.List.{List, [], _∷_, _++_}
-use Prim.Native.Nat.{ℕ, zero, suc, _+_, _<_, _≤_}
+use Prim.Native.Nat.{ℕ, _+_, _<_, _≤_}
 use lib.ListN.{length}
 use lib.Dec.{eqb}
 use Rattle.slots.specs.Words.{null, pick, state, parent, left, right, cell, Colour, black, red, code}

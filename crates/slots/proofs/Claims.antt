@@ -1,10 +1,8 @@
 -- Every claim of the crate holds: the laws of proofs/Laws and proofs/Order, put together.
-use mathlib.Core.Path.{_≡_, sym, _∙_, subst}
-use mathlib.Core.Logic.{_≢_}
-use Prim.Native.Nat.{ℕ, _<_}
+use mathlib.Core.Path.{sym, _∙_}
+use Prim.Native.Nat.{ℕ}
 use borrow.Author.Tests.{lt-ltb, ne-eqb}
 use Rattle.slots.specs.Words.{fields, parts}
-use Rattle.slots.specs.Pairs.{Pair, Less}
 use Rattle.slots.specs.Claims.{Claims, Words}
 use Rattle.slots.proofs.Laws.{word-same, word-across, word-else, length-store}
 use Rattle.slots.proofs.Order.{less-irreflexive, less-transitive, less-total, before-less}

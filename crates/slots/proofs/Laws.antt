@@ -1,17 +1,18 @@
 -- The laws of a read after a write. Words of one slot, and of two slots, lie apart, so one law over the width serves cells and names.
 use mathlib.Core.Path.{_≡_, refl, ap, sym, _∙_}
-use mathlib.Core.Logic.{_≢_, _⊎_, inl, inr}
+use mathlib.Core.Logic.{_≢_}
 use mathlib.Core.List.{List, [], _∷_}
 use mathlib.Core.Bool.{Bool, true, false}
 use Prim.Native.Nat.{ℕ, suc, zero, _+_, _*_, _<_, _≤_}
 use native.Mathlib.Nat.{not-suc-le-zero, le-of-suc-le-suc, mul-le-mul-left, mul-suc}
 use native.Mathlib.Decide.{ℕ-discrete, decLt}
 use native.Mathlib.Omega.{arith}
-use lib.ListN.{length, getD, set, length-set, List·getD-eq-default}
-use lib.Seq.{getD-set-same, getD-set-other, set-out}
-use lib.Dec.{eqb, leb, ltb}
-use borrow.Author.Tests.{leb-true, le-leb, ltb-true, eqb-false, eq-eqb, ne-eqb}
-use Rattle.slots.specs.Words.{pick, null, fields, parts, word, store, cell, write, nameOf, rename, roomy, Side, leftward, rightward, other, toward, Colour, black, red, code}
+use lib.ListN.{length, getD, length-set, List·getD-eq-default}
+use lib.Seq.{getD-set-same, getD-set-other}
+use lib.Dec.{eqb, ltb}
+use borrow.Author.Tests.{leb-true, ltb-true, eqb-false, eq-eqb, ne-eqb}
+use Rattle.slots.specs.Answers.{Answer, none, some, given, nothing}
+use Rattle.slots.specs.Words.{pick, null, fields, word, store, cell, write, roomy, Side, leftward, rightward, other, toward}
 
 -- Which way a test goes.
 pub pick-eq : {A : Type 0} {m n : ℕ} (a b : A) → m ≡ n → pick (eqb m n) a b ≡ a
@@ -58,9 +59,6 @@ module _ (w d : ℕ) (l : List ℕ) where
   pub word-out : (i f : ℕ) → length l ≤ w * i + f → word w d l i f ≡ d
   word-out i f h = List·getD-eq-default l d h
 
-  pub store-out : (i f v : ℕ) → length l ≤ w * i + f → store w l i f v ≡ l
-  store-out i f v h = set-out l (w * i + f) v h
-
 pub length-store : (w : ℕ) (l : List ℕ) (i f v : ℕ) → length (store w l i f v) ≡ length l
 length-store w l i f v = length-set l (w * i + f) v
 
@@ -94,10 +92,6 @@ pub cell-null : (l : List ℕ) (f : ℕ) → length l ≤ 7 * null → cell l nu
 unfolding cell
 cell-null l f h = word-out fields null l null f (omega arith)
 
-pub write-null : (l : List ℕ) (f v : ℕ) → length l ≤ 7 * null → write l null f v ≡ l
-unfolding write
-write-null l f v h = store-out fields null l null f v (omega arith)
-
 -- What the tests of the fields come to where the field is a side's.
 pub toward-small : (σ : Side) → ltb (toward σ) fields ≡ true
 toward-small leftward = refl
@@ -111,16 +105,24 @@ pub other-toward : (σ : Side) → eqb (toward (other σ)) (toward σ) ≡ false
 other-toward leftward = refl
 other-toward rightward = refl
 
--- A side is no other field: f is below left or above right.
-pub side-field : (σ : Side) (f : ℕ) → ((f < 3) ⊎ (4 < f)) → eqb (toward σ) f ≡ false
-side-field leftward f (inl h) = ne-eqb 3 f (omega arith)
-side-field leftward f (inr h) = ne-eqb 3 f (omega arith)
-side-field rightward f (inl h) = ne-eqb 4 f (omega arith)
-side-field rightward f (inr h) = ne-eqb 4 f (omega arith)
+-- What equal answers and equal values have in common; and what is not equal.
+pub number : {a b : Answer} → a ≡ b → a .number ≡ b .number
+number e = ap (λ (a : Answer). a .number) e
 
-pub other-other : (σ : Side) → other (other σ) ≡ σ
-other-other leftward = refl
-other-other rightward = refl
+pub value : {a b : Answer} → a ≡ b → a .value ≡ b .value
+value e = ap (λ (a : Answer). a .value) e
+
+pub some-is : {a b : ℕ} → some a ≡ some b → a ≡ b
+some-is e = cc
+
+pub given-is : {a b : ℕ} → given a ≡ given b → a ≡ b
+given-is e = some-is (value e)
+
+pub none-some : {v : ℕ} → none ≡ some v → ⊥
+none-some e = let z : _≡_ {A = ℕ} 0 1 = cc in omega arith
+
+pub nothing-given : {v : ℕ} → nothing ≡ given v → ⊥
+nothing-given e = none-some (value e)
 
 -- What can be read back is told apart.
 pub told-apart : {A B : Type 0} (f : A → B) (back : B → A) → ((a : A) → back (f a) ≡ a) → (a b : A) → f a ≡ f b → a ≡ b

@@ -4,7 +4,7 @@ use Prim.Native.Nat.{ℕ, _+_, _-_}
 use native.Mathlib.Omega.{arith}
 use lib.Dec.{eqb}
 use Rattle.slots.specs.Words.{pick}
-use Rattle.slots.specs.Answers.{Answer, Value, some, none}
+use Rattle.slots.specs.Answers.{Value, some, none}
 use Rattle.slots.proofs.Laws.{told-apart}
 use Rattle.tree.specs.Find.{answerOf}
 use Rattle.tree.specs.Check.{checkedOf}
@@ -74,10 +74,7 @@ claims =
       check-invariants-one = λ names cells root a b p q. checked-one-to-one a b (p ∙ sym q);
       rest-one-to-one = rest-one-to-one;
       size-one-to-one = size-one-to-one;
-      reach-one = λ n cells q i visits a b p r. rest-one-to-one a b (p ∙ sym r);
-      rising-one = λ names cells root a b p q. p ∙ sym q;
-      coloured-one = λ n cells root a b p q. p ∙ sym q;
-      level-one = λ n cells root a b p q. p ∙ sym q;
+      survey-one = λ names cells root visits a b p q. rest-one-to-one a b (p ∙ sym q);
       tree-size-one = λ names cells root a b p q. size-one-to-one a b (p ∙ sym q);
       in-range-one = λ n link a b p q. p ∙ sym q;
       links-in-one = λ n cells i a b p q. p ∙ sym q;

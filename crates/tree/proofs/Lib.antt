@@ -1,4 +1,5 @@
 pub mod Searching
 pub mod Visiting
 pub mod Ruling
+pub mod Judging
 pub mod Claims

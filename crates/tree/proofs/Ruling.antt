@@ -1,5 +1,5 @@
 -- What one call of each rule's recursion comes to: at null, with no depth left, and at a slot.
-use mathlib.Core.Path.{_≡_, refl, sym}
+use mathlib.Core.Path.{_≡_, refl}
 use mathlib.Core.Logic.{_≢_}
 use mathlib.Core.Bool.{Bool, true, false}
 use mathlib.Core.List.{List}
@@ -10,8 +10,10 @@ use lib.Dec.{eqb}
 use borrow.Author.Tests.{eq-eqb, ne-eqb}
 use Rattle.slots.specs.Words.{null, pick, state, left, right, cell}
 use Rattle.slots.specs.Answers.{Value, none, some}
+use Rattle.slots.proofs.Laws.{some-is}
 use Rattle.shape.specs.Rules.{then, follows, risen, calmed, levelled}
 use Rattle.tree.specs.Rules.{quietly}
+use Rattle.shape.proofs.Reaching.{refuted}
 
 module _ (names cells : List ℕ) (m i : ℕ) where
   pub rise-null : (depth : ℕ) → i ≡ null → some m ≡ risen depth names cells m i
@@ -37,11 +39,6 @@ module _ (cells : List ℕ) (i : ℕ) where
   calm-null zero e = simp (eq-eqb i null e)
   calm-null (suc depth) e = simp (eq-eqb i null e)
 
-  pub calm-zero : (depth : ℕ) → i ≢ null → depth ≡ 0 → false ≡ calmed depth cells i
-  unfolding calmed
-  calm-zero zero n e = simp (ne-eqb i null n)
-  calm-zero (suc depth) n e = absurd (omega arith)
-
   pub calm-on : (depth : ℕ) → i ≢ null → depth ≢ 0
       → calmed depth cells i
       ≡ pick (quietly cells i) (pick (calmed (depth - 1) cells (cell cells i left)) (calmed (depth - 1) cells (cell cells i right)) false) false
@@ -54,11 +51,6 @@ module _ (cells : List ℕ) (i : ℕ) where
   level-null zero e = simp (eq-eqb i null e)
   level-null (suc depth) e = simp (eq-eqb i null e)
 
-  pub level-zero : (depth : ℕ) → i ≢ null → depth ≡ 0 → none ≡ levelled depth cells i
-  unfolding levelled
-  level-zero zero n e = simp (ne-eqb i null n)
-  level-zero (suc depth) n e = absurd (omega arith)
-
   pub level-on : (depth : ℕ) → i ≢ null → depth ≢ 0
       → levelled depth cells i
       ≡ then (levelled (depth - 1) cells (cell cells i left)) (λ a. then (levelled (depth - 1) cells (cell cells i right)) (λ b. pick (eqb a b) (some (pick (eqb (cell cells i state) 2) a (a + 1))) none))
@@ -67,33 +59,27 @@ module _ (cells : List ℕ) (i : ℕ) where
   level-on (suc depth) n d = rw (ne-eqb i null n, sub-one)
 
 -- No way meets more black slots than it goes deep.
-some-is : {a b : ℕ} → some a ≡ some b → a ≡ b
-some-is e = cc
-
-none-is : {a : ℕ} → none ≡ some a → ⊥
-none-is e = let z : _≡_ {A = ℕ} 0 1 = cc in omega arith
-
 pub level-bound : (cells : List ℕ) (depth i a : ℕ) → levelled depth cells i ≡ some a → a ≤ depth
 unfolding levelled
 level-bound cells zero i a e = go (eqb i null) e
   where
     go : (b : Bool) → pick b (some 0) none ≡ some a → a ≤ 0
     go true z = omega (arith, some-is z)
-    go false z = absurd (none-is z)
+    go false z = refuted z
 level-bound cells (suc depth) i a e = go (eqb i null) _ (levelled depth cells (cell cells i right)) e (λ k. level-bound cells depth (cell cells i left) k)
   where
     last : (x y : Bool) (k : ℕ) → k ≤ depth → pick x (some (pick y k (k + 1))) none ≡ some a → a ≤ suc depth
     last true true k h z = omega (arith, some-is z)
     last true false k h z = omega (arith, some-is z)
-    last false y k h z = absurd (none-is z)
+    last false y k h z = refuted z
 
     both : (k : ℕ) (v : Value) → k ≤ depth → then v (λ b. pick (eqb k b) (some (pick (eqb (cell cells i state) 2) k (k + 1))) none) ≡ some a → a ≤ suc depth
     both k (some b) h z = last (eqb k b) (eqb (cell cells i state) 2) k h z
-    both k none h z = absurd (none-is z)
+    both k none h z = refuted z
 
     go : (b : Bool) (u v : Value)
         → pick b (some 0) (then u (λ k. then v (λ b. pick (eqb k b) (some (pick (eqb (cell cells i state) 2) k (k + 1))) none))) ≡ some a
         → ((k : ℕ) → u ≡ some k → k ≤ depth) → a ≤ suc depth
     go true u v z h = omega (arith, some-is z)
     go false (some k) v z h = both k v (h k refl) z
-    go false none v z h = absurd (none-is z)
+    go false none v z h = refuted z

@@ -4,7 +4,7 @@ use mathlib.Core.List.{List}
 use Prim.Native.Nat.{ℕ}
 use Rattle.slots.specs.Words.{null}
 use Rattle.slots.specs.Answers.{OneAnswer}
-use Rattle.shape.specs.Rules.{reached, rises, coloured, level, treeSize}
+use Rattle.shape.specs.Rules.{obeyed, treeSize}
 use Rattle.shape.specs.Chain.{chained}
 use Rattle.tree.specs.Rules.{restOf, sizeOf}
 use Rattle.tree.specs.declared.rules.Rest.{Rest}
@@ -27,10 +27,7 @@ pub record Claims : Type 0 where
   -- so for the rules of one tree, and its chain
   pub rest-one-to-one : (a b : Rest) → restOf a ≡ restOf b → a ≡ b
   pub size-one-to-one : (a b : Size) → sizeOf a ≡ sizeOf b → a ≡ b
-  pub reach-one : (n : ℕ) (cells : List ℕ) (q i visits : ℕ) → OneAnswer (λ r. restOf r ≡ reached visits n cells q i visits)
-  pub rising-one : (names cells : List ℕ) (root : ℕ) → OneAnswer (λ r. r ≡ rises names cells root)
-  pub coloured-one : (n : ℕ) (cells : List ℕ) (root : ℕ) → OneAnswer (λ r. r ≡ coloured n cells root)
-  pub level-one : (n : ℕ) (cells : List ℕ) (root : ℕ) → OneAnswer (λ r. r ≡ level n cells root)
+  pub survey-one : (names cells : List ℕ) (root visits : ℕ) → OneAnswer (λ r. restOf r ≡ obeyed names cells root visits)
   pub tree-size-one : (names cells : List ℕ) (root : ℕ) → OneAnswer (λ r. sizeOf r ≡ treeSize names cells root)
   pub chain-one : (n : ℕ) (cells : List ℕ) (first : ℕ) → OneAnswer (λ r. restOf r ≡ chained n n cells null first)
   pub in-range-one : (n link : ℕ) → OneAnswer (λ r. r ≡ inRange n link)

@@ -5,14 +5,14 @@ use Prim.Native.Nat.{ℕ}
 use lib.Dec.{eqb}
 use Rattle.slots.specs.Words.{pick, state, left, right, cell}
 use Rattle.slots.specs.Answers.{Value, none, some}
+use Rattle.shape.specs.Find.{slotsOf}
+use Rattle.shape.specs.Rules.{reached, risen, calmed, levelled}
 use Rattle.tree.specs.declared.rules.Rest.{Rest}
 use Rattle.tree.specs.declared.rules.Rest.the-variants.{Left, Wrong}
 use Rattle.tree.specs.declared.rules.Size.{Size}
 use Rattle.tree.specs.declared.rules.Size.the-variants.{Slots, Broken}
-use Rattle.tree.specs.declared.rules.Last.{Last}
-use Rattle.tree.specs.declared.rules.Last.the-variants.{Slot, Falls}
-use Rattle.tree.specs.declared.rules.Height.{Height}
-use Rattle.tree.specs.declared.rules.Height.the-variants.{Blacks, Uneven}
+use Rattle.tree.specs.declared.rules.Part.{Part}
+use Rattle.tree.specs.declared.rules.Part.the-variants.{Obeys, Breaks}
 
 abbrev pub restOf : Rest → Value
 restOf (Left v) = some v
@@ -22,13 +22,27 @@ abbrev pub sizeOf : Size → Value
 sizeOf (Slots m) = some m
 sizeOf Broken = none
 
-abbrev pub lastOf : Last → Value
-lastOf (Slot i) = some i
-lastOf Falls = none
+-- T3 to T6 of what hangs from a link: the visits left, the slot read last and the black slots of every way down; or that one is broken.
+pub data Judged : Type 0 where
+  obeys : ℕ → ℕ → ℕ → Judged
+  breaks : Judged
 
-abbrev pub heightOf : Height → Value
-heightOf (Blacks k) = some k
-heightOf Uneven = none
+abbrev pub partOf : Part → Judged
+partOf (Obeys rest last blacks) = obeys rest last blacks
+partOf Breaks = breaks
+
+abbrev pub told : Value → (ℕ → Judged) → Judged
+told (some v) f = f v
+told none f = breaks
+
+-- The four rules asked together: none may be broken.
+abbrev pub together : Value → Value → Bool → Value → Judged
+together reach rise calm level = told reach (λ rest. told rise (λ last. pick calm (told level (λ blacks. obeys rest last blacks)) breaks))
+
+-- What hangs from the link i under q, where `last` was read last: each rule by its own model, at most so deep and with so many visits.
+abbrev pub judged : List ℕ → List ℕ → ℕ → ℕ → ℕ → ℕ → ℕ → Judged
+judged names cells q last i depth visits =
+    together (reached visits (slotsOf names) cells q i visits) (risen depth names cells last i) (calmed depth cells i) (levelled depth cells i)
 
 -- Slot i is not red, or none of its children is.
 abbrev pub quietly : List ℕ → ℕ → Bool

@@ -5,10 +5,14 @@ use slots::LEFT;
 use slots::NULL;
 use slots::RIGHT;
 use slots::get;
-use slots::name;
 ghost use mathlib.Core.Path.{_≡_};
-ghost use Rattle.shape.specs.Find.{decided, looked, found};
-ghost use Rattle.tree.specs.Find.{seenOf, answerOf};
+ghost use Prim.Native.Nat.{_+_, _*_, _<_};
+ghost use lib.ListN.{length};
+ghost use lib.Dec.{eqb, ltb};
+ghost use Rattle.slots.specs.Words.{null, pick, nameOf};
+ghost use Rattle.slots.specs.Answers.{nothing, refused};
+ghost use Rattle.shape.specs.Find.{slotsOf, looked, found};
+ghost use Rattle.tree.specs.Find.{seenOf, byKey, answerOf};
 
 // What a look at a slot says: the pair is here, or the search goes on along a link.
 enum Seen {
@@ -16,16 +20,10 @@ enum Seen {
     On(u32),
 }
 
-// Decides on plain numbers: at and own are the slot's hash and key, left and right its children.
-fn decide(at: u64, own: u64, left: u32, right: u32, hash: u64, key: u64) -> Seen
-    ensures { λ r. ⌜ seenOf r ≡ decided at own left right hash key ⌝ }
+// Decides between slots of one hash, on plain numbers: own is the slot's key, left and right its children.
+fn by_key(own: u64, left: u32, right: u32, key: u64) -> Seen
+    ensures { λ r. ⌜ seenOf r ≡ byKey own left right key ⌝ }
 {
-    if hash < at {
-        return Seen::On(left);
-    }
-    if at < hash {
-        return Seen::On(right);
-    }
     if own == key {
         return Seen::Here;
     }
@@ -41,15 +39,35 @@ fn decide(at: u64, own: u64, left: u32, right: u32, hash: u64, key: u64) -> Seen
     Seen::On(right)
 }
 
-// Reads the slot p, and decides.
+// The child on the side of another hash than the slot's, which is at.
+fn by_hash(at: u64, left: u32, right: u32, hash: u64) -> u32
+    ensures { λ r. ⌜ r ≡ pick (ltb hash at) left right ⌝ }
+{
+    if hash < at { left } else { right }
+}
+
+// The part f of slot p's name.
+fn name_of(names: &[u64], p: u32, f: u32) -> u64
+    requires { ⌜ 2 * p + f < length (now names) ⌝ }
+    ensures { λ r. ⌜ r ≡ nameOf (now (names .entry)) p f ⌝ }
+{
+    names[2 * (p as usize) + (f as usize)]
+}
+
+// Reads the slot p, and decides. Both children are read before the hashes are compared, so that a processor picks one of two
+// numbers and has no jump to guess, which it would guess wrong at every other slot.
 fn look(names: &[u64], cells: &[u32], p: u32, hash: u64, key: u64) -> Seen
+    requires { ⌜ p < slotsOf (now names) ⌝ }
     ensures { λ r. ⌜ seenOf r ≡ looked (now (names .entry)) (now (cells .entry)) p hash key ⌝ }
 {
-    let at = name(names, p, HASH);
-    let own = name(names, p, KEY);
+    let at = name_of(names, p, HASH);
     let left = get(cells, p, LEFT);
     let right = get(cells, p, RIGHT);
-    decide(at, own, left, right, hash, key)
+    if at != hash {
+        return Seen::On(by_hash(at, left, right, hash));
+    }
+    let own = name_of(names, p, KEY);
+    by_key(own, left, right, key)
 }
 
 pub enum Found {
@@ -58,20 +76,30 @@ pub enum Found {
     Lost,
 }
 
+// A link that leads to no slot, or to one slot too many: null ends the search, any other is astray.
+fn off(p: u32) -> Found
+    ensures { λ r. ⌜ answerOf r ≡ pick (eqb p null) nothing (refused 9) ⌝ }
+{
+    if p == NULL {
+        return Found::Nothing;
+    }
+    Found::Lost
+}
+
 // The slot that has the pair (hash, key), from root down. Lost where a link followed is neither null nor a slot, and where
-// one slot more than there are would be visited.
+// one slot more than there are would be visited. On a live tree null is past the slots, so that a visit tests its link once.
 pub fn find_tree_node(names: &[u64], cells: &[u32], root: u32, hash: u64, key: u64) -> Found
     ensures { λ r. ⌜ answerOf r ≡ found (now (names .entry)) (now (cells .entry)) root hash key .answer ⌝ }
 {
     let slots = names.len() / 2;
     let mut p = root;
     let mut visits = slots;
-    while p != NULL {
+    while visits != 0 {
         if slots <= p as usize {
-            return Found::Lost;
+            return off(p);
         }
-        if visits == 0 {
-            return Found::Lost;
+        if p == NULL {
+            return Found::Nothing;
         }
         visits -= 1;
         let seen = look(names, cells, p, hash, key);
@@ -80,5 +108,5 @@ pub fn find_tree_node(names: &[u64], cells: &[u32], root: u32, hash: u64, key: u
         };
         p = q;
     }
-    Found::Nothing
+    off(p)
 }

@@ -7,6 +7,7 @@ use native.Mathlib.Omega.{arith}
 use borrow.Author.Tests.{lt-ltb, le-ltb}
 use Rattle.slots.specs.Words.{null}
 use Rattle.slots.specs.Answers.{Answer, given, nothing, refused}
+use Rattle.slots.proofs.Laws.{number, given-is, nothing-given}
 use Rattle.sets.specs.Words.{Set, tablesOf, slotsIn, Fit, fits}
 use Rattle.sets.proofs.Fit.{fits-fit, fit-fits}
 use Rattle.walks.specs.Lookup.{lookups, Astray, Hit, Miss}
@@ -14,7 +15,7 @@ use Rattle.walks.specs.Cursor.{Cursor, Step, lone, blank, starts, BadCur
 use Rattle.walks.specs.Walk.{Stands, standing, walked, nexts}
 use Rattle.walks.specs.Ways.{Steps}
 use Rattle.walks.specs.Claims.{Lookups, Starts}
-use Rattle.walks.proofs.Looking.{number, nothing-given, given-inj, Outcome, outcome, astray-nine, hit-given, miss-nothing, unfit-one, unknown-ten, known-loop, fitted}
+use Rattle.walks.proofs.Looking.{Outcome, outcome, astray-nine, hit-given, miss-nothing, unfit-one, unknown-ten, known-loop, fitted}
 use Rattle.walks.proofs.Cursors.{Right, fine-right, right-stands, right-not-bad, wrong-bad}
 use Rattle.walks.proofs.Stepping.{steps-walked}
 
@@ -58,7 +59,7 @@ module _ (s : Set) (t hash key : ℕ) where
   is-at slot (first n) e = absurd (omega (arith, number e))
   is-at slot (second fit l) e = absurd (omega (arith, number e))
   is-at slot (through fit l (Outcome.lost h)) e = absurd (omega (arith, number e))
-  is-at slot (through fit l (Outcome.hit h)) e = (fit, l, rw (given-inj e) at h)
+  is-at slot (through fit l (Outcome.hit h)) e = (fit, l, rw (given-is e) at h)
   is-at slot (through fit l (Outcome.miss h)) e = absurd (nothing-given e)
 
   is-none : {a : Answer} → Gate s t hash key a → a ≡ nothing → Fit s × (t < tablesOf s) × Miss s t hash key

@@ -9,6 +9,7 @@ use lib.ListN.{length}
 use Rattle.slots.specs.Words.{null, next, cell}
 use Rattle.slots.specs.Pairs.{pair, pairOf}
 use Rattle.slots.specs.Answers.{Answer, given, nothing, refused}
+use Rattle.slots.proofs.Laws.{number, given-is, nothing-given}
 use Rattle.shape.specs.Find.{slotsOf, found}
 use Rattle.shape.specs.Tree.{Tree, slots, times, Rooted}
 use Rattle.shape.proofs.Counting.{times-head, times-rest, times-cases, length-most}
@@ -24,7 +25,7 @@ use Rattle.walks.specs.Held.{Reached}
 use Rattle.walks.specs.Claims.{LooksUp}
 use Rattle.walks.proofs.Reading.{at-null}
 use Rattle.walks.proofs.Listing.{decided, onward, stays, lost-nine, here-given}
-use Rattle.walks.proofs.Looking.{number, nothing-given, given-inj, known-loop, whole, comes-in, at-bin, Outcome, outcome}
+use Rattle.walks.proofs.Looking.{known-loop, whole, comes-in, at-bin, Outcome, outcome}
 
 -- The answer a for the slots l: the slot that has the pair, or Nothing.
 record Finds (names : List ℕ) (hash key : ℕ) (l : List ℕ) (a : Answer) : Type 0 where
@@ -52,7 +53,7 @@ module _ (names : List ℕ) (hash key : ℕ) where
     finds-at x e = go (seen l)
       where
         go : Seen l → (1 ≤ times x l) × (pairOf names x ≡ pair hash key)
-        go (there y h p) = let z : y ≡ x = given-inj (sym (f .at y h p) ∙ e) in (rw z at h, rw z at p)
+        go (there y h p) = let z : y ≡ x = given-is (sym (f .at y h p) ∙ e) in (rw z at h, rw z at p)
         go (absent n) = absurd (nothing-given (sym (f .none n) ∙ e))
 
     finds-never : (n : ℕ) → 1 ≤ n → a ≢ refused n
@@ -158,7 +159,7 @@ module _ (s : Set) (fit : Fit s) (acc : Accepted s) (hash key : ℕ) where
 
     at-reached : {a : Answer} → Outcome s t hash key there a → (slot : ℕ) → a ≡ given slot → Reached s t hash key slot
     at-reached (Outcome.lost h) slot e = absurd (not-astray h)
-    at-reached (Outcome.hit h) slot e = hit-reached (rw (given-inj e) at h)
+    at-reached (Outcome.hit h) slot e = hit-reached (rw (given-is e) at h)
     at-reached (Outcome.miss h) slot e = absurd (nothing-given e)
 
     none-nothing : {a : Answer} → Outcome s t hash key there a → ((slot : ℕ) → Reached s t hash key slot → ⊥) → a ≡ nothing

@@ -1,6 +1,6 @@
 -- Each answer of lookup comes exactly where 01 says: the loop from a table that it comes to has the answer of the whole loop, and what
 -- it answers there is told by the bin.
-use mathlib.Core.Path.{_≡_, refl, ap, sym, _∙_}
+use mathlib.Core.Path.{_≡_, refl, sym, _∙_}
 use mathlib.Core.Logic.{_≢_}
 use mathlib.Core.Bool.{Bool, true, false, false≢true}
 use mathlib.Core.List.{List}
@@ -9,7 +9,7 @@ use native.Mathlib.Decide.{decLt, ℕ-discrete}
 use native.Mathlib.Omega.{arith}
 use borrow.Author.Tests.{lt-ltb, le-ltb}
 use Rattle.slots.specs.Words.{null}
-use Rattle.slots.specs.Answers.{Answer, some, none, given, nothing, refused}
+use Rattle.slots.specs.Answers.{Answer, none, given, nothing, refused}
 use Rattle.shape.specs.Find.{Look, here, on, looked, after, slotsOf, searched, found}
 use Rattle.shape.proofs.Claims.{claims as shape-claims}
 use Rattle.shape.proofs.Searching.{at-null, out-of-range, visits-spent, at-slot}
@@ -18,22 +18,6 @@ use Rattle.sets.proofs.Fit.{fits-fit, fit-fits}
 use Rattle.walks.specs.Lookup.{homeBin, asked, forwarded, lookups, Comes, start, down, Astray, Hit, Miss}
 use Rattle.walks.proofs.Forwarding.{turn, past-last}
 use Rattle.walks.proofs.Listing as listing
-
--- The answers are told apart.
-pub number : {a b : Answer} → a ≡ b → a .number ≡ b .number
-number e = ap (λ (a : Answer). a .number) e
-
-none-some : {v : ℕ} → none ≡ some v → ⊥
-none-some e = let z : _≡_ {A = ℕ} 0 1 = cc in omega arith
-
-pub nothing-given : {v : ℕ} → nothing ≡ given v → ⊥
-nothing-given e = none-some (ap (λ (a : Answer). a .value) e)
-
-some-inj : {u v : ℕ} → some u ≡ some v → u ≡ v
-some-inj e = cc
-
-pub given-inj : {u v : ℕ} → given u ≡ given v → u ≡ v
-given-inj e = some-inj (ap (λ (a : Answer). a .value) e)
 
 -- A search in a tree has one of three answers.
 data Kind : Answer → Type 0 where

@@ -10,7 +10,7 @@ use lib.Seq.{getD-set-same, getD-set-other}
 use borrow.Author.Tests.{lt-leb}
 use Rattle.slots.specs.Words.{null, next}
 use Rattle.slots.specs.Answers.{Answer, given, nothing, refused}
-use Rattle.slots.proofs.Laws.{cell-null}
+use Rattle.slots.proofs.Laws.{cell-null, nothing-given}
 use Rattle.sets.specs.Words.{Set, tablesOf, lengthAt, Fit}
 use Rattle.sets.proofs.Fit.{ends}
 use Rattle.walks.specs.Cursor.{Cursor, Step, indexAt, lone, BadCursor}
@@ -19,7 +19,6 @@ use Rattle.walks.specs.Ways.{After, Comes, Strays, Steps}
 use Rattle.walks.specs.Claims.{Nexts}
 use Rattle.walks.proofs.Turns.{on, advanced-lt, advanced-ge}
 use Rattle.walks.proofs.Cursors.{right-not-bad, trimmed-kept}
-use Rattle.walks.proofs.Looking.{nothing-given}
 use Rattle.walks.proofs.Stepping.{onward-after, comes-good, steps-walked, walked-steps}
 use Rattle.walks.proofs.Gates.{next-unfit, next-bad, next-walked, next-stands, Turn, turn}
 

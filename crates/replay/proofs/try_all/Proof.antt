@@ -8,10 +8,10 @@ use Rattle.replay.proofs.try_all.Tie as tie
 
 abbrev Inv-loop : tie.InvT-loop
 Inv-loop input₀ expected₀ out₀ differences₀ number₀ input expected out differences number =
-    (number ≤ 49) × (length input ≡ length input₀) × (length expected ≡ length expected₀) × (length out ≡ length out₀)
+    (number ≤ 53) × (length input ≡ length input₀) × (length expected ≡ length expected₀) × (length out ≡ length out₀)
 
 abbrev μ-loop : tie.MeasureT-loop
-μ-loop input₀ expected₀ out₀ differences₀ number₀ input expected out differences number = 49 - number
+μ-loop input₀ expected₀ out₀ differences₀ number₀ input expected out differences number = 53 - number
 
 loop-holds : tie.Need-loop-holds Inv-loop μ-loop
 loop-holds c = search needs

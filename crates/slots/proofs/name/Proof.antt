@@ -2,7 +2,7 @@
 use mathlib.Core.Path.{sym}
 use denote.Ref.{now}
 use lib.ListN.{List·getD-eq-default}
-use Rattle.slots.specs.Words.{null, nameOf}
+use Rattle.slots.specs.Words.{nameOf}
 use Rattle.slots.proofs.Laws.{getD-any}
 use borrow.Author.Needs.{needs}
 use Rattle.slots.proofs.name.Statement.{statement}

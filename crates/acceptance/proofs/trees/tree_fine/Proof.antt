@@ -1,10 +1,7 @@
 -- Each way out closes by the reads and the tests that led there.
 use mathlib.Core.Path.{sym, ap, _∙_}
 use denote.Ref.{now}
-use Prim.Native.Nat.{_/_}
-use lib.ListN.{length}
-use Rattle.slots.specs.Words.{null}
-use Rattle.shape.proofs.Visits.{reached-within}
+use Rattle.tree.proofs.Judging.{obeyed-within}
 use Rattle.tree.specs.Rules.{restOf}
 use borrow.Author.Tests.{not-false, not-true}
 use Rattle.sets.specs.Accepting.{treeFine}
@@ -12,8 +9,8 @@ use borrow.Author.Needs.{needs}
 use Rattle.acceptance.proofs.trees.tree_fine.Statement.{statement}
 use Rattle.acceptance.proofs.trees.tree_fine.Tie as tie
 
-reach-requires : tie.Need-reach-requires
-reach-requires c κs = search needs
+survey-requires : tie.Need-survey-requires
+survey-requires c κs = search needs
 
 enum-known-walk : tie.Need-enum-known-walk
 enum-known-walk c = search needs
@@ -26,14 +23,14 @@ unfolding treeFine
 returns c =
     let c1 = c .before in
     let c2 = c1 .before in
-    rw (← c2 .reach .ensures, c .enum-told .given .1)
+    rw (← c2 .survey .ensures, c .enum-told .given .1)
 
 sub-tree-good : tie.Need-sub-tree-good
 sub-tree-good c =
     let at-told = c .before in
-    let at-reach = at-told .before .before in
-    let a = at-reach .before .before .before .args in
-    reached-within (length (now (a .names)) / 2) (now (a .cells)) (a .visits) null (a .root) (a .visits) (at-told .walk .given .0 .0) (sym (at-reach .reach .ensures) ∙ ap restOf (at-told .walk .given .1))
+    let at-survey = at-told .before .before in
+    let a = at-survey .before .before .before .args in
+    obeyed-within (now (a .names)) (now (a .cells)) (a .root) (a .visits) (ap restOf (sym (at-told .walk .given .1)) ∙ at-survey .survey .ensures)
 
 tree-good-requires : tie.Need-tree-good-requires
 tree-good-requires c κs = search needs
@@ -46,7 +43,7 @@ returns-2 c =
     let c3 = c2 .before in
     let c4 = c3 .before in
     let c5 = c4 .before in
-    rw (← c5 .reach .ensures, c3 .walk .given .1, ← c1 .tree-good .ensures, not-true (c1 .tree-good .result) (c .if1 .taken))
+    rw (← c5 .survey .ensures, c3 .walk .given .1, ← c1 .tree-good .ensures, not-true (c1 .tree-good .result) (c .if1 .taken))
 
 returns-3 : tie.Need-returns-3
 unfolding treeFine
@@ -56,13 +53,13 @@ returns-3 c =
     let c3 = c2 .before in
     let c4 = c3 .before in
     let c5 = c4 .before in
-    rw (← c5 .reach .ensures, c3 .walk .given .1, ← c1 .tree-good .ensures, not-false (c1 .tree-good .result) (c .if1 .left))
+    rw (← c5 .survey .ensures, c3 .walk .given .1, ← c1 .tree-good .ensures, not-false (c1 .tree-good .result) (c .if1 .left))
 
 pub tree-fine-spec : {M : Type 1} → statement M
 tree-fine-spec =
     tie.close
     (tie.spec
-    reach-requires
+    survey-requires
     enum-known-walk
     enum-told
     returns

@@ -1,7 +1,7 @@
 -- Each case by itself.
 use mathlib.Core.Path.{ap, sym}
-use Rattle.index.specs.declared.rollback.RolledBack.{RolledBack}
-use Rattle.index.specs.Answers.{rolledOf}
+use Rattle.undo.specs.declared.rollback.RolledBack.{RolledBack}
+use Rattle.undo.specs.Answers.{rolledOf}
 use Rattle.dialogue.specs.Answers.{told}
 use borrow.Author.Needs.{needs}
 use Rattle.console.proofs.answer.of_rolled.Statement.{statement}

@@ -1,6 +1,5 @@
 -- The three writes one after another.
 use denote.Ref.{now}
-use Rattle.dialogue.specs.Feeding.{Paper}
 use Rattle.dialogue.proofs.Typing.{word-number-end}
 use borrow.Author.Needs.{needs}
 use Rattle.console.proofs.answer.tell.Statement.{statement}

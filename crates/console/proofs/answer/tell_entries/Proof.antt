@@ -3,7 +3,7 @@ use mathlib.Core.Path.{_≡_, sym, _∙_}
 use denote.Ref.{now}
 use lib.ListN.{length}
 use Rattle.dialogue.specs.Answers.{entryLines}
-use Rattle.dialogue.specs.Feeding.{Paper, typed}
+use Rattle.dialogue.specs.Feeding.{typed}
 use Rattle.dialogue.proofs.Listing.{entries-on, entries-over}
 use borrow.Author.Needs.{needs}
 use Rattle.console.proofs.answer.tell_entries.Statement.{statement}

@@ -1,5 +1,5 @@
 -- All of the bytes, or the first of them.
-use mathlib.Core.Path.{sym, ap}
+use mathlib.Core.Path.{ap}
 use denote.Ref.{now}
 use native.Mathlib.Omega.{arith}
 use lib.ListN.{length-take}

@@ -1,13 +1,12 @@
 -- The loop's invariant: the search from here, with the visits that are left, has the answer of the whole search.
-use mathlib.Core.Path.{_≡_, refl, sym, ap, _∙_}
-use mathlib.Core.List.{List}
+use mathlib.Core.Path.{_≡_, sym, ap, _∙_}
 use denote.Ref.{now}
-use Prim.Native.Nat.{ℕ, suc, _<_, _≤_, _^_, _/_}
-use borrow.Author.Needs.{needs}
+use Prim.Native.Nat.{_<_, _≤_, _^_, _/_}
 use lib.ListN.{length}
-use Rattle.shape.specs.Find.{Look, found, searched, slotsOf}
+use Rattle.shape.specs.Find.{found, searched}
 use Rattle.tree.specs.Find.{seenOf}
-use Rattle.tree.proofs.Searching.{ended, strayed, spent, met, onward}
+use Rattle.tree.proofs.Searching.{one-less, ended, outside, spent, met, onward}
+use borrow.Author.Needs.{needs}
 use Rattle.tree.proofs.find.find_tree_node.Statement.{statement}
 use Rattle.tree.proofs.find.find_tree_node.Tie as tie
 
@@ -28,17 +27,21 @@ loop-holds c = search needs
 cast-if1 : tie.Need-cast-if1 Inv-loop μ-loop
 cast-if1 c = search needs
 
+off-requires : tie.Need-off-requires Inv-loop μ-loop
+off-requires c κs = search needs
+
 returns : tie.Need-returns Inv-loop μ-loop
 returns c =
-    let at-loop = c .before .before in
+    let at-range = c .before in
+    let at-loop = at-range .before .before in
     let a = at-loop .before .before .before .args in
-    strayed (now (a .names)) (now (a .cells)) (a .hash) (a .key) (at-loop .loop .p) (at-loop .loop .visits) (at-loop .loop .inv .0) (c .before .loop-test .taken) (c .if1 .taken)
+    outside (now (a .names)) (now (a .cells)) (a .hash) (a .key) (at-loop .loop .p) (at-loop .loop .visits) (at-loop .loop .inv .0) (at-range .if1 .taken) (c .off .ensures)
 
 returns-2 : tie.Need-returns-2 Inv-loop μ-loop
 returns-2 c =
-    let in-loop = c .before .before in
-    let a = in-loop .before .before .before .before .args in
-    spent (now (a .names)) (now (a .cells)) (a .hash) (a .key) (in-loop .before .loop .p) (in-loop .before .loop .visits) (in-loop .before .loop .inv .0) (in-loop .loop-test .taken) (c .if2 .taken)
+    let at-loop = c .before .before .before in
+    let a = at-loop .before .before .before .args in
+    ended (now (a .names)) (now (a .cells)) (a .hash) (a .key) (at-loop .loop .p) (at-loop .loop .visits) (at-loop .loop .inv .0) (c .if2 .taken)
 
 sub-visits : tie.Need-sub-visits Inv-loop μ-loop
 sub-visits c = search needs
@@ -55,20 +58,16 @@ enum-told c = search needs
 returns-3 : tie.Need-returns-3 Inv-loop μ-loop
 returns-3 c =
     let at-look = c .before .before in
-    let at-if1 = at-look .before .before in
-    let at-loop = at-if1 .before .before in
+    let at-solid = at-look .before in
+    let at-range = at-solid .before in
+    let at-visits = at-range .before in
+    let at-loop = at-visits .before in
     let a = at-loop .before .before .before .args in
     met
-    (now (a .names))
-    (now (a .cells))
-    (a .hash)
-    (a .key)
-    (at-loop .loop .p)
-    (at-loop .loop .visits)
-    (at-loop .loop .inv .0)
-    (at-if1 .before .loop-test .taken)
-    (at-if1 .if1 .left)
-    (at-look .before .if2 .left)
+    (now (a .names)) (now (a .cells)) (a .hash) (a .key) (at-loop .loop .p) (at-loop .loop .visits) (at-loop .loop .inv .0)
+    (at-solid .if2 .left)
+    (at-range .if1 .left)
+    (at-visits .loop-test .taken)
     (ap seenOf (sym (c .enum-told .given .1)) ∙ at-look .look .ensures)
 
 loop-less : tie.Need-loop-less Inv-loop μ-loop
@@ -76,32 +75,32 @@ loop-less c = search needs
 
 loop-again : tie.Need-loop-again Inv-loop μ-loop
 loop-again c =
-    let at-look = c .before .before .before in
-    let at-if1 = at-look .before .before in
-    let at-loop = at-if1 .before .before in
+    let at-told = c .before in
+    let at-look = at-told .before .before in
+    let at-solid = at-look .before in
+    let at-range = at-solid .before in
+    let at-visits = at-range .before in
+    let at-loop = at-visits .before in
     let a = at-loop .before .before .before .args in (
       onward
-          (now (a .names))
-          (now (a .cells))
-          (a .hash)
-          (a .key)
-          (at-loop .loop .p)
-          (at-loop .loop .visits)
-          (at-loop .loop .inv .0)
-          (at-if1 .before .loop-test .taken)
-          (at-if1 .if1 .left)
-          (at-look .before .if2 .left)
-          (ap seenOf (sym (c .before .seen .given .1)) ∙ at-look .look .ensures),
+          (now (a .names)) (now (a .cells)) (a .hash) (a .key) (at-loop .loop .p) (at-loop .loop .visits) (at-loop .loop .inv .0)
+          (at-solid .if2 .left)
+          (at-range .if1 .left)
+          (at-visits .loop-test .taken)
+          (ap seenOf (sym (at-told .seen .given .1)) ∙ at-look .look .ensures),
       search needs,
-      search needs,
+      one-less (at-loop .loop .inv .2),
       search needs,
     )
 
+off-requires-2 : tie.Need-off-requires-2 Inv-loop μ-loop
+off-requires-2 c κs = search needs
+
 returns-4 : tie.Need-returns-4 Inv-loop μ-loop
 returns-4 c =
-    let at-loop = c .before in
+    let at-loop = c .before .before in
     let a = at-loop .before .before .before .args in
-    ended (now (a .names)) (now (a .cells)) (a .hash) (a .key) (at-loop .loop .p) (at-loop .loop .visits) (at-loop .loop .inv .0) (c .loop-test .left)
+    spent (now (a .names)) (now (a .cells)) (a .hash) (a .key) (at-loop .loop .p) (at-loop .loop .visits) (at-loop .loop .inv .0) (c .before .loop-test .left) (c .off2 .ensures)
 
 pub find-tree-node-spec : {M : Type 1} → statement M
 find-tree-node-spec =
@@ -111,6 +110,7 @@ find-tree-node-spec =
     μ-loop
     loop-holds
     cast-if1
+    off-requires
     returns
     returns-2
     sub-visits
@@ -120,4 +120,5 @@ find-tree-node-spec =
     returns-3
     loop-less
     loop-again
+    off-requires-2
     returns-4)

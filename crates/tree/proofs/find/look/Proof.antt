@@ -1,15 +1,13 @@
--- The four reads are the words that the model reads, and `decide` decides on them.
-use mathlib.Core.Path.{refl}
-use Rattle.shape.specs.Find.{looked}
+-- The words that the model reads, and where the hash is another one the side alone.
+use mathlib.Core.Path.{sym, _∙_}
+use denote.Ref.{now}
+use Rattle.tree.proofs.Searching.{aside, alike}
 use borrow.Author.Needs.{needs}
 use Rattle.tree.proofs.find.look.Statement.{statement}
 use Rattle.tree.proofs.find.look.Tie as tie
 
-name-requires : tie.Need-name-requires
-name-requires c κs = search needs
-
-name-requires-2 : tie.Need-name-requires-2
-name-requires-2 c κs = search needs
+name-of-requires : tie.Need-name-of-requires
+name-of-requires c κs = search needs
 
 get-requires : tie.Need-get-requires
 get-requires c κs = search needs
@@ -17,18 +15,45 @@ get-requires c κs = search needs
 get-requires-2 : tie.Need-get-requires-2
 get-requires-2 c κs = search needs
 
-decide-requires : tie.Need-decide-requires
-decide-requires c κs = search needs
+by-hash-requires : tie.Need-by-hash-requires
+by-hash-requires c κs = search needs
 
 returns : tie.Need-returns
-unfolding looked
 returns c =
-    let c1 = c .before in
-    let c2 = c1 .before in
-    let c3 = c2 .before in
-    rw (c .decide .ensures, c3 .before .name .ensures, c3 .name2 .ensures, c2 .get .ensures, c1 .get2 .ensures) refl
+    let at-test = c .before in
+    let at-right = at-test .before in
+    let at-left = at-right .before in
+    let at-name = at-left .before in
+    let a = at-name .before .before .before .args in
+    rw (c .by-hash .ensures, at-name .name-of .ensures, at-left .get .ensures, at-right .get2 .ensures)
+    (aside (now (a .names)) (now (a .cells)) (a .p) (a .hash) (a .key) (λ z. at-test .if1 .taken (at-name .name-of .ensures ∙ z)))
+
+name-of-requires-2 : tie.Need-name-of-requires-2
+name-of-requires-2 c κs = search needs
+
+by-key-requires : tie.Need-by-key-requires
+by-key-requires c κs = search needs
+
+returns-2 : tie.Need-returns-2
+returns-2 c =
+    let at-key = c .before in
+    let at-test = at-key .before in
+    let at-right = at-test .before in
+    let at-left = at-right .before in
+    let at-name = at-left .before in
+    let a = at-name .before .before .before .args in
+    rw (c .by-key .ensures, at-key .name-of2 .ensures, at-left .get .ensures, at-right .get2 .ensures)
+    (alike (now (a .names)) (now (a .cells)) (a .p) (a .hash) (a .key) (sym (at-name .name-of .ensures) ∙ at-test .if1 .left))
 
 pub look-spec : {M : Type 1} → statement M
 look-spec =
     tie.close
-    (tie.spec name-requires name-requires-2 get-requires get-requires-2 decide-requires returns)
+    (tie.spec
+    name-of-requires
+    get-requires
+    get-requires-2
+    by-hash-requires
+    returns
+    name-of-requires-2
+    by-key-requires
+    returns-2)

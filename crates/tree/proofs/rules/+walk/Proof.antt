@@ -1,0 +1,783 @@
+-- Each way out is a law of one visit; the depth falls with each call.
+use mathlib.Core.Path.{sym, ap, _∙_}
+use denote.Ref.{now}
+use native.Mathlib.Omega.{arith}
+use borrow.Author.Needs.{needs}
+use borrow.Author.Tests.{not-true, not-false}
+use Prim.Native.Nat.{_-_}
+use Rattle.tree.specs.Rules.{partOf}
+use Rattle.tree.proofs.Judging.{walk-null, walk-outside, walk-spent, walk-deep, walk-wrong, walk-loud, walk-left-breaks, walk-falls, walk-right-breaks, walk-uneven, walk-red, walk-black, walk-blacks}
+use Prim.Native.Nat.{ℕ, _<_}
+use borrow.Fn.Kinds.{In}
+use borrow.Fn.PlainCycle.{Measures, is, falls, and}
+use Rattle.tree.proofs.rules.walk.Reads as walk
+use Rattle.tree.proofs.rules.walk.Kinds as walk-kinds
+use Rattle.tree.proofs.rules.+walk.Lts-walk as walk-lts
+use Rattle.slots.proofs.get.Reads as get-reads
+use Rattle.slots.proofs.is_red.Reads as is-red-reads
+use Rattle.tree.proofs.rules.follow.Reads as follow-reads
+use Rattle.tree.proofs.rules.quiet.Reads as quiet-reads
+use Rattle.tree.proofs.rules.stand.Reads as stand-reads
+use Rattle.tree.proofs.rules.+walk.{statement}
+use Rattle.tree.proofs.rules.+walk.Tie.{close}
+
+abbrev μ-walk : Measures 2 walk-kinds.ps ℕ
+μ-walk κs a = a .1 .1 .1 .1 .1 .0
+
+abbrev walk-at : ℕ → In 2 walk-kinds.ps
+walk-at t = and 2 walk-kinds.ps (is 2 walk-kinds.ps μ-walk t) walk.Pre
+
+abbrev walk-below : ℕ → In 2 walk-kinds.ps
+walk-below t = and 2 walk-kinds.ps (falls 2 walk-kinds.ps _<_ μ-walk t) walk.Pre
+
+walk-returns : (t : ℕ) → walk-lts.Need-returns (
+  stand-reads.Asked,
+  stand-reads.Learnt,
+  quiet-reads.Asked,
+  quiet-reads.Learnt,
+  get-reads.Asked,
+  get-reads.Learnt,
+  walk-below t,
+  walk.Post,
+  follow-reads.Asked,
+  follow-reads.Learnt,
+  is-red-reads.Asked,
+  is-red-reads.Learnt,
+) (walk-at t) walk.Post
+walk-returns t c =
+    let a = c .before .before .before .args in
+    walk-null (now (a .names)) (now (a .cells)) (a .q) (a .last) (a .i) (a .depth) (a .visits) (c .if1 .taken)
+
+walk-returns-2 : (t : ℕ) → walk-lts.Need-returns-2 (
+  stand-reads.Asked,
+  stand-reads.Learnt,
+  quiet-reads.Asked,
+  quiet-reads.Learnt,
+  get-reads.Asked,
+  get-reads.Learnt,
+  walk-below t,
+  walk.Post,
+  follow-reads.Asked,
+  follow-reads.Learnt,
+  is-red-reads.Asked,
+  is-red-reads.Learnt,
+) (walk-at t) walk.Post
+walk-returns-2 t c =
+    let at-null = c .before in
+    let a = at-null .before .before .before .args in
+    walk-outside (now (a .names)) (now (a .cells)) (a .q) (a .last) (a .i) (a .depth) (a .visits) (at-null .if1 .left) (c .if2 .taken)
+
+walk-returns-3 : (t : ℕ) → walk-lts.Need-returns-3 (
+  stand-reads.Asked,
+  stand-reads.Learnt,
+  quiet-reads.Asked,
+  quiet-reads.Learnt,
+  get-reads.Asked,
+  get-reads.Learnt,
+  walk-below t,
+  walk.Post,
+  follow-reads.Asked,
+  follow-reads.Learnt,
+  is-red-reads.Asked,
+  is-red-reads.Learnt,
+) (walk-at t) walk.Post
+walk-returns-3 t c =
+    let at-null = c .before .before in
+    let a = at-null .before .before .before .args in
+    walk-spent (now (a .names)) (now (a .cells)) (a .q) (a .last) (a .i) (a .depth) (a .visits) (at-null .if1 .left) (c .if3 .taken)
+
+walk-returns-4 : (t : ℕ) → walk-lts.Need-returns-4 (
+  stand-reads.Asked,
+  stand-reads.Learnt,
+  quiet-reads.Asked,
+  quiet-reads.Learnt,
+  get-reads.Asked,
+  get-reads.Learnt,
+  walk-below t,
+  walk.Post,
+  follow-reads.Asked,
+  follow-reads.Learnt,
+  is-red-reads.Asked,
+  is-red-reads.Learnt,
+) (walk-at t) walk.Post
+walk-returns-4 t c =
+    let at-null = c .before .before .before in
+    let a = at-null .before .before .before .args in
+    walk-deep (now (a .names)) (now (a .cells)) (a .q) (a .last) (a .i) (a .depth) (a .visits) (at-null .if1 .left) (c .if4 .taken)
+
+walk-stand-requires : (t : ℕ) → walk-lts.Need-stand-requires (
+  stand-reads.Asked,
+  stand-reads.Learnt,
+  quiet-reads.Asked,
+  quiet-reads.Learnt,
+  get-reads.Asked,
+  get-reads.Learnt,
+  walk-below t,
+  walk.Post,
+  follow-reads.Asked,
+  follow-reads.Learnt,
+  is-red-reads.Asked,
+  is-red-reads.Learnt,
+) (walk-at t) walk.Post
+walk-stand-requires t c κs = search needs
+
+walk-returns-5 : (t : ℕ) → walk-lts.Need-returns-5 (
+  stand-reads.Asked,
+  stand-reads.Learnt,
+  quiet-reads.Asked,
+  quiet-reads.Learnt,
+  get-reads.Asked,
+  get-reads.Learnt,
+  walk-below t,
+  walk.Post,
+  follow-reads.Asked,
+  follow-reads.Learnt,
+  is-red-reads.Asked,
+  is-red-reads.Learnt,
+) (walk-at t) walk.Post
+walk-returns-5 t c =
+    let at-stand = c .before in
+    let at-deep = at-stand .before in
+    let at-visits = at-deep .before in
+    let at-range = at-visits .before in
+    let at-null = at-range .before in
+    let a = at-null .before .before .before .args in
+    walk-wrong (now (a .names)) (now (a .cells)) (a .q) (a .last) (a .i) (a .depth) (a .visits)
+    (at-null .if1 .left) (at-range .if2 .left) (at-visits .if3 .left) (at-deep .if4 .left)
+    (at-stand .stand .ensures)
+    (not-true (at-stand .stand .result) (c .if5 .taken))
+
+walk-quiet-requires : (t : ℕ) → walk-lts.Need-quiet-requires (
+  stand-reads.Asked,
+  stand-reads.Learnt,
+  quiet-reads.Asked,
+  quiet-reads.Learnt,
+  get-reads.Asked,
+  get-reads.Learnt,
+  walk-below t,
+  walk.Post,
+  follow-reads.Asked,
+  follow-reads.Learnt,
+  is-red-reads.Asked,
+  is-red-reads.Learnt,
+) (walk-at t) walk.Post
+walk-quiet-requires t c κs = search needs
+
+walk-returns-6 : (t : ℕ) → walk-lts.Need-returns-6 (
+  stand-reads.Asked,
+  stand-reads.Learnt,
+  quiet-reads.Asked,
+  quiet-reads.Learnt,
+  get-reads.Asked,
+  get-reads.Learnt,
+  walk-below t,
+  walk.Post,
+  follow-reads.Asked,
+  follow-reads.Learnt,
+  is-red-reads.Asked,
+  is-red-reads.Learnt,
+) (walk-at t) walk.Post
+walk-returns-6 t c =
+    let at-quiet = c .before in
+    let at-upright = at-quiet .before in
+    let at-stand = at-upright .before in
+    let at-deep = at-stand .before in
+    let at-visits = at-deep .before in
+    let at-range = at-visits .before in
+    let at-null = at-range .before in
+    let a = at-null .before .before .before .args in
+    walk-loud (now (a .names)) (now (a .cells)) (a .q) (a .last) (a .i) (a .depth) (a .visits)
+    (at-null .if1 .left) (at-range .if2 .left) (at-visits .if3 .left) (at-deep .if4 .left)
+    (at-quiet .quiet .ensures)
+    (not-true (at-quiet .quiet .result) (c .if6 .taken))
+
+walk-get-requires : (t : ℕ) → walk-lts.Need-get-requires (
+  stand-reads.Asked,
+  stand-reads.Learnt,
+  quiet-reads.Asked,
+  quiet-reads.Learnt,
+  get-reads.Asked,
+  get-reads.Learnt,
+  walk-below t,
+  walk.Post,
+  follow-reads.Asked,
+  follow-reads.Learnt,
+  is-red-reads.Asked,
+  is-red-reads.Learnt,
+) (walk-at t) walk.Post
+walk-get-requires t c κs = search needs
+
+walk-sub-walk : (t : ℕ) → walk-lts.Need-sub-walk (
+  stand-reads.Asked,
+  stand-reads.Learnt,
+  quiet-reads.Asked,
+  quiet-reads.Learnt,
+  get-reads.Asked,
+  get-reads.Learnt,
+  walk-below t,
+  walk.Post,
+  follow-reads.Asked,
+  follow-reads.Learnt,
+  is-red-reads.Asked,
+  is-red-reads.Learnt,
+) (walk-at t) walk.Post
+walk-sub-walk t c = search needs
+
+walk-sub-walk-2 : (t : ℕ) → walk-lts.Need-sub-walk-2 (
+  stand-reads.Asked,
+  stand-reads.Learnt,
+  quiet-reads.Asked,
+  quiet-reads.Learnt,
+  get-reads.Asked,
+  get-reads.Learnt,
+  walk-below t,
+  walk.Post,
+  follow-reads.Asked,
+  follow-reads.Learnt,
+  is-red-reads.Asked,
+  is-red-reads.Learnt,
+) (walk-at t) walk.Post
+walk-sub-walk-2 t c = search needs
+
+walk-walk-requires : (t : ℕ) → walk-lts.Need-walk-requires (
+  stand-reads.Asked,
+  stand-reads.Learnt,
+  quiet-reads.Asked,
+  quiet-reads.Learnt,
+  get-reads.Asked,
+  get-reads.Learnt,
+  walk-below t,
+  walk.Post,
+  follow-reads.Asked,
+  follow-reads.Learnt,
+  is-red-reads.Asked,
+  is-red-reads.Learnt,
+) (walk-at t) walk.Post
+walk-walk-requires t c κs =
+    let at-calm = c .before in
+    let at-quiet = at-calm .before in
+    let at-upright = at-quiet .before in
+    let at-stand = at-upright .before in
+    let at-deep = at-stand .before in
+    let at-visits = at-deep .before in
+    let at-range = at-visits .before in
+    let at-null = at-range .before in
+    let a = at-null .before .before .before .args in
+    omega (arith, at-null .before .before .before .pre .0, at-deep .if4 .left)
+
+walk-enum-known-lefts : (t : ℕ) → walk-lts.Need-enum-known-lefts (
+  stand-reads.Asked,
+  stand-reads.Learnt,
+  quiet-reads.Asked,
+  quiet-reads.Learnt,
+  get-reads.Asked,
+  get-reads.Learnt,
+  walk-below t,
+  walk.Post,
+  follow-reads.Asked,
+  follow-reads.Learnt,
+  is-red-reads.Asked,
+  is-red-reads.Learnt,
+) (walk-at t) walk.Post
+walk-enum-known-lefts t c = search needs
+
+walk-enum-told : (t : ℕ) → walk-lts.Need-enum-told (
+  stand-reads.Asked,
+  stand-reads.Learnt,
+  quiet-reads.Asked,
+  quiet-reads.Learnt,
+  get-reads.Asked,
+  get-reads.Learnt,
+  walk-below t,
+  walk.Post,
+  follow-reads.Asked,
+  follow-reads.Learnt,
+  is-red-reads.Asked,
+  is-red-reads.Learnt,
+) (walk-at t) walk.Post
+walk-enum-told t c = search needs
+
+walk-returns-7 : (t : ℕ) → walk-lts.Need-returns-7 (
+  stand-reads.Asked,
+  stand-reads.Learnt,
+  quiet-reads.Asked,
+  quiet-reads.Learnt,
+  get-reads.Asked,
+  get-reads.Learnt,
+  walk-below t,
+  walk.Post,
+  follow-reads.Asked,
+  follow-reads.Learnt,
+  is-red-reads.Asked,
+  is-red-reads.Learnt,
+) (walk-at t) walk.Post
+walk-returns-7 t c =
+    let at-match = c .before in
+    let at-walk = at-match .before in
+    let at-left = at-walk .before in
+    let at-calm = at-left .before in
+    let at-quiet = at-calm .before in
+    let at-upright = at-quiet .before in
+    let at-stand = at-upright .before in
+    let at-deep = at-stand .before in
+    let at-visits = at-deep .before in
+    let at-range = at-visits .before in
+    let at-null = at-range .before in
+    let a = at-null .before .before .before .args in
+    walk-left-breaks (now (a .names)) (now (a .cells)) (a .q) (a .last) (a .i) (a .depth) (a .visits)
+    (at-null .if1 .left) (at-range .if2 .left) (at-visits .if3 .left) (at-deep .if4 .left)
+    (at-stand .stand .ensures) (not-false (at-stand .stand .result) (at-upright .if5 .left))
+    (at-quiet .quiet .ensures) (not-false (at-quiet .quiet .result) (at-calm .if6 .left))
+    (at-left .get .ensures)
+    (ap partOf (sym (c .enum-told .given .1)) ∙ at-walk .walk .ensures)
+
+walk-follow-requires : (t : ℕ) → walk-lts.Need-follow-requires (
+  stand-reads.Asked,
+  stand-reads.Learnt,
+  quiet-reads.Asked,
+  quiet-reads.Learnt,
+  get-reads.Asked,
+  get-reads.Learnt,
+  walk-below t,
+  walk.Post,
+  follow-reads.Asked,
+  follow-reads.Learnt,
+  is-red-reads.Asked,
+  is-red-reads.Learnt,
+) (walk-at t) walk.Post
+walk-follow-requires t c κs = search needs
+
+walk-returns-8 : (t : ℕ) → walk-lts.Need-returns-8 (
+  stand-reads.Asked,
+  stand-reads.Learnt,
+  quiet-reads.Asked,
+  quiet-reads.Learnt,
+  get-reads.Asked,
+  get-reads.Learnt,
+  walk-below t,
+  walk.Post,
+  follow-reads.Asked,
+  follow-reads.Learnt,
+  is-red-reads.Asked,
+  is-red-reads.Learnt,
+) (walk-at t) walk.Post
+walk-returns-8 t c =
+    let at-follow = c .before in
+    let at-known = at-follow .before in
+    let at-lefts = at-known .before in
+    let at-match = at-lefts .before in
+    let at-walk = at-match .before in
+    let at-left = at-walk .before in
+    let at-calm = at-left .before in
+    let at-quiet = at-calm .before in
+    let at-upright = at-quiet .before in
+    let at-stand = at-upright .before in
+    let at-deep = at-stand .before in
+    let at-visits = at-deep .before in
+    let at-range = at-visits .before in
+    let at-null = at-range .before in
+    let a = at-null .before .before .before .args in
+    walk-falls (now (a .names)) (now (a .cells)) (a .q) (a .last) (a .i) (a .depth) (a .visits)
+    (at-null .if1 .left) (at-range .if2 .left) (at-visits .if3 .left) (at-deep .if4 .left)
+    (at-stand .stand .ensures) (not-false (at-stand .stand .result) (at-upright .if5 .left))
+    (at-quiet .quiet .ensures) (not-false (at-quiet .quiet .result) (at-calm .if6 .left))
+    (at-left .get .ensures)
+    (ap partOf (sym (at-lefts .lefts .given .1)) ∙ at-walk .walk .ensures)
+    (at-follow .follow .ensures)
+    (not-true (at-follow .follow .result) (c .if7 .taken))
+
+walk-get-requires-2 : (t : ℕ) → walk-lts.Need-get-requires-2 (
+  stand-reads.Asked,
+  stand-reads.Learnt,
+  quiet-reads.Asked,
+  quiet-reads.Learnt,
+  get-reads.Asked,
+  get-reads.Learnt,
+  walk-below t,
+  walk.Post,
+  follow-reads.Asked,
+  follow-reads.Learnt,
+  is-red-reads.Asked,
+  is-red-reads.Learnt,
+) (walk-at t) walk.Post
+walk-get-requires-2 t c κs = search needs
+
+walk-sub-walk-3 : (t : ℕ) → walk-lts.Need-sub-walk-3 (
+  stand-reads.Asked,
+  stand-reads.Learnt,
+  quiet-reads.Asked,
+  quiet-reads.Learnt,
+  get-reads.Asked,
+  get-reads.Learnt,
+  walk-below t,
+  walk.Post,
+  follow-reads.Asked,
+  follow-reads.Learnt,
+  is-red-reads.Asked,
+  is-red-reads.Learnt,
+) (walk-at t) walk.Post
+walk-sub-walk-3 t c = search needs
+
+walk-walk-requires-2 : (t : ℕ) → walk-lts.Need-walk-requires-2 (
+  stand-reads.Asked,
+  stand-reads.Learnt,
+  quiet-reads.Asked,
+  quiet-reads.Learnt,
+  get-reads.Asked,
+  get-reads.Learnt,
+  walk-below t,
+  walk.Post,
+  follow-reads.Asked,
+  follow-reads.Learnt,
+  is-red-reads.Asked,
+  is-red-reads.Learnt,
+) (walk-at t) walk.Post
+walk-walk-requires-2 t c κs =
+    let at-rising = c .before in
+    let at-follow = at-rising .before in
+    let at-known = at-follow .before in
+    let at-lefts = at-known .before in
+    let at-match = at-lefts .before in
+    let at-walk = at-match .before in
+    let at-left = at-walk .before in
+    let at-calm = at-left .before in
+    let at-quiet = at-calm .before in
+    let at-upright = at-quiet .before in
+    let at-stand = at-upright .before in
+    let at-deep = at-stand .before in
+    let at-visits = at-deep .before in
+    let at-range = at-visits .before in
+    let at-null = at-range .before in
+    let a = at-null .before .before .before .args in
+    omega (arith, at-null .before .before .before .pre .0, at-deep .if4 .left)
+
+walk-enum-known-rights : (t : ℕ) → walk-lts.Need-enum-known-rights (
+  stand-reads.Asked,
+  stand-reads.Learnt,
+  quiet-reads.Asked,
+  quiet-reads.Learnt,
+  get-reads.Asked,
+  get-reads.Learnt,
+  walk-below t,
+  walk.Post,
+  follow-reads.Asked,
+  follow-reads.Learnt,
+  is-red-reads.Asked,
+  is-red-reads.Learnt,
+) (walk-at t) walk.Post
+walk-enum-known-rights t c = search needs
+
+walk-enum-told-2 : (t : ℕ) → walk-lts.Need-enum-told-2 (
+  stand-reads.Asked,
+  stand-reads.Learnt,
+  quiet-reads.Asked,
+  quiet-reads.Learnt,
+  get-reads.Asked,
+  get-reads.Learnt,
+  walk-below t,
+  walk.Post,
+  follow-reads.Asked,
+  follow-reads.Learnt,
+  is-red-reads.Asked,
+  is-red-reads.Learnt,
+) (walk-at t) walk.Post
+walk-enum-told-2 t c = search needs
+
+walk-returns-9 : (t : ℕ) → walk-lts.Need-returns-9 (
+  stand-reads.Asked,
+  stand-reads.Learnt,
+  quiet-reads.Asked,
+  quiet-reads.Learnt,
+  get-reads.Asked,
+  get-reads.Learnt,
+  walk-below t,
+  walk.Post,
+  follow-reads.Asked,
+  follow-reads.Learnt,
+  is-red-reads.Asked,
+  is-red-reads.Learnt,
+) (walk-at t) walk.Post
+walk-returns-9 t c =
+    let at-match2 = c .before in
+    let at-walk2 = at-match2 .before in
+    let at-right = at-walk2 .before in
+    let at-rising = at-right .before in
+    let at-follow = at-rising .before in
+    let at-known = at-follow .before in
+    let at-lefts = at-known .before in
+    let at-match = at-lefts .before in
+    let at-walk = at-match .before in
+    let at-left = at-walk .before in
+    let at-calm = at-left .before in
+    let at-quiet = at-calm .before in
+    let at-upright = at-quiet .before in
+    let at-stand = at-upright .before in
+    let at-deep = at-stand .before in
+    let at-visits = at-deep .before in
+    let at-range = at-visits .before in
+    let at-null = at-range .before in
+    let a = at-null .before .before .before .args in
+    walk-right-breaks (now (a .names)) (now (a .cells)) (a .q) (a .last) (a .i) (a .depth) (a .visits)
+    (at-null .if1 .left) (at-range .if2 .left) (at-visits .if3 .left) (at-deep .if4 .left)
+    (at-stand .stand .ensures) (not-false (at-stand .stand .result) (at-upright .if5 .left))
+    (at-quiet .quiet .ensures) (not-false (at-quiet .quiet .result) (at-calm .if6 .left))
+    (at-left .get .ensures)
+    (ap partOf (sym (at-lefts .lefts .given .1)) ∙ at-walk .walk .ensures)
+    (at-follow .follow .ensures)
+    (not-false (at-follow .follow .result) (at-rising .if7 .left))
+    (at-right .get2 .ensures)
+    (ap partOf (sym (c .enum-told2 .given .1)) ∙ at-walk2 .walk2 .ensures)
+
+walk-returns-10 : (t : ℕ) → walk-lts.Need-returns-10 (
+  stand-reads.Asked,
+  stand-reads.Learnt,
+  quiet-reads.Asked,
+  quiet-reads.Learnt,
+  get-reads.Asked,
+  get-reads.Learnt,
+  walk-below t,
+  walk.Post,
+  follow-reads.Asked,
+  follow-reads.Learnt,
+  is-red-reads.Asked,
+  is-red-reads.Learnt,
+) (walk-at t) walk.Post
+walk-returns-10 t c =
+    let at-known2 = c .before in
+    let at-rights = at-known2 .before in
+    let at-match2 = at-rights .before in
+    let at-walk2 = at-match2 .before in
+    let at-right = at-walk2 .before in
+    let at-rising = at-right .before in
+    let at-follow = at-rising .before in
+    let at-known = at-follow .before in
+    let at-lefts = at-known .before in
+    let at-match = at-lefts .before in
+    let at-walk = at-match .before in
+    let at-left = at-walk .before in
+    let at-calm = at-left .before in
+    let at-quiet = at-calm .before in
+    let at-upright = at-quiet .before in
+    let at-stand = at-upright .before in
+    let at-deep = at-stand .before in
+    let at-visits = at-deep .before in
+    let at-range = at-visits .before in
+    let at-null = at-range .before in
+    let a = at-null .before .before .before .args in
+    walk-uneven (now (a .names)) (now (a .cells)) (a .q) (a .last) (a .i) (a .depth) (a .visits)
+    (at-null .if1 .left) (at-range .if2 .left) (at-visits .if3 .left) (at-deep .if4 .left)
+    (at-stand .stand .ensures) (not-false (at-stand .stand .result) (at-upright .if5 .left))
+    (at-quiet .quiet .ensures) (not-false (at-quiet .quiet .result) (at-calm .if6 .left))
+    (at-left .get .ensures)
+    (ap partOf (sym (at-lefts .lefts .given .1)) ∙ at-walk .walk .ensures)
+    (at-follow .follow .ensures)
+    (not-false (at-follow .follow .result) (at-rising .if7 .left))
+    (at-right .get2 .ensures)
+    (ap partOf (sym (at-rights .rights .given .1)) ∙ at-walk2 .walk2 .ensures)
+    (c .if8 .taken)
+
+walk-is-red-requires : (t : ℕ) → walk-lts.Need-is-red-requires (
+  stand-reads.Asked,
+  stand-reads.Learnt,
+  quiet-reads.Asked,
+  quiet-reads.Learnt,
+  get-reads.Asked,
+  get-reads.Learnt,
+  walk-below t,
+  walk.Post,
+  follow-reads.Asked,
+  follow-reads.Learnt,
+  is-red-reads.Asked,
+  is-red-reads.Learnt,
+) (walk-at t) walk.Post
+walk-is-red-requires t c κs = search needs
+
+walk-returns-11 : (t : ℕ) → walk-lts.Need-returns-11 (
+  stand-reads.Asked,
+  stand-reads.Learnt,
+  quiet-reads.Asked,
+  quiet-reads.Learnt,
+  get-reads.Asked,
+  get-reads.Learnt,
+  walk-below t,
+  walk.Post,
+  follow-reads.Asked,
+  follow-reads.Learnt,
+  is-red-reads.Asked,
+  is-red-reads.Learnt,
+) (walk-at t) walk.Post
+walk-returns-11 t c =
+    let at-is-red = c .before in
+    let at-even = at-is-red .before in
+    let at-known2 = at-even .before in
+    let at-rights = at-known2 .before in
+    let at-match2 = at-rights .before in
+    let at-walk2 = at-match2 .before in
+    let at-right = at-walk2 .before in
+    let at-rising = at-right .before in
+    let at-follow = at-rising .before in
+    let at-known = at-follow .before in
+    let at-lefts = at-known .before in
+    let at-match = at-lefts .before in
+    let at-walk = at-match .before in
+    let at-left = at-walk .before in
+    let at-calm = at-left .before in
+    let at-quiet = at-calm .before in
+    let at-upright = at-quiet .before in
+    let at-stand = at-upright .before in
+    let at-deep = at-stand .before in
+    let at-visits = at-deep .before in
+    let at-range = at-visits .before in
+    let at-null = at-range .before in
+    let a = at-null .before .before .before .args in
+    walk-red (now (a .names)) (now (a .cells)) (a .q) (a .last) (a .i) (a .depth) (a .visits)
+    (at-null .if1 .left) (at-range .if2 .left) (at-visits .if3 .left) (at-deep .if4 .left)
+    (at-stand .stand .ensures) (not-false (at-stand .stand .result) (at-upright .if5 .left))
+    (at-quiet .quiet .ensures) (not-false (at-quiet .quiet .result) (at-calm .if6 .left))
+    (at-left .get .ensures)
+    (ap partOf (sym (at-lefts .lefts .given .1)) ∙ at-walk .walk .ensures)
+    (at-follow .follow .ensures)
+    (not-false (at-follow .follow .result) (at-rising .if7 .left))
+    (at-right .get2 .ensures)
+    (ap partOf (sym (at-rights .rights .given .1)) ∙ at-walk2 .walk2 .ensures)
+    (at-even .if8 .left)
+    (at-is-red .is-red .ensures)
+    (c .if9 .taken)
+
+walk-add-t24 : (t : ℕ) → walk-lts.Need-add-t24 (
+  stand-reads.Asked,
+  stand-reads.Learnt,
+  quiet-reads.Asked,
+  quiet-reads.Learnt,
+  get-reads.Asked,
+  get-reads.Learnt,
+  walk-below t,
+  walk.Post,
+  follow-reads.Asked,
+  follow-reads.Learnt,
+  is-red-reads.Asked,
+  is-red-reads.Learnt,
+) (walk-at t) walk.Post
+walk-add-t24 t c =
+    let at-is-red = c .before in
+    let at-even = at-is-red .before in
+    let at-known2 = at-even .before in
+    let at-rights = at-known2 .before in
+    let at-match2 = at-rights .before in
+    let at-walk2 = at-match2 .before in
+    let at-right = at-walk2 .before in
+    let at-rising = at-right .before in
+    let at-follow = at-rising .before in
+    let at-known = at-follow .before in
+    let at-lefts = at-known .before in
+    let at-match = at-lefts .before in
+    let at-walk = at-match .before in
+    let at-left = at-walk .before in
+    let at-calm = at-left .before in
+    let at-quiet = at-calm .before in
+    let at-upright = at-quiet .before in
+    let at-stand = at-upright .before in
+    let at-deep = at-stand .before in
+    let at-visits = at-deep .before in
+    let at-range = at-visits .before in
+    let at-null = at-range .before in
+    let a = at-null .before .before .before .args in
+    omega (arith, walk-blacks (now (a .names)) (now (a .cells)) (a .i) (a .last) (at-left .get .result) (a .depth - 1) (a .visits - 1) (ap partOf (sym (at-lefts .lefts .given .1)) ∙ at-walk .walk .ensures), at-deep .if4 .left, at-null .before .before .before .fits .depth)
+
+walk-returns-12 : (t : ℕ) → walk-lts.Need-returns-12 (
+  stand-reads.Asked,
+  stand-reads.Learnt,
+  quiet-reads.Asked,
+  quiet-reads.Learnt,
+  get-reads.Asked,
+  get-reads.Learnt,
+  walk-below t,
+  walk.Post,
+  follow-reads.Asked,
+  follow-reads.Learnt,
+  is-red-reads.Asked,
+  is-red-reads.Learnt,
+) (walk-at t) walk.Post
+walk-returns-12 t c =
+    let at-is-red = c .before in
+    let at-even = at-is-red .before in
+    let at-known2 = at-even .before in
+    let at-rights = at-known2 .before in
+    let at-match2 = at-rights .before in
+    let at-walk2 = at-match2 .before in
+    let at-right = at-walk2 .before in
+    let at-rising = at-right .before in
+    let at-follow = at-rising .before in
+    let at-known = at-follow .before in
+    let at-lefts = at-known .before in
+    let at-match = at-lefts .before in
+    let at-walk = at-match .before in
+    let at-left = at-walk .before in
+    let at-calm = at-left .before in
+    let at-quiet = at-calm .before in
+    let at-upright = at-quiet .before in
+    let at-stand = at-upright .before in
+    let at-deep = at-stand .before in
+    let at-visits = at-deep .before in
+    let at-range = at-visits .before in
+    let at-null = at-range .before in
+    let a = at-null .before .before .before .args in
+    walk-black (now (a .names)) (now (a .cells)) (a .q) (a .last) (a .i) (a .depth) (a .visits)
+    (at-null .if1 .left) (at-range .if2 .left) (at-visits .if3 .left) (at-deep .if4 .left)
+    (at-stand .stand .ensures) (not-false (at-stand .stand .result) (at-upright .if5 .left))
+    (at-quiet .quiet .ensures) (not-false (at-quiet .quiet .result) (at-calm .if6 .left))
+    (at-left .get .ensures)
+    (ap partOf (sym (at-lefts .lefts .given .1)) ∙ at-walk .walk .ensures)
+    (at-follow .follow .ensures)
+    (not-false (at-follow .follow .result) (at-rising .if7 .left))
+    (at-right .get2 .ensures)
+    (ap partOf (sym (at-rights .rights .given .1)) ∙ at-walk2 .walk2 .ensures)
+    (at-even .if8 .left)
+    (at-is-red .is-red .ensures)
+    (c .if9 .left)
+
+pub +walk-spec : {M : Type 1} → statement M
++walk-spec = close μ-walk λ t. walk-lts.spec (
+  stand-reads.Asked,
+  stand-reads.Learnt,
+  quiet-reads.Asked,
+  quiet-reads.Learnt,
+  get-reads.Asked,
+  get-reads.Learnt,
+  walk-below t,
+  walk.Post,
+  follow-reads.Asked,
+  follow-reads.Learnt,
+  is-red-reads.Asked,
+  is-red-reads.Learnt,
+)
+    (walk-at t)
+    walk.Post
+    (walk-returns t)
+    (walk-returns-2 t)
+    (walk-returns-3 t)
+    (walk-returns-4 t)
+    (walk-stand-requires t)
+    (walk-returns-5 t)
+    (walk-quiet-requires t)
+    (walk-returns-6 t)
+    (walk-get-requires t)
+    (walk-sub-walk t)
+    (walk-sub-walk-2 t)
+    (walk-walk-requires t)
+    (walk-enum-known-lefts t)
+    (walk-enum-told t)
+    (walk-returns-7 t)
+    (walk-follow-requires t)
+    (walk-returns-8 t)
+    (walk-get-requires-2 t)
+    (walk-sub-walk-3 t)
+    (walk-walk-requires-2 t)
+    (walk-enum-known-rights t)
+    (walk-enum-told-2 t)
+    (walk-returns-9 t)
+    (walk-returns-10 t)
+    (walk-is-red-requires t)
+    (walk-returns-11 t)
+    (walk-add-t24 t)
+    (walk-returns-12 t)

@@ -1,0 +1,31 @@
+-- 01's number and value of each answer of rollback, and what its steps answer.
+use mathlib.Core.Bool.{Bool, true, false}
+use Prim.Native.Nat.{ℕ, _-_}
+use lib.Dec.{ltb}
+use Rattle.slots.specs.Words.{pick}
+use Rattle.slots.specs.Answers.{Answer, given, refused}
+use Rattle.demands.specs.Live.{Live}
+use Rattle.demands.specs.Sound.{sound}
+use Rattle.demands.specs.Index.{Index, fitsIndex, lengthOf}
+use Rattle.demands.specs.Rollback.{Undo, stays, misfit}
+use Rattle.undo.specs.declared.rollback.RolledBack.{RolledBack}
+use Rattle.undo.specs.declared.rollback.RolledBack.the-variants.{Lines, Unfit, Damaged, BadMark, Misfit}
+
+abbrev pub rolledOf : RolledBack → Answer
+rolledOf (Lines count) = given count
+rolledOf Unfit = refused 1
+rolledOf Damaged = refused 2
+rolledOf BadMark = refused 7
+rolledOf Misfit = refused 8
+
+-- What rollback answers if all its lines fit.
+unfoldable pub opened : Index → ℕ → Answer
+opened ix m =
+    pick (fitsIndex ix)
+    (pick (sound (ix .live)) (pick (ltb (lengthOf (ix .lines)) m) (refused 7) (given (lengthOf (ix .lines) - m))) (refused 2))
+    (refused 1)
+
+-- Whether lines were undone, with the tree that is left: where they were not, nothing is said of it.
+abbrev pub undoOf : Bool → Live → Undo
+undoOf true t = stays t
+undoOf false t = misfit

@@ -1,0 +1,129 @@
+// A line of the journal is undone on the tree by the same drivers.
+use drivers::grow::Free;
+use drivers::grow::grow;
+use drivers::grow::lowest_free;
+use drivers::journal::HASH;
+use drivers::journal::INSERT;
+use drivers::journal::KEY;
+use drivers::journal::KIND;
+use drivers::journal::PLACE;
+use drivers::journal::REMOVE;
+use drivers::journal::line_word;
+use drivers::shrink::shrink;
+use live::fit::ROOT;
+use live::fit::word;
+use slots::get;
+use tree::find::Found;
+use tree::find::find_tree_node;
+ghost use mathlib.Core.Path.{_≡_};
+ghost use Prim.Native.Nat.{_+_, _≤_, _<_};
+ghost use lib.ListN.{length, getD};
+ghost use Rattle.slots.specs.Words.{null};
+ghost use Rattle.demands.specs.Live.{Live};
+ghost use Rattle.demands.specs.Insert.{soughtIn};
+ghost use Rattle.demands.specs.Rollback.{takenBack, putBack, undone, unrolled};
+ghost use Rattle.undo.specs.Answers.{undoOf};
+
+// An insert line is undone by a removal: its pair is there with its place. False where it is not.
+fn take_back(
+    names: &mut [u64],
+    cells: &mut [u32],
+    head: &mut [u32],
+    hash: u64,
+    key: u64,
+    place: u64,
+) -> bool
+    requires { ⌜ length (now names) ≤ 8192 ⌝ }
+    ensures { λ r. ⌜ undoOf r (record { names = now (names .exit); cells = now (cells .exit); head = now (head .exit) }) ≡ takenBack (record { names = now (names .entry); cells = now (cells .entry); head = now (head .entry) }) (soughtIn (record { names = now (names .entry); cells = now (cells .entry); head = now (head .entry) }) hash key) place ⌝ }
+{
+    let root = word(head, ROOT);
+    let found = find_tree_node(names, cells, root, hash, key);
+    let Found::At(x) = found else {
+        return false;
+    };
+    let own = get(cells, x, slots::PLACE);
+    if own as u64 != place {
+        return false;
+    }
+    shrink(names, cells, head, x);
+    true
+}
+
+// A remove line is undone by an insert: its pair is not there, and there is a free slot. False where that is not so, or where
+// the place is wider than 32 bits.
+fn put_back(
+    names: &mut [u64],
+    cells: &mut [u32],
+    head: &mut [u32],
+    hash: u64,
+    key: u64,
+    place: u64,
+) -> bool
+    requires { ⌜ length (now names) ≤ 8192 ⌝ }
+    requires { ⌜ getD (now head) 2 null < null ⌝ }
+    ensures { λ r. ⌜ undoOf r (record { names = now (names .exit); cells = now (cells .exit); head = now (head .exit) }) ≡ putBack (record { names = now (names .entry); cells = now (cells .entry); head = now (head .entry) }) (soughtIn (record { names = now (names .entry); cells = now (cells .entry); head = now (head .entry) }) hash key) hash key place ⌝ }
+{
+    let root = word(head, ROOT);
+    let found = find_tree_node(names, cells, root, hash, key);
+    let Found::At(_) = found else {
+        let free = lowest_free(cells, (names.len() / 2) as u32);
+        let Free::At(x) = free else {
+            return false;
+        };
+        if 4294967296 <= place {
+            return false;
+        }
+        grow(names, cells, head, x, hash, key, place as u32);
+        return true;
+    };
+    false
+}
+
+// Line k is undone. False where it does not fit; the slices are then left anyhow.
+fn undo_line(
+    names: &mut [u64],
+    cells: &mut [u32],
+    head: &mut [u32],
+    lines: &[u64],
+    k: usize,
+) -> bool
+    requires { ⌜ length (now names) ≤ 8192 ⌝ }
+    requires { ⌜ getD (now head) 2 null < null ⌝ }
+    ensures { λ r. ⌜ undoOf r (record { names = now (names .exit); cells = now (cells .exit); head = now (head .exit) }) ≡ undone (record { names = now (names .entry); cells = now (cells .entry); head = now (head .entry) }) (now (lines .entry)) k ⌝ }
+{
+    let kind = line_word(lines, k, KIND);
+    let hash = line_word(lines, k, HASH);
+    let key = line_word(lines, k, KEY);
+    let place = line_word(lines, k, PLACE);
+    if kind == INSERT {
+        return take_back(names, cells, head, hash, key, place);
+    }
+    if kind == REMOVE {
+        return put_back(names, cells, head, hash, key, place);
+    }
+    false
+}
+
+// So many lines from m on are undone, from the last down. False where one does not fit; the slices are then left anyhow.
+pub(crate) fn unroll(
+    names: &mut [u64],
+    cells: &mut [u32],
+    head: &mut [u32],
+    lines: &[u64],
+    m: u32,
+    count: u32,
+) -> bool
+    requires { ⌜ length (now names) ≤ 8192 ⌝ }
+    requires { ⌜ getD (now head) 2 null + count < null ⌝ }
+    ensures { λ r. ⌜ undoOf r (record { names = now (names .exit); cells = now (cells .exit); head = now (head .exit) }) ≡ unrolled count (record { names = now (names .entry); cells = now (cells .entry); head = now (head .entry) }) (now (lines .entry)) m ⌝ }
+{
+    let mut c = count;
+    while 0 < c {
+        c -= 1;
+        let fits = undo_line(names, cells, head, lines, m as usize + c as usize);
+        if !fits {
+            return false;
+        }
+    }
+    true
+}
