@@ -18,6 +18,9 @@
  *   cursor   u32, 11      base table, depth, eight indexes, last slot; another length is 1
  *
  * n is 1 to 4,096 (0 to 4,096 in a set), c is 0 to 1,024, h is 0 to 4,096.
+ *
+ * Stack, as measured with a tree of 4,096 slots in one line: oz_check 644 KiB, since it follows the links as deep as they
+ * go; oz_rollback 208 KiB, since it keeps the tree's words aside; the others under 64 KiB.
  */
 #ifndef OZ_H
 #define OZ_H

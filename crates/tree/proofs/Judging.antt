@@ -14,22 +14,8 @@ use Rattle.shape.specs.Rules.{then, isSome, stands, reached, follows, risen, ca
 use Rattle.shape.proofs.Sizing.{obeyed-each}
 use Rattle.shape.proofs.Visits.{reached-within, reached-fuel, reach-null, reach-outside, reach-spent, reach-wrong, reach-on}
 use Rattle.tree.specs.Rules.{Judged, obeys, breaks, together, judged, quietly}
+use Rattle.tree.proofs.Depth.{no-rise, no-calm, no-level, deepest, deepest-enough}
 use Rattle.tree.proofs.Ruling.{rise-null, rise-zero, rise-on, calm-null, calm-on, level-null, level-on, level-bound}
-
-no-rise : (reach : Value) (calm : Bool) (level : Value) → breaks ≡ together reach none calm level
-no-rise (some rest) calm level = refl
-no-rise none calm level = refl
-
-no-calm : (reach rise level : Value) → breaks ≡ together reach rise false level
-no-calm (some rest) (some last) level = refl
-no-calm (some rest) none level = refl
-no-calm none rise level = refl
-
-no-level : (reach rise : Value) (calm : Bool) → breaks ≡ together reach rise calm none
-no-level (some rest) (some last) true = refl
-no-level (some rest) (some last) false = refl
-no-level (some rest) none calm = refl
-no-level none rise calm = refl
 
 -- What comes after a part, where it breaks no rule.
 abbrev pub onward : Judged → (ℕ → ℕ → ℕ → Judged) → Judged
@@ -181,11 +167,11 @@ module _ (names cells : List ℕ) (root visits : ℕ) where
   unfolding obeyed coloured
   red-root x e = rw (← x, e) (unasked (reached visits (slotsOf names) cells null root visits) (rises names cells root) none)
 
-  pub black-root : {red : Bool} → red ≡ eqb (cell cells root state) 2 → red ≡ false
-      → restLeft (judged names cells null null root (slotsOf names) visits) ≡ obeyed names cells root visits
+  pub black-root : {red : Bool} → red ≡ eqb (cell cells root state) 2 → red ≡ false → visits < 18446744073709551616 → {depth : ℕ} → depth ≡ deepest (slotsOf names)
+      → restLeft (judged names cells null null root depth visits) ≡ obeyed names cells root visits
   unfolding obeyed rises coloured level
-  black-root x e =
-      rw (← x, e)
+  black-root x e few d =
+      rw (deepest-enough names cells root visits few (slotsOf names) d, ← x, e)
       (asked
       (reached visits (slotsOf names) cells null root visits)
       (risen (slotsOf names) names cells null root)

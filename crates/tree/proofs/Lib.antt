@@ -1,5 +1,6 @@
 pub mod Searching
 pub mod Visiting
 pub mod Ruling
+pub mod Depth
 pub mod Judging
 pub mod Claims

@@ -13,6 +13,8 @@ use slots::get;
 use slots::is_red;
 use slots::name;
 ghost use mathlib.Core.Path.{_≡_};
+ghost use lib.Dec.{ltb};
+ghost use Rattle.slots.specs.Words.{pick};
 ghost use Rattle.shape.specs.Rules.{stands, follows, obeyed, treeSize};
 ghost use Rattle.tree.specs.Rules.{restOf, sizeOf, partOf, judged, inUse, quietly};
 
@@ -158,6 +160,17 @@ pub enum Rest {
     Wrong,
 }
 
+// So deep a tree that obeys the rules can be at most: 64 black slots on a way down have more slots than a word counts, and
+// between two black ones there is at most one red.
+const DEEPEST: usize = 129;
+
+// How deep a walk over n slots may have to go. Words that are no tree's end it there, so that it needs little stack.
+fn deepest(n: usize) -> usize
+    ensures { λ r. ⌜ r ≡ pick (ltb n 129) n 129 ⌝ }
+{
+    if n < DEEPEST { n } else { DEEPEST }
+}
+
 // T3 to T6 of the tree from root, with so many visits; the visits left.
 pub fn survey(names: &[u64], cells: &[u32], root: u32, visits: usize) -> Rest
     ensures { λ r. ⌜ restOf r ≡ obeyed (now (names .entry)) (now (cells .entry)) root visits ⌝ }
@@ -166,7 +179,8 @@ pub fn survey(names: &[u64], cells: &[u32], root: u32, visits: usize) -> Rest
     if red {
         return Rest::Wrong;
     }
-    let whole = walk(names, cells, NULL, NULL, root, names.len() / 2, visits);
+    let depth = deepest(names.len() / 2);
+    let whole = walk(names, cells, NULL, NULL, root, depth, visits);
     match whole {
         Part::Obeys(rest, _, _) => Rest::Left(rest),
         Part::Breaks => Rest::Wrong,

@@ -1,0 +1,252 @@
+-- A tree that obeys the rules is not deep: each way down meets as many black slots, no two red ones in a row, and a tree with b black
+-- slots on each way has 2 to the b slots but one at least. So a walk need not go deeper than 129, whatever number of visits a word holds.
+use mathlib.Core.Path.{_≡_, refl, sym, ap, _∙_}
+use mathlib.Core.Logic.{_≢_}
+use mathlib.Core.Bool.{Bool, true, false, false≢true}
+use mathlib.Core.List.{List}
+use Prim.Native.Nat.{ℕ, zero, suc, _+_, _-_, _*_, _<_, _≤_}
+use native.Mathlib.Numerals.{add-one}
+use native.Mathlib.Omega.{arith}
+use lib.Dec.{eqb, ltb}
+use borrow.Author.Tests.{eqb-true, eqb-false, eq-eqb, ne-eqb, ltb-false}
+use Rattle.slots.specs.Words.{null, pick, state, left, right, cell}
+use Rattle.slots.specs.Answers.{Value, none, some}
+use Rattle.slots.proofs.Laws.{some-is}
+use Rattle.shape.specs.Find.{slotsOf}
+use Rattle.shape.specs.Rules.{then, stands, reached, risen, calmed, levelled}
+use Rattle.shape.proofs.Reaching.{refuted}
+use Rattle.tree.proofs.Ruling.{rise-null, calm-null, level-null}
+use Rattle.tree.specs.Rules.{Judged, breaks, together, judged, quietly}
+
+-- A rule broken breaks all four.
+pub no-rise : (reach : Value) (calm : Bool) (level : Value) → breaks ≡ together reach none calm level
+no-rise (some rest) calm level = refl
+no-rise none calm level = refl
+
+pub no-calm : (reach rise level : Value) → breaks ≡ together reach rise false level
+no-calm (some rest) (some last) level = refl
+no-calm (some rest) none level = refl
+no-calm none rise level = refl
+
+pub no-level : (reach rise : Value) (calm : Bool) → breaks ≡ together reach rise calm none
+no-level (some rest) (some last) true = refl
+no-level (some rest) (some last) false = refl
+no-level (some rest) none calm = refl
+no-level none rise calm = refl
+
+-- No way from the link i down meets more than d slots.
+data Low (cells : List ℕ) : ℕ → ℕ → Type 0 where
+  at-null : {d i : ℕ} → i ≡ null → Low cells d i
+  at-slot : {d i : ℕ} → i ≢ null → Low cells d (cell cells i left) → Low cells d (cell cells i right) → Low cells (suc d) i
+
+module _ (cells : List ℕ) where
+  lower : (d e i : ℕ) → d ≤ e → Low cells d i → Low cells e i
+  lower d e i h (at-null z) = at-null z
+  lower (suc d) zero i h (at-slot n a b) = absurd (omega arith)
+  lower (suc d) (suc e) i h (at-slot n a b) = at-slot n (lower d e _ (omega arith) a) (lower d e _ (omega arith) b)
+
+  -- Past the depth of what hangs there, depth changes nothing.
+  rise-past : (names : List ℕ) (d e i : ℕ) → d ≤ e → Low cells d i → (m : ℕ) → risen e names cells m i ≡ risen d names cells m i
+  unfolding risen
+  rise-past names d e i h (at-null z) m = sym (rise-null names cells m i e z) ∙ rise-null names cells m i d z
+  rise-past names (suc d) zero i h (at-slot n a b) m = absurd (omega arith)
+  rise-past names (suc d) (suc e) i h (at-slot n a b) m = rw (rise-past names d e _ (omega arith) a m, rise-past names d e _ (omega arith) b i)
+
+  calm-past : (d e i : ℕ) → d ≤ e → Low cells d i → calmed e cells i ≡ calmed d cells i
+  unfolding calmed
+  calm-past d e i h (at-null z) = sym (calm-null cells i e z) ∙ calm-null cells i d z
+  calm-past (suc d) zero i h (at-slot n a b) = absurd (omega arith)
+  calm-past (suc d) (suc e) i h (at-slot n a b) = rw (calm-past d e _ (omega arith) a, calm-past d e _ (omega arith) b)
+
+  level-past : (d e i : ℕ) → d ≤ e → Low cells d i → levelled e cells i ≡ levelled d cells i
+  unfolding levelled
+  level-past d e i h (at-null z) = sym (level-null cells i e z) ∙ level-null cells i d z
+  level-past (suc d) zero i h (at-slot n a b) = absurd (omega arith)
+  level-past (suc d) (suc e) i h (at-slot n a b) = rw (level-past d e _ (omega arith) a, level-past d e _ (omega arith) b)
+
+  -- One level of T6 taken apart.
+  record Evened (depth i b : ℕ) : Type 0 where
+    half : ℕ
+    lefts : levelled depth cells (cell cells i left) ≡ some half
+    rights : levelled depth cells (cell cells i right) ≡ some half
+    blacks : pick (eqb (cell cells i state) 2) half (half + 1) ≡ b
+
+  evened : (depth i b : ℕ) → i ≢ null → levelled (suc depth) cells i ≡ some b → Evened depth i b
+  unfolding levelled
+  evened depth i b n e = go (levelled depth cells (cell cells i left)) refl (levelled depth cells (cell cells i right)) refl (rw (ne-eqb i null n) at e)
+    where
+      same : (k m : ℕ) → levelled depth cells (cell cells i left) ≡ some k → levelled depth cells (cell cells i right) ≡ some m
+          → (t : Bool) → eqb k m ≡ t → pick t (some (pick (eqb (cell cells i state) 2) k (k + 1))) none ≡ some b → Evened depth i b
+      same k m x y false t e = refuted e
+      same k m x y true t e = record { half = k; lefts = x; rights = y ∙ ap some (sym (eqb-true k m t)); blacks = some-is e }
+
+      go : (u : Value) → levelled depth cells (cell cells i left) ≡ u → (v : Value) → levelled depth cells (cell cells i right) ≡ v
+          → then u (λ k. then v (λ m. pick (eqb k m) (some (pick (eqb (cell cells i state) 2) k (k + 1))) none)) ≡ some b → Evened depth i b
+      go none x v y e = refuted e
+      go (some k) x none y e = refuted e
+      go (some k) x (some m) y e = same k m x y (eqb k m) refl e
+
+  null-or : (i : ℕ) {A : Type 0} → (i ≡ null → A) → (i ≢ null → A) → A
+  null-or i {A} f g = go (eqb i null) refl
+    where
+      go : (b : Bool) → eqb i null ≡ b → A
+      go true e = f (eqb-true i null e)
+      go false e = g (eqb-false i null e)
+
+  -- Where T6's walk ends well it went no deeper than it may.
+  level-low : (depth i b : ℕ) → levelled depth cells i ≡ some b → Low cells depth i
+  unfolding levelled
+  level-low zero i b e = null-or i at-null (λ n. refuted (rw (ne-eqb i null n) at e))
+  level-low (suc depth) i b e = null-or i at-null (λ n. (let k = evened depth i b n e in at-slot n (level-low depth _ _ (k .lefts)) (level-low depth _ _ (k .rights))))
+
+  -- One level of T5 taken apart.
+  three : (a b c : Bool) → pick a (pick b c false) false ≡ true → (a ≡ true) × (b ≡ true) × (c ≡ true)
+  three true true true e = (refl, refl, refl)
+  three true true false e = absurd (false≢true e)
+  three true false c e = absurd (false≢true e)
+  three false b c e = absurd (false≢true e)
+
+  calms : (depth i : ℕ) → i ≢ null → calmed (suc depth) cells i ≡ true
+      → (quietly cells i ≡ true) × (calmed depth cells (cell cells i left) ≡ true) × (calmed depth cells (cell cells i right) ≡ true)
+  unfolding calmed
+  calms depth i n e = three (quietly cells i) _ _ (rw (ne-eqb i null n) at e)
+
+  black-children : (l r : Bool) → pick l false (pick r false true) ≡ true → (l ≡ false) × (r ≡ false)
+  black-children true r e = absurd (false≢true e)
+  black-children false true e = absurd (false≢true e)
+  black-children false false e = (refl, refl)
+
+  -- With b black slots on each way down, and no two red ones in a row, a way has at most 2 b + 1 slots; 2 b under a link that is not red.
+  abbrev Lows : ℕ → ℕ → Type 0
+  Lows b i = Low cells (2 * b + 1) i × (eqb (cell cells i state) 2 ≡ false → Low cells (2 * b) i)
+
+  low-slot : (depth i b : ℕ) → i ≢ null → (k : Evened depth i b) → quietly cells i ≡ true → Lows (k .half) (cell cells i left) → Lows (k .half) (cell cells i right) → Lows b i
+  low-slot depth i b n k q x y = go (eqb (cell cells i state) 2) refl
+    where
+      go : (red : Bool) → eqb (cell cells i state) 2 ≡ red → Lows b i
+      go true r =
+          let o = black-children (eqb (cell cells (cell cells i left) state) 2) (eqb (cell cells (cell cells i right) state) 2) (rw r at q) in
+          let z : k .half ≡ b = rw r at (k .blacks) in
+          (lower (suc (2 * (k .half))) (2 * b + 1) i (omega (arith, z)) (at-slot n (x .1 (o .0)) (y .1 (o .1))), λ f. absurd (false≢true (sym f ∙ r)))
+      go false r =
+          let z : k .half + 1 ≡ b = rw r at (k .blacks) in
+          let w = at-slot n (x .0) (y .0) in
+          (lower (suc (2 * (k .half) + 1)) (2 * b + 1) i (omega (arith, z)) w, λ f. lower (suc (2 * (k .half) + 1)) (2 * b) i (omega (arith, z)) w)
+
+  low : (depth i b : ℕ) → levelled depth cells i ≡ some b → calmed depth cells i ≡ true → Lows b i
+  unfolding levelled
+  low zero i b e c = null-or i (λ z. (at-null z, λ f. at-null z)) (λ n. refuted (rw (ne-eqb i null n) at e))
+  low (suc depth) i b e c =
+      null-or i (λ z. (at-null z, λ f. at-null z))
+      (λ n. (let k = evened depth i b n e in
+      let q = calms depth i n c in
+      low-slot depth i b n k (q .0) (low depth (cell cells i left) (k .half) (k .lefts) (q .1)) (low depth (cell cells i right) (k .half) (k .rights) (q .2))))
+
+-- 2 to the b.
+full : ℕ → ℕ
+full zero = 1
+full (suc b) = 2 * full b
+
+full-some : (b : ℕ) → 1 ≤ full b
+unfolding full
+full-some zero = omega arith
+full-some (suc b) = omega (arith, full-some b)
+
+full-within : (b m : ℕ) → full b ≤ full m → b ≤ m
+unfolding full
+full-within zero m h = omega arith
+full-within (suc b) zero h = absurd (omega (arith, full-some b))
+full-within (suc b) (suc m) h = omega (arith, full-within b m (omega (arith, h)))
+
+full-64 : full 64 ≡ 18446744073709551616
+unfolding full
+full-64 = refl
+
+module _ (n : ℕ) (cells : List ℕ) where
+  -- One visit of T3 taken apart.
+  record Stepped (q i v rest : ℕ) : Type 0 where
+    fuel : ℕ
+    between : ℕ
+    lefts : reached fuel n cells i (cell cells i left) (v - 1) ≡ some between
+    rights : reached fuel n cells i (cell cells i right) between ≡ some rest
+    spent : v ≢ 0
+
+  stepped : (f q i v rest : ℕ) → i ≢ null → reached f n cells q i v ≡ some rest → Stepped q i v rest
+  unfolding reached
+  stepped zero q i v rest d e = refuted (rw (ne-eqb i null d) at e)
+  stepped (suc f) q i v rest d e = go (ltb i n) (eqb v 0) refl (stands cells q i) (reached f n cells i (cell cells i left) (v - 1)) refl (rw (ne-eqb i null d) at e)
+    where
+      go : (a b : Bool) → eqb v 0 ≡ b → (c : Bool) → (u : Value) → reached f n cells i (cell cells i left) (v - 1) ≡ u
+          → pick a (pick b none (pick c (then u (λ rest. reached f n cells i (cell cells i right) rest)) none)) none ≡ some rest → Stepped q i v rest
+      go false b x c u y e = refuted e
+      go true true x c u y e = refuted e
+      go true false x false u y e = refuted e
+      go true false x true none y e = refuted e
+      go true false x true (some k) y e = record { fuel = f; between = k; lefts = y; rights = e; spent = eqb-false v 0 x }
+
+  at-once : (f q i v : ℕ) → i ≡ null → reached f n cells q i v ≡ some v
+  unfolding reached
+  at-once zero q i v z = rw (eq-eqb i null z)
+  at-once (suc f) q i v z = rw (eq-eqb i null z)
+
+  -- With b black slots on each way down there are 2 to the b slots but one at least, and each takes a visit.
+  size-null : (depth f q i v rest b : ℕ) → reached f n cells q i v ≡ some rest → levelled depth cells i ≡ some b → i ≡ null → rest + full b ≤ v + 1
+  unfolding full
+  size-null depth f q i v rest b r e z =
+      let x : v ≡ rest = some-is (sym (at-once f q i v z) ∙ r) in
+      let y : 0 ≡ b = some-is (level-null cells i depth z ∙ e) in
+      rw (← y, ← x) (omega arith)
+
+  size-slot : (v rest b half between : ℕ) (red : Bool) → pick red half (half + 1) ≡ b → v ≢ 0 → between + full half ≤ v - 1 + 1 → rest + full half ≤ between + 1 → rest + full b ≤ v + 1
+  unfolding full
+  size-slot v rest b half between true z w x y = rw (← z) (omega (arith, full-some half))
+  size-slot v rest b half between false z w x y = let o : full (half + 1) ≡ 2 * full half = rw add-one refl in rw (← z, o) (omega arith)
+
+  sized : (depth f q i v rest b : ℕ) → reached f n cells q i v ≡ some rest → levelled depth cells i ≡ some b → rest + full b ≤ v + 1
+  unfolding levelled
+  sized zero f q i v rest b r e = null-or cells i (size-null zero f q i v rest b r e) (λ d. refuted (rw (ne-eqb i null d) at e))
+  sized (suc depth) f q i v rest b r e =
+      null-or cells i (size-null (suc depth) f q i v rest b r e)
+      (λ d. (let k = evened cells depth i b d e in
+      let t = stepped f q i v rest d r in
+      size-slot v rest b (k .half) (t .between) (eqb (cell cells i state) 2) (k .blacks) (t .spent)
+      (sized depth (t .fuel) i (cell cells i left) (v - 1) (t .between) (k .half) (t .lefts) (k .lefts))
+      (sized depth (t .fuel) i (cell cells i right) (t .between) rest (k .half) (t .rights) (k .rights))))
+
+-- So deep a walk may go, over n slots: a word counts fewer than 2 to the 64 visits.
+abbrev pub deepest : ℕ → ℕ
+deepest n = pick (ltb n 129) n 129
+
+module _ (names cells : List ℕ) (root visits : ℕ) (few : visits < 18446744073709551616) where
+  abbrev at : ℕ → Judged
+  at depth = judged names cells null null root depth visits
+
+  -- Two depths that both suffice.
+  both-deep : (d e : ℕ) → d ≤ e → Low cells d root → at d ≡ at e
+  both-deep d e h k = sym (rw (rise-past cells names d e root h k null, calm-past cells d e root h k, level-past cells d e root h k) refl)
+
+  shallow : (depth rest b : ℕ) → reached visits (slotsOf names) cells null root visits ≡ some rest → levelled depth cells root ≡ some b → calmed depth cells root ≡ true → Low cells 129 root
+  shallow depth rest b r e c =
+      let m = sized (slotsOf names) cells depth visits null root visits rest b r e in
+      let o : full 64 ≡ 18446744073709551616 = full-64 in
+      let k = full-within b 64 (omega (arith, m, few, o)) in
+      lower cells (2 * b + 1) 129 root (omega (arith, k)) (low cells depth root b e c .0)
+
+  deep-enough : (n : ℕ) → 129 ≤ n → at 129 ≡ at n
+  deep-enough n h =
+      go (reached visits (slotsOf names) cells null root visits) refl (levelled 129 cells root) refl (levelled n cells root) refl (calmed n cells root) refl
+    where
+      go : (u : Value) → reached visits (slotsOf names) cells null root visits ≡ u → (w : Value) → levelled 129 cells root ≡ w
+          → (x : Value) → levelled n cells root ≡ x → (c : Bool) → calmed n cells root ≡ c → at 129 ≡ at n
+      go u p (some b) q x y c z = both-deep 129 n h (level-low cells 129 root b q)
+      go none p none q x y c z = rw p refl
+      go (some rest) p none q none y c z = rw (q, y) (sym (no-level (reached visits (slotsOf names) cells null root visits) (risen 129 names cells null root) (calmed 129 cells root)) ∙ no-level (reached visits (slotsOf names) cells null root visits) (risen n names cells null root) (calmed n cells root))
+      go (some rest) p none q (some b) y false z = rw (q, z) (sym (no-level (reached visits (slotsOf names) cells null root visits) (risen 129 names cells null root) (calmed 129 cells root)) ∙ no-calm (reached visits (slotsOf names) cells null root visits) (risen n names cells null root) (levelled n cells root))
+      go (some rest) p none q (some b) y true z = both-deep 129 n h (shallow n rest b p y z)
+
+  pub deepest-enough : (n : ℕ) {depth : ℕ} → depth ≡ deepest n → at depth ≡ at n
+  deepest-enough n e = rw e (go (ltb n 129) refl)
+    where
+      go : (b : Bool) → ltb n 129 ≡ b → at (pick b n 129) ≡ at n
+      go true x = refl
+      go false x = deep-enough n (ltb-false n 129 x)
