@@ -8,7 +8,7 @@ use Rattle.redblack.specs.Links.{Links}
 use Rattle.shape.specs.Tree
 use Rattle.shape.specs.Tree.{leaf, node, Meets, Level, Calm, colour, blacks}
 use Rattle.redblack.specs.Sided
-use Rattle.redblack.specs.Sided.{Sided, bare, fork, count, countIn, hit, Site, Way, plug}
+use Rattle.redblack.specs.Sided.{Sided, bare, fork, count, Site, Way, plug}
 use Rattle.redblack.specs.Balance.{RedBlack, Wants, Part, Outcome, void, dark, rosy, blackPart, redPart}
 use Rattle.redblack.specs.Holding.{Holds, RedBlackTree, plain}
 use Rattle.redblack.proofs.Frames.{cell-of, this-of, that-of}
@@ -41,13 +41,8 @@ plain-slots (fork rightward c a i b) = ap₂ (λ (x y : List ℕ). x ++ (i ∷ y
 pub sided-slots : (t : Tree.Tree) → Sided.slots (sided t) ≡ Tree.slots t
 sided-slots t = sym (plain-slots (sided t)) ∙ ap Tree.slots (plain-sided t)
 
-pub times-countIn : (k : ℕ) (l : List ℕ) → Tree.times k l ≡ countIn k l
-unfolding Tree.times countIn hit
-times-countIn k [] = refl
-times-countIn k (i ∷ l) = ap (λ (x : ℕ). hit k i + x) (times-countIn k l)
-
 pub plain-count : (k : ℕ) (t : Sided) → Tree.times k (Tree.slots (plain t)) ≡ count k t
-plain-count k t = times-countIn k (Tree.slots (plain t)) ∙ ap (countIn k) (plain-slots t) ∙ count-slots k t
+plain-count k t = ap (Tree.times k) (plain-slots t) ∙ count-slots k t
 
 -- The same words.
 hangs-plain : {n q : ℕ} {s : Links} (t : Sided) → Sided.Hangs n s q t → Tree.Hangs n (s .cells) q (plain t)

@@ -1,10 +1,12 @@
 -- The slots of the whole depend on the part in view only through its own slots, so a rotation keeps their order.
 use mathlib.Core.Path.{_≡_, refl, ap, sym}
-use mathlib.Core.List.{List, [], _∷_, _++_, append-assoc}
+use mathlib.Core.List.{List, [], _∷_, append-assoc}
 use Prim.Native.Nat.{ℕ, _+_}
 use native.Mathlib.Omega.{arith}
 use Rattle.slots.specs.Words.{Colour, Side, other, leftward, rightward}
-use Rattle.redblack.specs.Sided.{Sided, Way, plug, around, slots, hit, count, countIn, bare, fork, frame}
+use Rattle.shape.specs.Tree.{times}
+use Rattle.shape.proofs.Counting.{times-append}
+use Rattle.redblack.specs.Sided.{Sided, Way, plug, around, slots, hit, count, bare, fork, frame}
 
 pub slots-plug : (C : Way) (t u : Sided) → slots t ≡ slots u → slots (plug C t) ≡ slots (plug C u)
 unfolding slots plug
@@ -25,17 +27,12 @@ unfolding slots
 slots-turn σ C c a i b = slots-plug C (fork (other σ) c b i a) (fork σ c a i b) (around-turn σ (slots a) i (slots b))
 
 -- A slot stands in a tree as often as among its slots: the same slots, the same counts.
-countIn-append : (k : ℕ) (x y : List ℕ) → countIn k (x ++ y) ≡ countIn k x + countIn k y
-unfolding countIn
-countIn-append k [] y = omega arith
-countIn-append k (j ∷ x) y = omega (arith, countIn-append k x y)
+times-around : (k : ℕ) (σ : Side) (x : List ℕ) (i : ℕ) (y : List ℕ) → times k (around σ x i y) ≡ hit k i + times k x + times k y
+unfolding times hit
+times-around k leftward x i y = omega (arith, times-append k x (i ∷ y))
+times-around k rightward x i y = omega (arith, times-append k y (i ∷ x))
 
-countIn-around : (k : ℕ) (σ : Side) (x : List ℕ) (i : ℕ) (y : List ℕ) → countIn k (around σ x i y) ≡ hit k i + countIn k x + countIn k y
-unfolding countIn
-countIn-around k leftward x i y = omega (arith, countIn-append k x (i ∷ y))
-countIn-around k rightward x i y = omega (arith, countIn-append k y (i ∷ x))
-
-pub count-slots : (k : ℕ) (t : Sided) → countIn k (slots t) ≡ count k t
-unfolding countIn slots count
+pub count-slots : (k : ℕ) (t : Sided) → times k (slots t) ≡ count k t
+unfolding times hit slots count
 count-slots k bare = refl
-count-slots k (fork σ c a i b) = omega (arith, countIn-around k σ (slots a) i (slots b), count-slots k a, count-slots k b)
+count-slots k (fork σ c a i b) = omega (arith, times-around k σ (slots a) i (slots b), count-slots k a, count-slots k b)

@@ -27,7 +27,7 @@ use Rattle.redblack.proofs.Hanging.{planting}
 use Rattle.redblack.proofs.Whole.{leaving, leaving-spares, joining, joining-spares}
 use Rattle.redblack.proofs.Outside.{planting-spares}
 use Rattle.redblack.proofs.Kept.{place-aside, removed-keeps, inserted-keeps}
-use Rattle.redblack.proofs.Bridge.{sided, plain-sided, sided-slots, times-countIn, sited, plain-sound, outcome-of, plain-outcome}
+use Rattle.redblack.proofs.Bridge.{sided, plain-sided, sided-slots, sited, plain-sound, outcome-of, plain-outcome}
 use Rattle.redblack.proofs.Placing.{placed-empty, placed-in, placed-link}
 
 -- The slots of an outcome written another way.
@@ -59,13 +59,13 @@ spared {s = s} {t} j h e f = go (ℕ-discrete j null)
 -- A slot of the tree leaves it.
 pub slot-removed : {n : ℕ} {t : Tree} (m : ℕ) (s : Links) (p : ℕ) → Holds n s t → RedBlackTree t → Stands p t → n ≤ m → (u : Tree) × Holds n (removed m s p) u × RedBlackTree u × Less p (slots t) (slots u)
 slot-removed {t = t} m s p h v c l =
-    let w = leaving m p l (omega (arith, times-countIn p (slots t))) (outcome-of t h v) in
+    let w = leaving m p l (omega (arith)) (outcome-of t h v) in
     let o = plain-outcome (w .outcome) in
     (o .0, o .1, o .2, record { before = w .less .before; after = w .less .after; whole = w .less .whole; rest = o .3 ∙ w .less .rest })
 
 pub removed-spares : {n : ℕ} {t : Tree} (m : ℕ) (s : Links) (p j : ℕ) → Holds n s t → RedBlackTree t → Stands p t → Fresh j t → Agree s (removed m s p) j
 removed-spares {t = t} m s p j h v c z =
-    spared j h (removed-keeps place-aside m s p .long) (λ d. leaving-spares m p j (omega (arith, times-countIn p (slots t))) d (omega (arith, times-countIn j (slots t))) (outcome-of t h v))
+    spared j h (removed-keeps place-aside m s p .long) (λ d. leaving-spares m p j (omega (arith)) d (omega (arith)) (outcome-of t h v))
 
 -- A slot next to another is one slot more.
 beside-less : {l k : List ℕ} {q x : ℕ} (σ : Side) → Beside σ q x l k → Less x k l
@@ -100,7 +100,7 @@ slot-hung (node c a i b) m names s x hash key h v up none wx z e l =
     let g = placed-in m names hash key c a i b h up none l in
     rw (g .is)
     (grown names t (λ k. g .rises x k e)
-    (joining m x (g .slot) (g .side) l wx (omega (arith, times-countIn x (slots t))) (omega (arith, times-countIn (g .slot) (slots t), g .stands)) (g .free) (outcome-of t h v)))
+    (joining m x (g .slot) (g .side) l wx (omega (arith)) (omega (arith, g .stands)) (g .free) (outcome-of t h v)))
 
 pub hung-spares : {n : ℕ} (t : Tree) (m : ℕ) (names : List ℕ) (s : Links) (x hash key j : ℕ) → Holds n s t → RedBlackTree t → Rising names (slots t) → (Has names t hash key → ⊥) → x < n → Fresh x t → n ≤ m → j ≢ x → Fresh j t
     → Agree s (inserted m s x (placed m names s hash key)) j
@@ -112,4 +112,4 @@ hung-spares (node c a i b) m names s x hash key j h v up none wx z l d y =
     let g = placed-in m names hash key c a i b h up none l in
     spared j h (inserted-keeps place-aside m s x (placed m names s hash key) (placed-link m names s hash key) .long)
     (λ k. rw (g .is)
-    (joining-spares m x (g .slot) j (g .side) wx (omega (arith, times-countIn x (slots t))) (omega (arith, times-countIn (g .slot) (slots t), g .stands)) (g .free) k d (omega (arith, times-countIn j (slots t))) (outcome-of t h v)))
+    (joining-spares m x (g .slot) j (g .side) wx (omega (arith)) (omega (arith, g .stands)) (g .free) k d (omega (arith)) (outcome-of t h v)))

@@ -6,8 +6,9 @@ use Prim.Native.Nat.{ℕ, _<_, _≤_}
 use native.Mathlib.Omega.{arith}
 use native.Mathlib.Decide.{ℕ-discrete, decLe}
 use Rattle.slots.specs.Words.{null, Colour, Side, other, toward, red, leftward, rightward}
+use Rattle.shape.specs.Tree.{times}
 use Rattle.redblack.specs.Links.{Links, read}
-use Rattle.redblack.specs.Sided.{Sided, Way, plug, slots, count, countWay, countIn, Site, bare, fork}
+use Rattle.redblack.specs.Sided.{Sided, Way, plug, slots, count, countWay, Site, bare, fork}
 use Rattle.redblack.specs.Balance.{Part, Outcome, With, Without, atop, blackPart}
 use Rattle.redblack.specs.Hanging.{spot, inserted}
 use Rattle.redblack.specs.Removal.{removed}
@@ -59,19 +60,19 @@ reach {n} {s} {C} σ p (fork ρ c a i b) l h o =
     go (no d) (no u) f g = g (omega (arith, hit-ne d))
 
 -- Every slot of a whole is reached.
-pub reached : {n : ℕ} {s : Links} {l : List ℕ} (σ : Side) (p : ℕ) → 1 ≤ countIn p l → Outcome n s l → Reached n s σ p l
+pub reached : {n : ℕ} {s : Links} {l : List ℕ} (σ : Side) (p : ℕ) → 1 ≤ times p l → Outcome n s l → Reached n s σ p l
 unfolding plug
 reached {l = l} σ p c o =
-    let e : countIn p (slots (o .tree)) ≡ countIn p l = ap (countIn p) (o .same) in
+    let e : times p (slots (o .tree)) ≡ times p l = ap (times p) (o .same) in
     seen (o .same) (reach σ p (o .tree) (omega (arith, count-slots p (o .tree))) (o .site) (blackPart atop (o .sound)))
 
 -- A slot of the tree leaves it.
-pub leaving : {n : ℕ} {s : Links} {l : List ℕ} (m p : ℕ) → n ≤ m → 1 ≤ countIn p l → Outcome n s l → Without n (removed m s p) p l
+pub leaving : {n : ℕ} {s : Links} {l : List ℕ} (m p : ℕ) → n ≤ m → 1 ≤ times p l → Outcome n s l → Without n (removed m s p) p l
 leaving m p k c o = let r = reached leftward p c o in relisted (r .same) (removal-part m k (r .part) (r .site))
 
 -- The list counts as the tree does.
-counted : {l : List ℕ} (j : ℕ) (t : Sided) → slots t ≡ l → count j t ≡ countIn j l
-counted j t e = sym (count-slots j t) ∙ ap (countIn j) e
+counted : {l : List ℕ} (j : ℕ) (t : Sided) → slots t ≡ l → count j t ≡ times j l
+counted j t e = sym (count-slots j t) ∙ ap (times j) e
 
 -- A slot whose child on the side σ is null is bare there.
 bared : {n : ℕ} {s : Links} {σ : Side} {p : ℕ} {l : List ℕ} (r : Reached n s σ p l) → read s p (toward σ) ≡ null → r .near ≡ bare
@@ -90,14 +91,14 @@ record Open (n : ℕ) (s : Links) (σ : Side) (q : ℕ) (l : List ℕ) : Type 0 
   part : Part path (fork σ colour bare q far)
   same : slots (plug path (fork σ colour bare q far)) ≡ l
 
-open-at : {n : ℕ} {s : Links} {l : List ℕ} (σ : Side) (q : ℕ) → 1 ≤ countIn q l → read s q (toward σ) ≡ null → Outcome n s l → Open n s σ q l
+open-at : {n : ℕ} {s : Links} {l : List ℕ} (σ : Side) (q : ℕ) → 1 ≤ times q l → read s q (toward σ) ≡ null → Outcome n s l → Open n s σ q l
 open-at σ q c e o =
     let r = reached σ q c o in
     let b = bared r e in
     record { path = r .path; colour = r .colour; far = r .far; site = rw b at (r .site); part = rw b at (r .part); same = rw b at (r .same) }
 
 -- A slot that stands nowhere in the tree joins it at a null link.
-pub joining : {n : ℕ} {s : Links} {l : List ℕ} (m x q : ℕ) (σ : Side) → n ≤ m → x < n → countIn x l ≡ 0 → 1 ≤ countIn q l → read s q (toward σ) ≡ null → Outcome n s l → With n (inserted m s x (spot q (toward σ))) σ q x l
+pub joining : {n : ℕ} {s : Links} {l : List ℕ} (m x q : ℕ) (σ : Side) → n ≤ m → x < n → times x l ≡ 0 → 1 ≤ times q l → read s q (toward σ) ≡ null → Outcome n s l → With n (inserted m s x (spot q (toward σ))) σ q x l
 unfolding plug count countWay
 joining {l = l} m x q σ k wx fresh c e o =
     let r = open-at σ q c e o in
@@ -110,10 +111,10 @@ joining {l = l} m x q σ k wx fresh c e o =
     }
 
 -- A slot that neither is of the tree nor joins it keeps all its words.
-pub leaving-spares : {n : ℕ} {s : Links} {l : List ℕ} (m p j : ℕ) → 1 ≤ countIn p l → j ≢ null → countIn j l ≡ 0 → Outcome n s l → Agree s (removed m s p) j
+pub leaving-spares : {n : ℕ} {s : Links} {l : List ℕ} (m p j : ℕ) → 1 ≤ times p l → j ≢ null → times j l ≡ 0 → Outcome n s l → Agree s (removed m s p) j
 leaving-spares m p j c d z o = let r = reached leftward p c o in removal-spares (r .site) (record { solid = d; nowhere = counted j _ (r .same) ∙ z }) m
 
-pub joining-spares : {n : ℕ} {s : Links} {l : List ℕ} (m x q j : ℕ) (σ : Side) → x < n → countIn x l ≡ 0 → 1 ≤ countIn q l → read s q (toward σ) ≡ null → j ≢ null → j ≢ x → countIn j l ≡ 0 → Outcome n s l
+pub joining-spares : {n : ℕ} {s : Links} {l : List ℕ} (m x q j : ℕ) (σ : Side) → x < n → times x l ≡ 0 → 1 ≤ times q l → read s q (toward σ) ≡ null → j ≢ null → j ≢ x → times j l ≡ 0 → Outcome n s l
     → Agree s (inserted m s x (spot q (toward σ))) j
 unfolding plug count countWay
 joining-spares {l = l} m x q j σ wx fresh c e d jx z o =

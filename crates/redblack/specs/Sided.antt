@@ -45,7 +45,7 @@ unfoldable pub slots : Sided → List ℕ
 slots bare = []
 slots (fork σ c a i b) = around σ (slots a) i (slots b)
 
--- How often the slot k stands in a tree, in a way, and in a list.
+-- How often the slot k stands in a tree and in a way.
 unfoldable pub hit : ℕ → ℕ → ℕ
 hit i j = pick (eqb i j) 1 0
 
@@ -56,10 +56,6 @@ count k (fork σ c a i b) = hit k i + count k a + count k b
 unfoldable pub countWay : ℕ → Way → ℕ
 countWay k [] = 0
 countWay k (frame σ c i b ∷ C) = hit k i + count k b + countWay k C
-
-unfoldable pub countIn : ℕ → List ℕ → ℕ
-countIn k [] = 0
-countIn k (j ∷ l) = hit k j + countIn k l
 
 -- The cells are those of n slots, and null is none of them.
 pub record Cap (n : ℕ) (s : Links) : Type 0 where

@@ -14,11 +14,15 @@ abbrev pub then : Value → (ℕ → Value) → Value
 then (some v) rest = rest v
 then none rest = none
 
+-- Slot i is black or red.
+abbrev pub inUse : List ℕ → ℕ → Bool
+inUse cells i = pick (eqb (cell cells i state) 1) true (eqb (cell cells i state) 2)
+
 -- The slot i stands under q, is black or red, and its two children, if any, are two.
 unfoldable pub stands : List ℕ → ℕ → ℕ → Bool
 stands cells q i =
     pick (eqb (cell cells i parent) q)
-    (pick (pick (eqb (cell cells i state) 1) true (eqb (cell cells i state) 2))
+    (pick (inUse cells i)
     (pick (eqb (cell cells i left) null) true (pick (eqb (cell cells i left) (cell cells i right)) false true))
     false)
     false
@@ -49,12 +53,19 @@ risen (suc depth) names cells m i =
     (then (risen depth names cells m (cell cells i left))
     (λ k. pick (follows names k i) (risen depth names cells i (cell cells i right)) none))
 
+-- Slot i is not red, or none of its children is.
+abbrev pub quietly : List ℕ → ℕ → Bool
+quietly cells i =
+    pick (eqb (cell cells i state) 2)
+    (pick (eqb (cell cells (cell cells i left) state) 2) false (pick (eqb (cell cells (cell cells i right) state) 2) false true))
+    true
+
 -- T5: no red slot has a red child, from the link i down.
 unfoldable pub calmed : ℕ → List ℕ → ℕ → Bool
 calmed zero cells i = eqb i null
 calmed (suc depth) cells i =
     pick (eqb i null) true
-    (pick (pick (eqb (cell cells i state) 2) (pick (eqb (cell cells (cell cells i left) state) 2) false (pick (eqb (cell cells (cell cells i right) state) 2) false true)) true)
+    (pick (quietly cells i)
     (pick (calmed depth cells (cell cells i left)) (calmed depth cells (cell cells i right)) false)
     false)
 

@@ -13,10 +13,10 @@ use Rattle.slots.specs.Words.{null, pick, state, left, right, cell}
 use Rattle.slots.specs.Answers.{Value, none, some}
 use Rattle.slots.proofs.Laws.{some-is}
 use Rattle.shape.specs.Find.{slotsOf}
-use Rattle.shape.specs.Rules.{then, stands, reached, risen, calmed, levelled}
+use Rattle.shape.specs.Rules.{then, stands, reached, risen, calmed, levelled, quietly}
 use Rattle.shape.proofs.Reaching.{refuted}
 use Rattle.tree.proofs.Ruling.{rise-null, calm-null, level-null}
-use Rattle.tree.specs.Rules.{Judged, breaks, together, judged, quietly}
+use Rattle.tree.specs.Rules.{Judged, breaks, together, judged}
 
 -- A rule broken breaks all four.
 pub no-rise : (reach : Value) (calm : Bool) (level : Value) → breaks ≡ together reach none calm level

@@ -11,8 +11,7 @@ use borrow.Author.Tests.{eq-eqb, ne-eqb}
 use Rattle.slots.specs.Words.{null, pick, state, left, right, cell}
 use Rattle.slots.specs.Answers.{Value, none, some}
 use Rattle.slots.proofs.Laws.{some-is}
-use Rattle.shape.specs.Rules.{then, follows, risen, calmed, levelled}
-use Rattle.tree.specs.Rules.{quietly}
+use Rattle.shape.specs.Rules.{then, follows, risen, calmed, levelled, quietly}
 use Rattle.shape.proofs.Reaching.{refuted}
 
 module _ (names cells : List ℕ) (m i : ℕ) where

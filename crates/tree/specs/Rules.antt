@@ -1,9 +1,8 @@
 -- What the values of the shape check's enums mean.
-use mathlib.Core.Bool.{Bool, true, false}
+use mathlib.Core.Bool.{Bool}
 use mathlib.Core.List.{List}
 use Prim.Native.Nat.{ℕ}
-use lib.Dec.{eqb}
-use Rattle.slots.specs.Words.{pick, state, left, right, cell}
+use Rattle.slots.specs.Words.{pick}
 use Rattle.slots.specs.Answers.{Value, none, some}
 use Rattle.shape.specs.Find.{slotsOf}
 use Rattle.shape.specs.Rules.{reached, risen, calmed, levelled}
@@ -43,14 +42,3 @@ together reach rise calm level = told reach (λ rest. told rise (λ last. pick c
 abbrev pub judged : List ℕ → List ℕ → ℕ → ℕ → ℕ → ℕ → ℕ → Judged
 judged names cells q last i depth visits =
     together (reached visits (slotsOf names) cells q i visits) (risen depth names cells last i) (calmed depth cells i) (levelled depth cells i)
-
--- Slot i is not red, or none of its children is.
-abbrev pub quietly : List ℕ → ℕ → Bool
-quietly cells i =
-    pick (eqb (cell cells i state) 2)
-    (pick (eqb (cell cells (cell cells i left) state) 2) false (pick (eqb (cell cells (cell cells i right) state) 2) false true))
-    true
-
--- Slot i is black or red.
-abbrev pub inUse : List ℕ → ℕ → Bool
-inUse cells i = pick (eqb (cell cells i state) 1) true (eqb (cell cells i state) 2)

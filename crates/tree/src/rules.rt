@@ -15,8 +15,8 @@ use slots::name;
 ghost use mathlib.Core.Path.{_≡_};
 ghost use lib.Dec.{ltb};
 ghost use Rattle.slots.specs.Words.{pick};
-ghost use Rattle.shape.specs.Rules.{stands, follows, obeyed, treeSize};
-ghost use Rattle.tree.specs.Rules.{restOf, sizeOf, partOf, judged, inUse, quietly};
+ghost use Rattle.shape.specs.Rules.{stands, follows, obeyed, treeSize, inUse, quietly};
+ghost use Rattle.tree.specs.Rules.{restOf, sizeOf, partOf, judged};
 
 // Slot i is black or red.
 fn is_coloured(cells: &[u32], i: u32) -> bool
