@@ -46,7 +46,7 @@ fn by_hash(at: u64, left: u32, right: u32, hash: u64) -> u32
     if hash < at { left } else { right }
 }
 
-// The part f of slot p's name.
+// The part f of slot p's name, without the test of slots::name: find_tree_node has tested p.
 fn name_of(names: &[u64], p: u32, f: u32) -> u64
     requires { ⌜ 2 * p + f < length (now names) ⌝ }
     ensures { λ r. ⌜ r ≡ nameOf (now (names .entry)) p f ⌝ }
@@ -87,7 +87,7 @@ fn off(p: u32) -> Found
 }
 
 // The slot that has the pair (hash, key), from root down. Lost where a link followed is neither null nor a slot, and where
-// one slot more than there are would be visited. On a live tree null is past the slots, so that a visit tests its link once.
+// one slot more than there are would be visited.
 pub fn find_tree_node(names: &[u64], cells: &[u32], root: u32, hash: u64, key: u64) -> Found
     ensures { λ r. ⌜ answerOf r ≡ found (now (names .entry)) (now (cells .entry)) root hash key .answer ⌝ }
 {

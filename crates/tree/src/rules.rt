@@ -160,8 +160,8 @@ pub enum Rest {
     Wrong,
 }
 
-// So deep a tree that obeys the rules can be at most: 64 black slots on a way down have more slots than a word counts, and
-// between two black ones there is at most one red.
+// So deep a tree that obeys the rules can be at most: 65 black slots on each way down would take more slots than a word
+// counts, so a way has at most 64, with one red before, between and after them.
 const DEEPEST: usize = 129;
 
 // How deep a walk over n slots may have to go. Words that are no tree's end it there, so that it needs little stack.
