@@ -14,7 +14,7 @@ use Rattle.shape.proofs.Chaining.{chained-chain, chain-chained, chain-o
 use Rattle.shape.proofs.Rising.{rises-rising}
 use Rattle.shape.proofs.Colouring.{coloured-coloured}
 use Rattle.shape.proofs.Levelling.{level-level}
-use Rattle.shape.proofs.Sizing.{tree-size}
+use Rattle.shape.proofs.Sizing.{tree-size, obeyed-spent}
 
 look : (at own l r hash key : ℕ) → Looks at own l r hash key
 unfolding decided
@@ -44,6 +44,7 @@ rule-claims : (names cells : List ℕ) (few : slotsOf names ≤ null) (ends : le
 rule-claims names cells few ends root =
     record {
       size = λ m. tree-size names cells few ends root m;
+      spent = λ v rest. obeyed-spent names cells few ends root v rest;
       reaches = reached-rooted (slotsOf names) cells few root;
       reached-all = rooted-reached (slotsOf names) cells few root;
       one-tree = rooted-unique (slotsOf names) cells few root;

@@ -3,15 +3,15 @@ use mathlib.Core.Path.{_≡_, refl, ap, _∙_}
 use mathlib.Core.Logic.{_↔_}
 use mathlib.Core.Bool.{Bool, true, false}
 use mathlib.Core.List.{List}
-use Prim.Native.Nat.{ℕ, _-_, _*_, _≤_}
+use Prim.Native.Nat.{ℕ, _+_, _-_, _*_, _≤_}
 use native.Mathlib.Omega.{arith}
 use lib.ListN.{length}
 use Rattle.slots.specs.Words.{null, pick}
 use Rattle.slots.specs.Answers.{Value, none, some}
 use Rattle.shape.specs.Find.{slotsOf}
-use Rattle.shape.specs.Tree.{Shaped}
+use Rattle.shape.specs.Tree.{slots, Shaped}
 use Rattle.shape.specs.Rules.{then, reached, rises, coloured, level, obeyed, treeSize}
-use Rattle.shape.proofs.Reaching.{refuted, reached-rooted, rooted-reached, rooted-most}
+use Rattle.shape.proofs.Reaching.{refuted, reached-tree, tree-reached, rooted-most}
 use Rattle.shape.proofs.Rising.{rises-rising}
 use Rattle.shape.proofs.Colouring.{coloured-coloured}
 use Rattle.shape.proofs.Levelling.{level-level}
@@ -42,6 +42,37 @@ module _ (names cells : List ℕ) (root v rest : ℕ) where
   unfolding obeyed
   each-obeyed h = rw (h .reaches, h .rise, h .hues, h .even)
 
+module _ (names cells : List ℕ) (small : slotsOf names ≤ null) (ends : length cells ≤ 7 * null) (root v rest : ℕ) where
+  obeyed-shaped : obeyed names cells root v ≡ some rest → (m : ℕ) × Shaped names cells root m × (m + rest ≡ v)
+  obeyed-shaped e =
+      let o = obeyed-each names cells root v rest e in
+      let h = reached-tree (slotsOf names) cells small root v rest (o .reaches) in (
+        length (slots (h .0)),
+        record {
+          tree = h .0;
+          rooted = h .1;
+          rising = rises-rising names cells small root (h .1) .0 (o .rise);
+          coloured = coloured-coloured (slotsOf names) cells small ends root (h .1) .0 (o .hues);
+          level = level-level (slotsOf names) cells small root (h .1) .0 (o .even);
+          size = refl;
+        },
+        h .2,
+      )
+
+  shaped-obeyed : (m : ℕ) × Shaped names cells root m × (m + rest ≡ v) → obeyed names cells root v ≡ some rest
+  shaped-obeyed k =
+      let h = k .1 in
+      let z : v - length (slots (h .tree)) ≡ rest = omega (arith, h .size, k .2) in
+      each-obeyed names cells root v rest (record {
+        reaches = tree-reached (slotsOf names) cells small root v (h .rooted) (omega (arith, h .size, k .2)) ∙ ap some z;
+        rise = rises-rising names cells small root (h .rooted) .1 (h .rising);
+        hues = coloured-coloured (slotsOf names) cells small ends root (h .rooted) .1 (h .coloured);
+        even = level-level (slotsOf names) cells small root (h .rooted) .1 (h .level);
+      })
+
+  pub obeyed-spent : (obeyed names cells root v ≡ some rest) ↔ ((m : ℕ) × Shaped names cells root m × (m + rest ≡ v))
+  obeyed-spent = (obeyed-shaped, shaped-obeyed)
+
 module _ (names cells : List ℕ) (small : slotsOf names ≤ null) (ends : length cells ≤ 7 * null) (root m : ℕ) where
   size-shaped : treeSize names cells root ≡ some m → Shaped names cells root m
   unfolding treeSize
@@ -50,28 +81,17 @@ module _ (names cells : List ℕ) (small : slotsOf names ≤ null) (ends : lengt
       go : (o : Value) → obeyed names cells root (slotsOf names) ≡ o → then o (λ rest. some (slotsOf names - rest)) ≡ some m → Shaped names cells root m
       go none p e = refuted e
       go (some rest) p e =
-          let o = obeyed-each names cells root (slotsOf names) rest p in
-          let h = reached-rooted (slotsOf names) cells small root rest (o .reaches) in
+          let k = obeyed-shaped names cells small ends root (slotsOf names) rest p in
           let s : slotsOf names - rest ≡ m = cc in
-          record {
-            tree = h .0;
-            rooted = h .1;
-            rising = rises-rising names cells small root (h .1) .0 (o .rise);
-            coloured = coloured-coloured (slotsOf names) cells small ends root (h .1) .0 (o .hues);
-            level = level-level (slotsOf names) cells small root (h .1) .0 (o .even);
-            size = omega (arith, h .2, s);
-          }
+          let z : k .0 ≡ m = omega (arith, k .2, s) in
+          rw (← z) (k .1)
 
   shaped-size : Shaped names cells root m → treeSize names cells root ≡ some m
-  unfolding treeSize obeyed
+  unfolding treeSize
   shaped-size h =
-      rw (
-        rooted-reached (slotsOf names) cells small root (h .rooted),
-        rises-rising names cells small root (h .rooted) .1 (h .rising),
-        coloured-coloured (slotsOf names) cells small ends root (h .rooted) .1 (h .coloured),
-        level-level (slotsOf names) cells small root (h .rooted) .1 (h .level),
-      )
-      (ap some (omega (arith, rooted-most (slotsOf names) cells small root (h .rooted), h .size)))
+      let most = rooted-most (slotsOf names) cells small root (h .rooted) in
+      rw (shaped-obeyed names cells small ends root (slotsOf names) (slotsOf names - m) (m, h, omega (arith, most, h .size)))
+      (ap some (omega (arith, most, h .size)))
 
   pub tree-size : (treeSize names cells root ≡ some m) ↔ Shaped names cells root m
   tree-size = (size-shaped, shaped-size)

@@ -10,7 +10,7 @@ use Rattle.slots.specs.Answers.{some, given, nothing, refused}
 use Rattle.shape.specs.Find.{here, on, decided, slotsOf, found, Follows, Lost, Here, Missed}
 use Rattle.shape.specs.Check.{test, firstFailing, passed, failed, strayed, checked, Back, Child, LeftHash, RightHash, NotAllRed, Walks}
 use Rattle.shape.specs.Tree.{Tree, slots, times, Rooted, Rising, Coloured, Level, Shaped}
-use Rattle.shape.specs.Rules.{reached, rises, coloured, level, treeSize}
+use Rattle.shape.specs.Rules.{reached, rises, coloured, level, obeyed, treeSize}
 use Rattle.shape.specs.Chain.{Chain, chained}
 
 -- "Find is find_tree_node": what a look at a slot says, clause by clause. `at` and `own` are the slot's hash and key, l and r its children.
@@ -69,6 +69,8 @@ pub record Checks (names cells : List ℕ) (root : ℕ) : Type 0 where
 -- The rules of one tree, on words in which slot null has no word: the check gives the number of slots exactly of a tree that obeys T3 to T6.
 pub record Rules (names cells : List ℕ) (few : slotsOf names ≤ null) (ends : length cells ≤ 7 * null) (root : ℕ) : Type 0 where
   pub size : (m : ℕ) → (treeSize names cells root ≡ some m) ↔ Shaped names cells root m
+  -- so with any number of visits: a visit a slot
+  pub spent : (v rest : ℕ) → (obeyed names cells root v ≡ some rest) ↔ ((m : ℕ) × Shaped names cells root m × (m + rest ≡ v))
   -- T3 alone, with the visits that its walk leaves; and the tree is the only one
   pub reaches : (rest : ℕ) → reached (slotsOf names) (slotsOf names) cells null root (slotsOf names) ≡ some rest
       → (t : Tree) × Rooted (slotsOf names) cells root t × (length (slots t) + rest ≡ slotsOf names)

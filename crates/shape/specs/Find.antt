@@ -13,16 +13,14 @@ pub data Look : Type 0 where
   here : Look
   on : ℕ → Look
 
--- "hash greater goes left, less goes right; on equal hash an equal key is the answer; else a null left goes right,
--- a null right goes left, else keys are compared". `at` and `own` are the slot's hash and key.
+-- "on equal hash an equal key is the answer; else a null left goes right, a null right goes left, else keys are compared".
+-- `own` is the slot's key.
+abbrev pub byKey : ℕ → ℕ → ℕ → ℕ → Look
+byKey own l r key = pick (eqb own key) here (pick (eqb l null) (on r) (pick (eqb r null) (on l) (pick (ltb key own) (on l) (on r))))
+
+-- "hash greater goes left, less goes right". `at` is the slot's hash.
 unfoldable pub decided : ℕ → ℕ → ℕ → ℕ → ℕ → ℕ → Look
-decided at own l r hash key =
-    pick (ltb hash at) (on l)
-    (pick (ltb at hash) (on r)
-    (pick (eqb own key) here
-    (pick (eqb l null) (on r)
-    (pick (eqb r null) (on l)
-    (pick (ltb key own) (on l) (on r))))))
+decided at own l r hash key = pick (ltb hash at) (on l) (pick (ltb at hash) (on r) (byKey own l r key))
 
 unfoldable pub looked : List ℕ → List ℕ → ℕ → ℕ → ℕ → Look
 looked names cells p hash key =

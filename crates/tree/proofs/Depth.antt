@@ -16,7 +16,7 @@ use Rattle.shape.specs.Find.{slotsOf}
 use Rattle.shape.specs.Rules.{then, stands, reached, risen, calmed, levelled, quietly}
 use Rattle.shape.proofs.Reaching.{refuted}
 use Rattle.tree.proofs.Ruling.{rise-null, calm-null, level-null}
-use Rattle.tree.specs.Rules.{Judged, breaks, together, judged}
+use Rattle.tree.specs.Rules.{Judged, breaks, together, judged, deepestOf}
 
 -- A rule broken breaks all four.
 pub no-rise : (reach : Value) (calm : Bool) (level : Value) → breaks ≡ together reach none calm level
@@ -213,10 +213,6 @@ module _ (n : ℕ) (cells : List ℕ) where
       (sized depth (t .fuel) i (cell cells i left) (v - 1) (t .between) (k .half) (t .lefts) (k .lefts))
       (sized depth (t .fuel) i (cell cells i right) (t .between) rest (k .half) (t .rights) (k .rights))))
 
--- So deep a walk may go, over n slots: a word counts fewer than 2 to the 64 visits.
-abbrev pub deepest : ℕ → ℕ
-deepest n = pick (ltb n 129) n 129
-
 module _ (names cells : List ℕ) (root visits : ℕ) (few : visits < 18446744073709551616) where
   abbrev at : ℕ → Judged
   at depth = judged names cells null null root depth visits
@@ -244,7 +240,7 @@ module _ (names cells : List ℕ) (root visits : ℕ) (few : visits < 1844674407
       go (some rest) p none q (some b) y false z = rw (q, z) (sym (no-level (reached visits (slotsOf names) cells null root visits) (risen 129 names cells null root) (calmed 129 cells root)) ∙ no-calm (reached visits (slotsOf names) cells null root visits) (risen n names cells null root) (levelled n cells root))
       go (some rest) p none q (some b) y true z = both-deep 129 n h (shallow n rest b p y z)
 
-  pub deepest-enough : (n : ℕ) {depth : ℕ} → depth ≡ deepest n → at depth ≡ at n
+  pub deepest-enough : (n : ℕ) {depth : ℕ} → depth ≡ deepestOf n → at depth ≡ at n
   deepest-enough n e = rw e (go (ltb n 129) refl)
     where
       go : (b : Bool) → ltb n 129 ≡ b → at (pick b n 129) ≡ at n

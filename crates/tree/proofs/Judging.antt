@@ -13,8 +13,8 @@ use Rattle.shape.specs.Find.{slotsOf}
 use Rattle.shape.specs.Rules.{then, isSome, stands, reached, follows, risen, calmed, levelled, rises, coloured, level, obeyed, quietly}
 use Rattle.shape.proofs.Sizing.{obeyed-each}
 use Rattle.shape.proofs.Visits.{reached-within, reached-fuel, reach-null, reach-outside, reach-spent, reach-wrong, reach-on}
-use Rattle.tree.specs.Rules.{Judged, obeys, breaks, together, judged}
-use Rattle.tree.proofs.Depth.{no-rise, no-calm, no-level, deepest, deepest-enough}
+use Rattle.tree.specs.Rules.{Judged, obeys, breaks, together, judged, deepestOf}
+use Rattle.tree.proofs.Depth.{no-rise, no-calm, no-level, deepest-enough}
 use Rattle.tree.proofs.Ruling.{rise-null, rise-zero, rise-on, calm-null, calm-on, level-null, level-on, level-bound}
 
 -- What comes after a part, where it breaks no rule.
@@ -167,7 +167,7 @@ module _ (names cells : List ℕ) (root visits : ℕ) where
   unfolding obeyed coloured
   red-root x e = rw (← x, e) (unasked (reached visits (slotsOf names) cells null root visits) (rises names cells root) none)
 
-  pub black-root : {red : Bool} → red ≡ eqb (cell cells root state) 2 → red ≡ false → visits < 18446744073709551616 → {depth : ℕ} → depth ≡ deepest (slotsOf names)
+  pub black-root : {red : Bool} → red ≡ eqb (cell cells root state) 2 → red ≡ false → visits < 18446744073709551616 → {depth : ℕ} → depth ≡ deepestOf (slotsOf names)
       → restLeft (judged names cells null null root depth visits) ≡ obeyed names cells root visits
   unfolding obeyed rises coloured level
   black-root x e few d =

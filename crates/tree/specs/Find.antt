@@ -1,7 +1,4 @@
 -- What the values of this crate's enums mean.
-use Prim.Native.Nat.{ℕ}
-use lib.Dec.{eqb, ltb}
-use Rattle.slots.specs.Words.{null, pick}
 use Rattle.slots.specs.Answers.{Answer, given, nothing, refused}
 use Rattle.shape.specs.Find.{Look, here, on}
 use Rattle.tree.specs.declared.find.Seen.{Seen}
@@ -12,10 +9,6 @@ use Rattle.tree.specs.declared.find.Found.the-variants.{At, Nothing, Los
 abbrev pub seenOf : Seen → Look
 seenOf Here = here
 seenOf (On q) = on q
-
--- What a look says at a slot of the same hash: the end of `decided`.
-abbrev pub byKey : ℕ → ℕ → ℕ → ℕ → Look
-byKey own l r key = pick (eqb own key) here (pick (eqb l null) (on r) (pick (eqb r null) (on l) (pick (ltb key own) (on l) (on r))))
 
 -- 01's number and value of each answer.
 abbrev pub answerOf : Found → Answer

@@ -2,6 +2,7 @@
 use mathlib.Core.Bool.{Bool}
 use mathlib.Core.List.{List}
 use Prim.Native.Nat.{ℕ}
+use lib.Dec.{ltb}
 use Rattle.slots.specs.Words.{pick}
 use Rattle.slots.specs.Answers.{Value, none, some}
 use Rattle.shape.specs.Find.{slotsOf}
@@ -42,3 +43,7 @@ together reach rise calm level = told reach (λ rest. told rise (λ last. pick c
 abbrev pub judged : List ℕ → List ℕ → ℕ → ℕ → ℕ → ℕ → ℕ → Judged
 judged names cells q last i depth visits =
     together (reached visits (slotsOf names) cells q i visits) (risen depth names cells last i) (calmed depth cells i) (levelled depth cells i)
+
+-- So deep the walk over n slots may go.
+abbrev pub deepestOf : ℕ → ℕ
+deepestOf n = pick (ltb n 129) n 129

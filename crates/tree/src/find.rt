@@ -11,8 +11,8 @@ ghost use lib.ListN.{length};
 ghost use lib.Dec.{eqb, ltb};
 ghost use Rattle.slots.specs.Words.{null, pick, nameOf};
 ghost use Rattle.slots.specs.Answers.{nothing, refused};
-ghost use Rattle.shape.specs.Find.{slotsOf, looked, found};
-ghost use Rattle.tree.specs.Find.{seenOf, byKey, answerOf};
+ghost use Rattle.shape.specs.Find.{byKey, slotsOf, looked, found};
+ghost use Rattle.tree.specs.Find.{seenOf, answerOf};
 
 // What a look at a slot says: the pair is here, or the search goes on along a link.
 enum Seen {

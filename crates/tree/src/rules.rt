@@ -13,10 +13,8 @@ use slots::get;
 use slots::is_red;
 use slots::name;
 ghost use mathlib.Core.Path.{_≡_};
-ghost use lib.Dec.{ltb};
-ghost use Rattle.slots.specs.Words.{pick};
 ghost use Rattle.shape.specs.Rules.{stands, follows, obeyed, treeSize, inUse, quietly};
-ghost use Rattle.tree.specs.Rules.{restOf, sizeOf, partOf, judged};
+ghost use Rattle.tree.specs.Rules.{restOf, sizeOf, partOf, judged, deepestOf};
 
 // Slot i is black or red.
 fn is_coloured(cells: &[u32], i: u32) -> bool
@@ -166,7 +164,7 @@ const DEEPEST: usize = 129;
 
 // How deep a walk over n slots may have to go. Words that are no tree's end it there, so that it needs little stack.
 fn deepest(n: usize) -> usize
-    ensures { λ r. ⌜ r ≡ pick (ltb n 129) n 129 ⌝ }
+    ensures { λ r. ⌜ r ≡ deepestOf n ⌝ }
 {
     if n < DEEPEST { n } else { DEEPEST }
 }
