@@ -1,5 +1,5 @@
 //! Times in one run and on the same inputs: the exports, the source's own routines, and BTreeMap. Each figure is the best of the rounds.
-use harness::oz::{Index, NULL};
+use harness::oz::{Index, Set, NULL};
 use harness::rng::Rng;
 use harness::sets;
 use harness::source::{Bin, Tables, Walk};
@@ -38,6 +38,23 @@ fn row(name: &str, ours: f64, source: Option<f64>, map: Option<f64>) {
     let ratio = |x: Option<f64>| x.map_or("-".into(), |x| format!("{:.2}", ours / x));
     let ns = |x: Option<f64>| x.map_or("-".into(), |x| format!("{x:.1}"));
     println!("| {name} | {ours:.1} | {} | {} | {} | {} |", ns(source), ns(map), ratio(source), ratio(map));
+}
+
+/// The acceptance of a set beside one walk of a BTreeMap of its pairs.
+fn accept_row(name: &str, times: usize, set: &Set) {
+    let n = set.names.len() / 2;
+    let map: BTreeMap<(u64, u64), u32> = (0..n).map(|i| ((set.names[2 * i], set.names[2 * i + 1]), i as u32)).collect();
+    let accept = best(times, || {
+        for _ in 0..times {
+            assert_eq!(black_box(set.accept()).value, 1);
+        }
+    });
+    let walk = best(times, || {
+        for _ in 0..times {
+            black_box(map.iter().fold(0u64, |a, ((h, k), v)| a ^ h ^ k ^ *v as u64));
+        }
+    });
+    row(name, accept, None, Some(walk));
 }
 
 fn main() {
@@ -197,15 +214,8 @@ fn main() {
         }
     });
     row(&format!("a whole walk from table 0, for each of {n} entries"), ours, Some(source), Some(btree));
-    let accept = best(times, || {
-        for _ in 0..times {
-            assert_eq!(black_box(set.accept()).value, 1);
-        }
-    });
-    let walk = best(times, || {
-        for _ in 0..times {
-            black_box(map.iter().fold(0u64, |a, ((h, k), v)| a ^ h ^ k ^ *v as u64));
-        }
-    });
-    row(&format!("acceptance of that set (BTreeMap: one walk of {n})"), accept, None, Some(walk));
+    accept_row(&format!("acceptance of that set (BTreeMap: one walk of {n})"), times, &set);
+    // Where acceptance has the most to do: each slot of a list is compared with those after it, and each bin has a tree of its own.
+    accept_row("acceptance of 4096 slots in one list", 1, &sets::one_list(&mut rng, 4096));
+    accept_row("acceptance of 4096 bins, each a tree of one slot", times, &sets::lone_trees(&mut rng, 4096));
 }

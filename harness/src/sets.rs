@@ -88,3 +88,34 @@ pub fn small(rng: &mut Rng) -> Set {
     let spare = rng.below(3) as usize;
     draw(rng, tables, first, entries, spare)
 }
+
+/// One bin, whose list has n slots of one hash, in a drawn order.
+pub fn one_list(rng: &mut Rng, n: usize) -> Set {
+    let mut order: Vec<u32> = (0..n as u32).collect();
+    rng.shuffle(&mut order);
+    let cells = Index::new(n, 0).cells;
+    let mut s = Set { lengths: vec![1], bins: vec![2 + order[0]], heads: Vec::new(), names: vec![0; 2 * n], cells };
+    for (i, at) in order.iter().enumerate() {
+        let at = *at as usize;
+        s.names[2 * at + 1] = i as u64;
+        s.cells[7 * at + oz::STATE] = 1;
+        s.cells[7 * at + oz::NEXT] = order.get(i + 1).copied().unwrap_or(NULL);
+    }
+    s
+}
+
+/// One table of n bins, a power of two, each a tree of one slot; the slots stand in a drawn order.
+pub fn lone_trees(rng: &mut Rng, n: usize) -> Set {
+    let mut order: Vec<u32> = (0..n as u32).collect();
+    rng.shuffle(&mut order);
+    let cells = Index::new(n, 0).cells;
+    let mut s = Set { lengths: vec![n as u32], bins: Vec::new(), heads: Vec::new(), names: vec![0; 2 * n], cells };
+    for (i, at) in order.into_iter().enumerate() {
+        s.bins.push(4098 + i as u32);
+        s.heads.extend([at, at, 1]);
+        s.names[2 * at as usize] = i as u64 + n as u64 * rng.below(1 << 20);
+        s.names[2 * at as usize + 1] = rng.next();
+        s.cells[7 * at as usize + oz::STATE] = 1;
+    }
+    s
+}

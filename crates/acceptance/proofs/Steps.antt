@@ -1,25 +1,21 @@
--- What one step of each walk comes to: at null or at the end, with no visits left, and at a slot, a word, a header or a bin.
-use mathlib.Core.Path.{_≡_, refl, ap, sym, _∙_}
+-- What one step of each walk comes to: at null or at the end, with no visits left, and at a slot, a header or a bin.
+use mathlib.Core.Path.{_≡_, refl, sym, _∙_}
 use mathlib.Core.Logic.{_≢_}
 use mathlib.Core.Bool.{Bool, true, false}
 use mathlib.Core.List.{List, []}
 use Prim.Native.Nat.{ℕ, zero, suc, _+_, _-_, _*_, _<_, _≤_}
 use native.Mathlib.Numerals.{sub-one, add-one}
-use native.Mathlib.Decide.{ℕ-discrete}
 use native.Mathlib.Omega.{arith}
-use lib.ListN.{length, getD}
-use lib.Bits.{and-zero-r}
-use lib.Dec.{eqb}
+use lib.ListN.{getD}
 use borrow.Author.Tests.{eq-eqb, ne-eqb}
-use Rattle.slots.specs.Words.{null, pick, left, right, next, cell, nameOf, hashPart}
-use Rattle.slots.specs.Answers.{Answer, Value, none, some, given, refused}
-use Rattle.slots.proofs.Laws.{some-is}
+use Rattle.slots.specs.Words.{null, pick, left, right, next, cell}
+use Rattle.slots.specs.Answers.{Value, none, some}
 use Rattle.shape.specs.Rules.{then}
-use Rattle.sets.specs.Words.{Set, fits, tablesOf, lengthAt, Bin, empty, moved, bad, list, tree, binAt, bini}
-use Rattle.sets.specs.Accepting.{isHome, samePair, unlike, listSlotFine, listFine, treeHome, anyWord, isBlank, headerFine, headersFine, treeFine, placed, ownFine, isMoved, binAsks, binFine, belowFine, tableFine}
+use Rattle.sets.specs.Words.{Set, fits, tablesOf, lengthAt, Bin, empty, moved, bad, list, tree, binAt}
+use Rattle.sets.specs.Accepting.{isHome, samePair, unlike, listSlotFine, listFine, treeHome, isBlank, filled, namesHeader}
+use Rattle.sets.specs.Accepting.{treeFine, placed, ownFine, isMoved, binAsks, binFine, belowFine, tableFine}
 use Rattle.sets.proofs.Fit.{fits-fit, length-bound}
 use Rattle.sets.proofs.Forest.{row-found}
-use Rattle.bins.specs.Answers.{binis}
 use Rattle.acceptance.specs.Room.{Room}
 
 -- The numbers of the recursion stay within their words.
@@ -29,27 +25,6 @@ room-near r d = record { tables = omega (arith, r .tables); index = omega (arith
 pub room-far : {lengths : List ℕ} {left k i len : ℕ} → Room lengths left k i → left ≢ 0 → len ≡ getD lengths k 0 → Room lengths (left - 1) (k + 1) (i + len)
 room-far {k = k} r d e =
     record { tables = omega (arith, r .tables); index = omega (arith, r .index, r .lengths-most k); lengths-most = r .lengths-most }
-
--- The bin that a hash names, and where there is none the mask is 0.
-module _ (names : List ℕ) (len i x : ℕ) {hash : ℕ} (e : hash ≡ nameOf names x hashPart) where
-  pub home-bin : {j : ℕ} → given j ≡ binis len hash → eqb j i ≡ isHome names len i x
-  unfolding isHome binis
-  home-bin {j} h = go (ℕ-discrete len 0)
-    where
-      go : Dec (len ≡ 0) → eqb j i ≡ eqb (bini len (nameOf names x hashPart)) i
-      go (yes z) = absurd (omega (arith, ap (λ (a : Answer). a .number) (rw (eq-eqb len 0 z) at h)))
-      go (no d) =
-          let f : given j ≡ given (bini len hash) = rw (ne-eqb len 0 d) at h in
-          let g : j ≡ bini len hash = some-is (ap (λ (a : Answer). a .value) f) in
-          rw (← e, g)
-
-  pub home-none : refused 1 ≡ binis len hash → eqb 0 i ≡ isHome names len i x
-  unfolding isHome binis bini
-  home-none h = go (ℕ-discrete len 0)
-    where
-      go : Dec (len ≡ 0) → eqb 0 i ≡ eqb (bini len (nameOf names x hashPart)) i
-      go (yes z) = rw z (ap (λ (j : ℕ). eqb j i) (sym (and-zero-r (nameOf names x hashPart))))
-      go (no d) = absurd (omega (arith, ap (λ (a : Answer). a .number) (rw (ne-eqb len 0 d) at h)))
 
 module _ (names cells : List ℕ) (x y : ℕ) where
   pub unlike-null : (v : ℕ) → y ≡ null → true ≡ unlike v names cells x y
@@ -114,49 +89,31 @@ module _ (names cells : List ℕ) (len i x : ℕ) where
   home-on zero d n = absurd (n refl)
   home-on (suc depth) d n = rw (ne-eqb x null d, sub-one)
 
-module _ (bins : List ℕ) (w : ℕ) where
-  pub any-none : (p : ℕ) → p ≤ 0 → false ≡ anyWord p bins w
-  unfolding anyWord
-  any-none zero h = refl
-  any-none (suc p) h = absurd (omega arith)
+-- Each thing counted is counted once at most.
+pub filled-one : (heads : List ℕ) (h : ℕ) → filled heads h ≤ 1
+filled-one heads h = go (isBlank (getD heads (3 * h) null) (getD heads (3 * h + 1) null) (getD heads (3 * h + 2) null))
+  where
+    go : (b : Bool) → pick b 0 1 ≤ 1
+    go true = omega arith
+    go false = omega arith
 
-  pub any-here : (p : ℕ) → 0 < p → getD bins (p - 1) 0 ≡ w → true ≡ anyWord p bins w
-  unfolding anyWord
-  any-here zero h e = absurd (omega arith)
-  any-here (suc p) h e = let g = rw sub-one at e in rw (eq-eqb (getD bins p 0) w g)
+pub names-one : (b : Bin) → namesHeader b ≤ 1
+names-one empty = omega arith
+names-one moved = omega arith
+names-one bad = omega arith
+names-one (list a) = omega arith
+names-one (tree h) = omega arith
 
-  pub any-on : (p : ℕ) → 0 < p → getD bins (p - 1) 0 ≢ w → anyWord (p - 1) bins w ≡ anyWord p bins w
-  unfolding anyWord
-  any-on zero h d = absurd (omega arith)
-  any-on (suc p) h d = let g : getD bins p 0 ≢ w = rw sub-one at d in rw (sub-one, ne-eqb (getD bins p 0) w g)
-
-module _ (heads bins : List ℕ) where
-  module _ (h : ℕ) {root first count : ℕ} (e : root ≡ getD heads (3 * h + 0) null) (f : first ≡ getD heads (3 * h + 1) null) (g : count ≡ getD heads (3 * h + 2) null) {b : Bool} (k : b ≡ isBlank root first count) where
-    blank-is : isBlank (getD heads (3 * h) null) (getD heads (3 * h + 1) null) (getD heads (3 * h + 2) null) ≡ b
-    blank-is = let z : 3 * h + 0 ≡ 3 * h = omega arith in let y = rw z at e in rw (← y, ← f, ← g, ← k)
-
-    pub header-blank : b ≡ true → true ≡ headerFine heads bins h
-    unfolding headerFine
-    header-blank l = rw (blank-is, l)
-
-    pub header-named : b ≡ false → {r : Bool} → r ≡ anyWord (length bins) bins (4098 + h) → r ≡ headerFine heads bins h
-    unfolding headerFine
-    header-named l n = rw (blank-is, l, n)
-
-  pub headers-none : (h : ℕ) → h ≤ 0 → true ≡ headersFine h heads bins
-  unfolding headersFine
-  headers-none zero b = refl
-  headers-none (suc h) b = absurd (omega arith)
-
-  pub headers-not : (h : ℕ) → 0 < h → {r : Bool} → r ≡ headerFine heads bins (h - 1) → r ≡ false → false ≡ headersFine h heads bins
-  unfolding headersFine
-  headers-not zero b e f = absurd (omega arith)
-  headers-not (suc h) b e f = let g = rw sub-one at e in rw (← g, f)
-
-  pub headers-on : (h : ℕ) → 0 < h → {r : Bool} → r ≡ headerFine heads bins (h - 1) → r ≡ true → headersFine (h - 1) heads bins ≡ headersFine h heads bins
-  unfolding headersFine
-  headers-on zero b e f = absurd (omega arith)
-  headers-on (suc h) b e f = let g = rw sub-one at e in rw (sub-one, ← g, f)
+-- A header is blank or not by the three words that were read.
+pub filled-read : (heads : List ℕ) (h : ℕ) {root first count : ℕ}
+    → root ≡ getD heads (3 * h + 0) null
+    → first ≡ getD heads (3 * h + 1) null
+    → count ≡ getD heads (3 * h + 2) null
+    → {b : Bool} → b ≡ isBlank root first count → {r : ℕ} → r ≡ pick b 0 1 → r ≡ filled heads h
+filled-read heads h e f g k l =
+    let z : 3 * h + 0 ≡ 3 * h = omega arith in
+    let y = rw z at e in
+    rw (← y, ← f, ← g, ← k) l
 
 module _ (s : Set) where
   -- A tree bin reads the three words of its header.

@@ -66,8 +66,8 @@ fn is_accepted(lengths: &[u32], bins: &[u32], heads: &[u32], names: &[u64], cell
         return false;
     }
     let h = heads.len() / 3;
-    let blank = headers_fine(heads, bins, h as u32);
-    if !blank {
+    let counted = headers_fine(heads, bins, n, h as u32);
+    if !counted {
         return false;
     }
     all_held(lengths, bins, heads, names, cells)

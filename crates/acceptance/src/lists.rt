@@ -1,6 +1,5 @@
 // The check of a bin's list: it ends and repeats no pair, and its slots are a list's and in the bin that their hashes name.
-use bins::bin::Home;
-use bins::bin::bini;
+use bins::bin::index;
 use slots::BLACK;
 use slots::HASH;
 use slots::KEY;
@@ -19,16 +18,12 @@ ghost use Rattle.tree.specs.Rules.{restOf};
 ghost use Rattle.sets.specs.Accepting.{isHome, isListSlot, samePair, listSlotFine, listFine};
 ghost use Rattle.sets.specs.Accepting.{unlike as differs};
 
-// The hash of slot x names bin i of a table of so many bins. With none the mask is 0, and so is the bin.
+// The hash of slot x names bin i of a table of so many bins.
 pub(crate) fn is_home(names: &[u64], length: u32, i: u32, x: u32) -> bool
     ensures { λ r. ⌜ r ≡ isHome (now (names .entry)) length i x ⌝ }
 {
     let hash = name(names, x, HASH);
-    let home = bini(length, hash);
-    match home {
-        Home::Bin(j) => j == i,
-        Home::Unfit => 0 == i,
-    }
+    index(length, hash) == i
 }
 
 // Slot x has state 1 and only its next link set.

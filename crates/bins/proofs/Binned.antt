@@ -1,10 +1,15 @@
--- What each way out of the decision on a bin's word says, by the tests that led there.
-use mathlib.Core.Path.{_≡_}
+-- What each way out of the decision on a bin's word says, by the tests that led there, and the index that `bini`'s answer comes to.
+use mathlib.Core.Path.{_≡_, ap, sym, _∙_}
 use mathlib.Core.Logic.{_≢_}
 use Prim.Native.Nat.{ℕ, _-_, _<_, _≤_}
+use native.Mathlib.Decide.{ℕ-discrete}
 use native.Mathlib.Omega.{arith}
 use borrow.Author.Tests.{eq-eqb, ne-eqb, le-leb, lt-leb, lt-ltb, le-ltb}
-use Rattle.sets.specs.Words.{empty, moved, list, tree, bad, binOf}
+use Rattle.slots.specs.Answers.{Answer, given, refused}
+use Rattle.slots.proofs.Laws.{some-is}
+use Rattle.sets.specs.Words.{empty, moved, list, tree, bad, binOf, bini}
+use Rattle.bins.specs.Answers.{binis}
+use Rattle.bins.proofs.Claims.{claims}
 
 module _ (n h w : ℕ) where
   pub zero-empty : w ≡ 0 → empty ≡ binOf n h w
@@ -35,3 +40,14 @@ module _ (n h w : ℕ) where
     pub beyond-bad : 8194 ≤ w → bad ≡ binOf n h w
     unfolding binOf
     beyond-bad k = simp (ne-eqb _ _ a, ne-eqb _ _ b, lt-leb w 4097 (omega arith), lt-leb w 8193 (omega arith))
+
+module _ (len hash : ℕ) where
+  pub index-some : {i : ℕ} → given i ≡ binis len hash → i ≡ bini len hash
+  index-some {i} e = go (ℕ-discrete len 0)
+    where
+      go : Dec (len ≡ 0) → i ≡ bini len hash
+      go (yes z) = absurd (omega (arith, ap (λ (a : Answer). a .number) (e ∙ claims .length-zero len hash .1 z)))
+      go (no n) = some-is (ap (λ (a : Answer). a .value) (e ∙ claims .length-more len hash n))
+
+  pub index-none : refused 1 ≡ binis len hash → 0 ≡ bini len hash
+  index-none e = sym (claims .index-zero hash) ∙ ap (λ (n : ℕ). bini n hash) (sym (claims .length-zero len hash .0 (sym e)))

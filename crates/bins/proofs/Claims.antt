@@ -4,6 +4,7 @@ use mathlib.Core.Logic.{_≢_}
 use Prim.Native.Nat.{ℕ}
 use native.Mathlib.Decide.{ℕ-discrete}
 use native.Mathlib.Omega.{arith}
+use lib.Bits.{and-zero-r}
 use borrow.Author.Tests.{eq-eqb, ne-eqb}
 use Rattle.slots.specs.Answers.{Answer, Value, some, none, given, refused}
 use Rattle.slots.proofs.Laws.{told-apart}
@@ -62,15 +63,21 @@ zero-length : (len hash : ℕ) → len ≡ 0 → binis len hash ≡ refused 1
 unfolding binis
 zero-length len hash e = simp (eq-eqb _ _ e)
 
+index-zero : (hash : ℕ) → bini 0 hash ≡ 0
+unfolding bini
+index-zero hash = and-zero-r hash
+
 pub claims : Claims
 claims =
     record {
       length-zero = λ len hash. (length-zero len hash, zero-length len hash);
       length-more = length-more;
+      index-zero = index-zero;
       bin-one-to-one = bin-one-to-one;
       home-one-to-one = home-one-to-one;
       bin-of-one = λ n h w a b p q. bin-one-to-one a b (p ∙ sym q);
       bini-one = λ len hash a b p q. home-one-to-one a b (p ∙ sym q);
+      index-one = λ len hash a b p q. p ∙ sym q;
       bin-word-one = λ lengths bins k i a b p q. p ∙ sym q;
       header-one = λ heads h f a b p q. p ∙ sym q;
       length-at-one = λ lengths k a b p q. p ∙ sym q;

@@ -1,5 +1,5 @@
 -- What each way out of a loop over the tables' lengths says, and which numbers the thirteen powers are.
-use mathlib.Core.Path.{_≡_, refl}
+use mathlib.Core.Path.{_≡_, refl, ap}
 use mathlib.Core.Logic.{_≢_, _⊎_, inl, inr}
 use mathlib.Core.Bool.{Bool, true, false, false≢true}
 use mathlib.Core.List.{List}
@@ -7,7 +7,7 @@ use Prim.Native.Nat.{ℕ, zero, suc, _+_, _-_, _*_, _<_, _≤_}
 use native.Mathlib.Numerals.{add-one, sub-one}
 use native.Mathlib.Decide.{ℕ-discrete, decLt}
 use native.Mathlib.Omega.{arith}
-use lib.ListN.{length, getD}
+use lib.ListN.{length, getD, List·getD-eq-default}
 use lib.Dec.{leb}
 use borrow.Author.Tests.{eq-eqb, ne-eqb, le-leb, lt-leb}
 use Rattle.sets.specs.Words.{Set, tablesOf, begins, doubling, doubled, fitTables, fits}
@@ -17,6 +17,16 @@ use Rattle.bins.specs.Answers.{fitSlots}
 pub begins-on : (l : List ℕ) (j : ℕ) → begins l (j + 1) ≡ begins l j + getD l j 0
 unfolding begins
 begins-on l j = rw add-one
+
+-- Past the last table nothing is added.
+pub begins-past : (l : List ℕ) (j : ℕ) → length l ≤ j → (k : ℕ) → j ≤ k → begins l k ≡ begins l j
+unfolding begins
+begins-past l j h zero g = let z : j ≡ 0 = omega arith in rw z
+begins-past l j h (suc k) g = go (ℕ-discrete (suc k) j) (λ n. begins-past l j h k (omega arith))
+  where
+    go : Dec (suc k ≡ j) → (suc k ≢ j → begins l k ≡ begins l j) → begins l (suc k) ≡ begins l j
+    go (yes e) rest = ap (begins l) e
+    go (no n) rest = omega (arith, rest n, List·getD-eq-default l 0 {n = k} (omega arith))
 
 -- One table less.
 module _ (l : List ℕ) where

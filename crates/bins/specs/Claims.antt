@@ -12,14 +12,17 @@ use Rattle.bins.specs.declared.bin.Bin.{Bin}
 use Rattle.bins.specs.declared.bin.Home.{Home}
 
 pub record Claims : Type 0 where
-  -- "`bini` on length 0 underflows. We refuse length 0 with 1."
+  -- "`bini` on length 0 underflows .. We refuse length 0 with 1."
   pub length-zero : (len hash : ℕ) → (binis len hash ≡ refused 1) ↔ (len ≡ 0)
   -- "The bin for a hash is hash AND (length-1)."
   pub length-more : (len hash : ℕ) → len ≢ 0 → binis len hash ≡ given (bini len hash)
+  -- where `bini` refuses, the index is 0
+  pub index-zero : (hash : ℕ) → bini 0 hash ≡ 0
   pub bin-one-to-one : (a b : Bin) → binAs a ≡ binAs b → a ≡ b
   pub home-one-to-one : (a b : Home) → homeOf a ≡ homeOf b → a ≡ b
   pub bin-of-one : (n h w : ℕ) → OneAnswer (λ r. binAs r ≡ binOf n h w)
   pub bini-one : (len hash : ℕ) → OneAnswer (λ r. homeOf r ≡ binis len hash)
+  pub index-one : (len hash : ℕ) → OneAnswer (λ r. r ≡ bini len hash)
   pub bin-word-one : (lengths bins : List ℕ) (k i : ℕ) → OneAnswer (λ r. r ≡ getD bins (begins lengths k + i) 0)
   pub header-one : (heads : List ℕ) (h f : ℕ) → OneAnswer (λ r. r ≡ getD heads (3 * h + f) null)
   pub length-at-one : (lengths : List ℕ) (k : ℕ) → OneAnswer (λ r. r ≡ getD lengths k 0)

@@ -6,6 +6,7 @@ ghost use Prim.Native.Nat.{_+_, _*_};
 ghost use lib.ListN.{getD};
 ghost use Rattle.slots.specs.Words.{null};
 ghost use Rattle.sets.specs.Words.{begins, binOf};
+ghost use Rattle.sets.specs.Words.{bini as home};
 ghost use Rattle.bins.specs.Answers.{binAs, homeOf, binis};
 
 // The words of a header, by their place.
@@ -85,4 +86,15 @@ pub fn bini(length: u32, hash: u64) -> Home
     }
     let mask = length as u64 - 1;
     Home::Bin((hash & mask) as u32)
+}
+
+// The index of the bin for a hash in a table of so many bins: a fit set has no table of none, and there the index is 0.
+pub fn index(length: u32, hash: u64) -> u32
+    ensures { λ r. ⌜ r ≡ home length hash ⌝ }
+{
+    let home = bini(length, hash);
+    let Home::Bin(i) = home else {
+        return 0;
+    };
+    i
 }

@@ -62,13 +62,16 @@ fn fit_tables(lengths: &[u32]) -> bool
     length_at(lengths, last) <= 4096
 }
 
-// How many bins the first k tables have: where the bins of table k begin.
+// How many bins the first k tables have: where the bins of table k begin. Past the last table there are none to add.
 pub fn bins_before(lengths: &[u32], k: u32) -> usize
     ensures { λ r. ⌜ r ≡ begins (now (lengths .entry)) k ⌝ }
 {
     let mut sum: usize = 0;
     let mut j: u32 = 0;
     while j < k {
+        if lengths.len() <= j as usize {
+            return sum;
+        }
         let length = length_at(lengths, j);
         sum += length as usize;
         j += 1;

@@ -7,7 +7,7 @@ ghost use lib.ListN.{length, replicate, take};
 ghost use Rattle.demands.specs.Live.{Live};
 ghost use Rattle.demands.specs.Index.{Index};
 ghost use Rattle.dialogue.specs.Commands.{spoken};
-ghost use Rattle.dialogue.specs.Feeding.{Line as Held, Paper, Turn, Desk, turned, heldOf, noted, fedByte, feeds, ends};
+ghost use Rattle.dialogue.specs.Feeding.{Line as Held, blank as blankLine, Paper, Turn, Desk, turned, heldOf, noted, fedByte, feeds, ends};
 ghost use Rattle.console.specs.Meanings.{lineOf, fedOf};
 
 // No answer is longer: 4,096 entries of at most 63 bytes, and the line before them.
@@ -33,7 +33,7 @@ pub struct Fed {
 
 // No line has begun.
 pub fn blank() -> Line
-    ensures { λ r. ⌜ lineOf r ≡ record { bytes = replicate 81 0; count = 0 } ⌝ }
+    ensures { λ r. ⌜ lineOf r ≡ blankLine ⌝ }
 {
     Line {
         bytes: [0u8; 81],

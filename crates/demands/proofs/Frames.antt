@@ -1,17 +1,17 @@
 -- A tree, a chain and an order each read few words, so they stay where those words stay.
 -- A list with one slot less is counted and ordered like the longer one.
-use mathlib.Core.Path.{_≡_, refl, ap, sym, subst, _∙_}
+use mathlib.Core.Path.{_≡_, ap, sym, subst, _∙_}
 use mathlib.Core.Logic.{_≢_, _⊎_, inl, inr}
-use mathlib.Core.Bool.{true}
+use mathlib.Core.Bool.{true, false}
 use mathlib.Core.List.{List, [], _∷_, _++_}
 use Prim.Native.Nat.{ℕ, _+_, _*_, _<_, _≤_}
 use native.Mathlib.Decide.{ℕ-discrete}
 use native.Mathlib.Omega.{arith}
 use lib.ListN.{length, getD, set, length-set, length-append}
 use lib.Seq.{getD-set-same, getD-set-other}
-use lib.Dec.{ltb}
+use lib.Dec.{ltb, eqb}
 use borrow.Author.Tests.{le-leb, eq-eqb, ne-eqb}
-use Rattle.slots.specs.Words.{null, place, free, state, parent, left, right, prev, next, cell, nameOf, rename, parts, fields, roomy, hashPart, keyPart}
+use Rattle.slots.specs.Words.{null, free, state, parent, left, right, prev, next, cell, nameOf, rename, parts, fields, roomy}
 use Rattle.slots.specs.Pairs.{Pair, pairOf, Less}
 use Rattle.slots.proofs.Laws.{word-same, word-across, word-else, length-store, roomy-store}
 use Rattle.shape.specs.Tree.{Tree, slots, times, Hangs, Below, last, before, Rising, empty, rise}
@@ -125,28 +125,27 @@ pub roomy-names : {n : ℕ} (l : List ℕ) (i : ℕ) → length l ≡ 2 * n → 
 unfolding roomy
 roomy-names {n} l i e h = le-leb (2 * i + 2) (length l) (omega arith)
 
--- The names with the pair (hash, key) at the slot x.
-abbrev pub paired : List ℕ → ℕ → ℕ → ℕ → List ℕ
-paired names x hash key = rename (rename names x hashPart hash) x keyPart key
+-- Reads of names after a write, in the form that `simp` takes.
+pub name-same : (l : List ℕ) (i f v : ℕ) → roomy parts l i ≡ true → ltb f parts ≡ true → nameOf (rename l i f v) i f ≡ v
+unfolding rename nameOf
+name-same l i f v r h = word-same parts 0 l i f v r h
 
-pub paired-length : (names : List ℕ) (x hash key : ℕ) → length (paired names x hash key) ≡ length names
+pub name-across : (l : List ℕ) (i f v j g : ℕ) → eqb f g ≡ false → ltb f parts ≡ true → ltb g parts ≡ true
+    → nameOf (rename l i f v) j g ≡ nameOf l j g
+unfolding rename nameOf
+name-across l i f v j g e hf hg = word-across parts 0 l i f v j g e hf hg
+
+pub name-else : (l : List ℕ) (i f v j g : ℕ) → j ≢ i → ltb f parts ≡ true → ltb g parts ≡ true → nameOf (rename l i f v) j g ≡ nameOf l j g
+unfolding rename nameOf
+name-else l i f v j g n hf hg = word-else parts 0 l i f v j g n hf hg
+
+pub roomy-rename : (l : List ℕ) (i f v j : ℕ) → roomy parts (rename l i f v) j ≡ roomy parts l j
 unfolding rename
-paired-length names x hash key = length-store parts (rename names x hashPart hash) x keyPart key ∙ length-store parts names x hashPart hash
+roomy-rename l i f v j = roomy-store parts l i f v j
 
-pub paired-else : (names : List ℕ) (x hash key k f : ℕ) → k ≢ x → ltb f parts ≡ true → nameOf (paired names x hash key) k f ≡ nameOf names k f
-unfolding rename nameOf
-paired-else names x hash key k f d s = word-else parts 0 (rename names x hashPart hash) x keyPart key k f d refl s ∙ word-else parts 0 names x hashPart hash k f d refl s
-
-pub paired-pair : (names : List ℕ) (x hash key k : ℕ) → k ≢ x → pairOf (paired names x hash key) k ≡ pairOf names k
-paired-pair names x hash key k d = λ i. record { hash = paired-else names x hash key k hashPart d refl i; key = paired-else names x hash key k keyPart d refl i }
-
-pub paired-hash : (names : List ℕ) (x hash key : ℕ) → roomy parts names x ≡ true → nameOf (paired names x hash key) x hashPart ≡ hash
-unfolding rename nameOf
-paired-hash names x hash key r = word-across parts 0 (rename names x hashPart hash) x keyPart key x hashPart refl refl refl ∙ word-same parts 0 names x hashPart hash r refl
-
-pub paired-key : (names : List ℕ) (x hash key : ℕ) → roomy parts names x ≡ true → nameOf (paired names x hash key) x keyPart ≡ key
-unfolding rename nameOf
-paired-key names x hash key r = word-same parts 0 (rename names x hashPart hash) x keyPart key (roomy-store parts names x hashPart hash x ∙ r) refl
+pub length-rename : (l : List ℕ) (i f v : ℕ) → length (rename l i f v) ≡ length l
+unfolding rename
+length-rename l i f v = length-store parts l i f v
 
 -- The header with its three words.
 module _ (head : List ℕ) (root first count : ℕ) where
@@ -165,11 +164,6 @@ module _ (head : List ℕ) (root first count : ℕ) where
 
   pub headed-count : length head ≡ 3 → getD (headed head root first count) 2 null ≡ count
   headed-count e = getD-set-same (set (set head 0 root) 1 first) 2 count null (omega (arith, length-set (set head 0 root) 1 first, length-set head 0 root))
-
--- What the slot k of the tree keeps from t to u: its pair and its place.
-pub record Kept (t u : Live) (k : ℕ) : Type 0 where
-  pub pairs : pairOf (u .names) k ≡ pairOf (t .names) k
-  pub places : cell (u .cells) k place ≡ cell (t .cells) k place
 
 -- In a sound tree the slots of the tree, of the chain and the used ones are the same, and the count is their number.
 module _ {t : Live} (h : Sound t) where

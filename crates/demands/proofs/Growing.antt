@@ -4,18 +4,18 @@ use mathlib.Core.Path.{_≡_, refl, ap, sym, _∙_}
 use mathlib.Core.Logic.{_≢_}
 use mathlib.Core.Bool.{true}
 use mathlib.Core.List.{List, _∷_}
-use Prim.Native.Nat.{ℕ, _+_, _/_, _<_, _≤_}
+use Prim.Native.Nat.{ℕ, _<_, _≤_}
 use native.Mathlib.Decide.{ℕ-discrete}
 use native.Mathlib.Omega.{arith}
 use lib.ListN.{length}
-use Rattle.slots.specs.Words.{null, place, state, parent, left, right, prev, next, free, fields, parts, cell, write, roomy, hashPart, keyPart}
-use Rattle.slots.specs.Pairs.{pair, pairOf}
+use Rattle.slots.specs.Words.{null, place, state, parent, left, right, prev, next, free, fields, parts, cell, write, roomy}
+use Rattle.slots.specs.Pairs.{Pair}
 use Rattle.slots.proofs.Laws.{cell-same, cell-across, cell-else, roomy-write, length-write}
 use Rattle.shape.specs.Tree.{Tree, slots, times, Rising}
 use Rattle.shape.specs.Chain.{Chain, linked}
 use Rattle.shape.proofs.Counting.{times-head, times-else}
 use Rattle.shape.proofs.Chaining.{chain-once}
-use Rattle.redblack.specs.Links.{Links}
+use Rattle.redblack.specs.Links.{Links, read}
 use Rattle.redblack.specs.Hanging.{inserted, placed}
 use Rattle.redblack.specs.Balance.{Less}
 use Rattle.redblack.specs.Holding.{Holds, RedBlackTree, Has}
@@ -23,24 +23,23 @@ use Rattle.redblack.specs.Kept.{Agree}
 use Rattle.redblack.specs.Claims.{HangsSlot}
 use Rattle.redblack.proofs.Kept.{place-aside, prev-aside, next-aside}
 use Rattle.redblack.proofs.Claims.{claims}
-use Rattle.demands.specs.Live.{Live, Fit, rootOf, firstOf, countOf, capacityOf}
+use Rattle.demands.specs.Live.{Live, Fit, rootOf, firstOf, capacityOf}
 use Rattle.demands.specs.Sound.{Sound, Cleared}
 use Rattle.demands.specs.Built.{Built}
 use Rattle.demands.specs.Insert.{fronted, grown}
+use Rattle.demands.specs.Calls.{Alike, Takes}
 use Rattle.demands.proofs.Fit.{half}
 use Rattle.demands.proofs.Rules.{small}
 use Rattle.demands.proofs.Building.{built-sound, built-tree, built-chain}
-use Rattle.demands.proofs.Frames.{Still, Kept, none-of, off-chain, sound-balanced, same-slots, free-nowhere, nowhere-free, sound-count, hangs-frame, chain-frame, chain-behind, chain-starts, rising-frame, without-else, without-same, without-length, roomy-cells, roomy-names, paired, paired-length, paired-else, paired-pair, paired-hash, paired-key, headed-length, headed-root, headed-first, headed-count}
+use Rattle.demands.proofs.Frames.{Still, none-of, off-chain, sound-balanced, same-slots, free-nowhere, nowhere-free, sound-count, hangs-frame, chain-frame, chain-behind, chain-starts, rising-frame, without-else, without-same, without-length, roomy-cells, roomy-names, name-same, name-across, name-else, roomy-rename, length-rename, headed-length, headed-root, headed-first, headed-count}
 
 -- The tree u is t with the slot x, which holds the pair (hash, key) and the place p.
 pub record Grown (t u : Live) (h : Sound t) (x hash key p : ℕ) : Type 0 where
   pub sound : Sound u
   pub chain : sound .chain ≡ x ∷ h .chain
   pub slotted : Less x (slots (sound .tree)) (slots (h .tree))
-  pub keeps : (k : ℕ) → 1 ≤ times k (slots (h .tree)) → Kept t u k
-  pub named : pairOf (u .names) x ≡ pair hash key
-  pub placed : cell (u .cells) x place ≡ p
-  pub count : countOf u ≡ countOf t + 1
+  pub keeps : (k : ℕ) → 1 ≤ times k (slots (h .tree)) → Alike t u k
+  pub takes : Takes t u x hash key p
 
 module _ {t : Live} (fit : Fit t) (h : Sound t) (x hash key p : ℕ) (inside : x < capacityOf t) (unused : cell (t .cells) x state ≡ free) where
   absent : times x (slots (h .tree)) ≡ 0
@@ -69,10 +68,6 @@ module _ {t : Live} (fit : Fit t) (h : Sound t) (x hash key p : ℕ) (inside : x
   unfolding fronted
   wide-still k = record { states = simp cell-across; parents = simp cell-across; lefts = simp cell-across; rights = simp cell-across }
 
-  wide-place : (k : ℕ) → k ≢ x → cell wide k place ≡ cell (t .cells) k place
-  unfolding fronted
-  wide-place k d = simp (cell-across, cell-else)
-
   wide-next : (k : ℕ) → k ≢ x → cell wide k next ≡ cell (t .cells) k next
   unfolding fronted
   wide-next k d = simp (cell-across, cell-else)
@@ -85,10 +80,6 @@ module _ {t : Live} (fit : Fit t) (h : Sound t) (x hash key p : ℕ) (inside : x
   unfolding fronted
   first-prev l = simp (cell-same, roomy-write, room (firstOf t) l)
 
-  x-place : cell wide x place ≡ p
-  unfolding fronted
-  x-place = simp (cell-across, cell-same, room x inside)
-
   x-next : cell wide x next ≡ firstOf t
   unfolding fronted
   x-next = simp (cell-across, cell-same, roomy-write, room x inside)
@@ -97,11 +88,32 @@ module _ {t : Live} (fit : Fit t) (h : Sound t) (x hash key p : ℕ) (inside : x
   unfolding fronted
   x-prev = let d : x ≢ firstOf t = not-first x inside absent in simp (cell-else, cell-across, cell-same, roomy-write, room x inside)
 
-  abbrev links : Links
-  links = record { cells = wide; root = rootOf t }
+  roomN : roomy parts (t .names) x ≡ true
+  roomN = roomy-names (t .names) x (fit .two) (omega (arith, half fit))
+
+  -- Hanging leaves every place as it was, whatever the order says.
+  hung-place : (l : List ℕ) (s : Links) (k : ℕ)
+      → read (inserted (capacityOf t) s x (placed (capacityOf t) l s hash key)) k place ≡ read s k place
+  hung-place l s k = claims .hangs-slot (capacityOf t) (capacityOf t) l s (h .tree) x hash key .keeps place place-aside .same k
+
+  -- Which slot has which pair and place.
+  takes : Takes t (grown t x hash key p) x hash key p
+  unfolding grown fronted
+  takes =
+      record {
+        named = simp (name-across, name-same, roomy-rename, roomN);
+        placed = hung-place _ _ x ∙ simp (cell-across, cell-same, room x inside);
+        others = λ y d. record {
+          pairs = simp name-else;
+          places = hung-place _ _ y ∙ simp (cell-across, cell-else);
+        };
+      }
 
   abbrev names : List ℕ
-  names = paired (t .names) x hash key
+  names = grown t x hash key p .names
+
+  abbrev links : Links
+  links = record { cells = wide; root = rootOf t }
 
   abbrev hung : Links
   hung = inserted (capacityOf t) links x (placed (capacityOf t) names links hash key)
@@ -126,13 +138,7 @@ module _ {t : Live} (fit : Fit t) (h : Sound t) (x hash key p : ℕ) (inside : x
       }
 
   risen : Rising names (slots (h .tree))
-  risen = rising-frame (λ k z. paired-pair (t .names) x hash key k (not-x k z)) (h .t4)
-
-  roomN : roomy parts (t .names) x ≡ true
-  roomN = roomy-names (t .names) x (fit .two) (omega (arith, half fit))
-
-  named : pairOf names x ≡ pair hash key
-  named = λ i. record { hash = paired-hash (t .names) x hash key roomN i; key = paired-key (t .names) x hash key roomN i }
+  risen = rising-frame (λ k z. takes .others k (not-x k z) .pairs) (h .t4)
 
   hangs-slot : HangsSlot (capacityOf t) (capacityOf t) names links (h .tree) x hash key
   hangs-slot = claims .hangs-slot (capacityOf t) (capacityOf t) names links (h .tree) x hash key
@@ -144,21 +150,23 @@ module _ {t : Live} (fit : Fit t) (h : Sound t) (x hash key p : ℕ) (inside : x
         capacity = fit .capacity;
         least = fit .least;
         most = fit .most;
-        two = paired-length (t .names) x hash key ∙ fit .two;
+        two = simp length-rename (fit .two);
         seven = hangs-slot .keeps place place-aside .long ∙ wide-length ∙ fit .seven;
-        three = headed-length (t .head) (hung .root) x _ ∙ fit .three;
+        three = headed-length (t .head) _ _ _ ∙ fit .three;
       }
 
   cap : capacityOf (grown t x hash key p) ≡ capacityOf t
   unfolding grown
-  cap = ap (λ (m : ℕ). m / 2) (paired-length (t .names) x hash key)
+  cap = simp length-rename
 
   module _ (fresh : Has (t .names) (h .tree) hash key → ⊥) where
     fresh-still : Has names (h .tree) hash key → ⊥
-    fresh-still e = fresh (record { slot = e .slot; stands = e .stands; named = sym (paired-pair (t .names) x hash key (e .slot) (not-x (e .slot) (e .stands))) ∙ e .named })
+    fresh-still e =
+        let d = not-x (e .slot) (e .stands) in
+        fresh (record { slot = e .slot; stands = e .stands; named = sym (takes .others (e .slot) d .pairs) ∙ e .named })
 
     result : (u : Tree) × Holds (capacityOf t) hung u × RedBlackTree u × Rising names (slots u) × Less x (slots u) (slots (h .tree))
-    result = hangs-slot .hangs holds (sound-balanced h) risen fresh-still inside absent named (omega arith)
+    result = hangs-slot .hangs holds (sound-balanced h) risen fresh-still inside absent (takes .named) (omega arith)
 
     spared : (k : ℕ) → k ≢ x → times k (slots (h .tree)) ≡ 0 → Agree links hung k
     spared k d z = hangs-slot .spares holds (sound-balanced h) risen fresh-still inside absent (omega arith) k d z
@@ -181,9 +189,9 @@ module _ {t : Live} (fit : Fit t) (h : Sound t) (x hash key p : ℕ) (inside : x
         let a = spared k other gone in (
           a .same state refl ∙ s .states ∙ nowhere-free h k l gone,
           record {
-            hash = paired-else (t .names) x hash key k hashPart other refl ∙ c .hash;
-            key = paired-else (t .names) x hash key k keyPart other refl ∙ c .key;
-            placed = a .same place refl ∙ wide-place k other ∙ c .placed;
+            hash = ap (λ (q : Pair). q .hash) (takes .others k other .pairs) ∙ c .hash;
+            key = ap (λ (q : Pair). q .key) (takes .others k other .pairs) ∙ c .key;
+            placed = takes .others k other .places ∙ c .placed;
             parents = a .same parent refl ∙ s .parents ∙ c .parents;
             lefts = a .same left refl ∙ s .lefts ∙ c .lefts;
             rights = a .same right refl ∙ s .rights ∙ c .rights;
@@ -204,14 +212,14 @@ module _ {t : Live} (fit : Fit t) (h : Sound t) (x hash key p : ℕ) (inside : x
         record {
           tree = result .0;
           chain = x ∷ h .chain;
-          rooted = rw (cap, headed-root (t .head) (hung .root) x (countOf t + 1) (fit .three)) (result .1 .rooted);
+          rooted = rw (cap, headed-root (t .head) _ _ _ (fit .three)) (result .1 .rooted);
           rising = result .3;
           coloured = result .2 .coloured;
           level = result .2 .level;
-          linked = rw (cap, headed-first (t .head) (hung .root) x (countOf t + 1) (fit .three)) hung-chain;
+          linked = rw (cap, headed-first (t .head) _ _ _ (fit .three)) hung-chain;
           same = λ k l. same k (rw cap at l);
           others = λ k l z. others k (rw cap at l) z;
-          count = headed-count (t .head) (hung .root) x (countOf t + 1) (fit .three) ∙ omega (arith, sound-count h, without-length (result .4));
+          count = headed-count (t .head) _ _ _ (fit .three) ∙ omega (arith, sound-count h, without-length (result .4));
         }
 
     pub grown-sound : Grown t (grown t x hash key p) h x hash key p
@@ -221,8 +229,6 @@ module _ {t : Live} (fit : Fit t) (h : Sound t) (x hash key p : ℕ) (inside : x
           sound = built-sound grown-fit built;
           chain = built-chain grown-fit built;
           slotted = rw (built-tree grown-fit built) (result .4);
-          keeps = λ k z. record { pairs = paired-pair (t .names) x hash key k (not-x k z); places = hangs-slot .keeps place place-aside .same k ∙ wide-place k (not-x k z) };
-          named = named;
-          placed = hangs-slot .keeps place place-aside .same x ∙ x-place;
-          count = headed-count (t .head) (hung .root) x (countOf t + 1) (fit .three);
+          keeps = λ k z. takes .others k (not-x k z);
+          takes = takes;
         }

@@ -2,7 +2,7 @@
 use mathlib.Core.Path.{_≡_, refl, ap, sym, _∙_, subst}
 use mathlib.Core.Logic.{_⊎_, inl, inr}
 use mathlib.Core.List.{List, [], _∷_, _++_, map}
-use Prim.Native.Nat.{ℕ, _+_, _-_, _≤_}
+use Prim.Native.Nat.{ℕ, _≤_}
 use native.Mathlib.Omega.{arith}
 use lib.ListN.{length, length-map}
 use Rattle.slots.specs.Words.{place, cell}
@@ -14,7 +14,8 @@ use Rattle.redblack.specs.Holding.{Has}
 use Rattle.demands.specs.Live.{Live, countOf}
 use Rattle.demands.specs.Sound.{Sound}
 use Rattle.demands.specs.Contents.{Entry, entry, entryOf, contents, put, without, In, first, later, Lacks, empty, other}
-use Rattle.demands.proofs.Frames.{Kept, sound-count}
+use Rattle.demands.specs.Calls.{Alike}
+use Rattle.demands.proofs.Frames.{sound-count}
 use Rattle.demands.proofs.Growing.{Grown}
 use Rattle.demands.proofs.Shrinking.{Shrunk}
 use Rattle.demands.proofs.Listing.{Ascends, ascends-map, put-at, without-at, in-lacks}
@@ -30,7 +31,7 @@ entry-is t u k e f = λ i. entry (e i .hash) (e i .key) (f i)
 entry-as : (u : Live) (k hash key p : ℕ) → pairOf (u .names) k ≡ pair hash key → cell (u .cells) k place ≡ p → entryOf u k ≡ entry hash key p
 entry-as u k hash key p e f = λ i. entry (e i .hash) (e i .key) (f i)
 
-map-same : (t u : Live) (l : List ℕ) → ((k : ℕ) → 1 ≤ times k l → Kept t u k) → map (entryOf u) l ≡ map (entryOf t) l
+map-same : (t u : Live) (l : List ℕ) → ((k : ℕ) → 1 ≤ times k l → Alike t u k) → map (entryOf u) l ≡ map (entryOf t) l
 map-same t u [] h = refl
 map-same t u (x ∷ l) h =
     let k = h x (omega (arith, times-head x l)) in
@@ -43,7 +44,8 @@ pub record Split (t u : Live) (l k : List ℕ) (e : Entry) : Type 0 where
   pub more : map (entryOf u) l ≡ lower ++ (e ∷ upper)
   pub less : map (entryOf t) k ≡ lower ++ upper
 
-split : (t u : Live) (x : ℕ) (l k : List ℕ) (e : Entry) → Less x l k → entryOf u x ≡ e → ((j : ℕ) → 1 ≤ times j k → Kept t u j) → Split t u l k e
+split : (t u : Live) (x : ℕ) (l k : List ℕ) (e : Entry) → Less x l k → entryOf u x ≡ e → ((j : ℕ) → 1 ≤ times j k → Alike t u j)
+    → Split t u l k e
 split t u x l k e h n keep =
     let a = h .before in
     let b = h .after in
@@ -59,7 +61,10 @@ split t u x l k e h n keep =
 
 module _ {t u : Live} {h : Sound t} {x hash key p : ℕ} (g : Grown t u h x hash key p) where
   grown-split : Split t u (slots (g .sound .tree)) (slots (h .tree)) (entry hash key p)
-  grown-split = split t u x (slots (g .sound .tree)) (slots (h .tree)) (entry hash key p) (g .slotted) (entry-as u x hash key p (g .named) (g .placed)) (g .keeps)
+  grown-split =
+      split t u x (slots (g .sound .tree)) (slots (h .tree)) (entry hash key p) (g .slotted)
+      (entry-as u x hash key p (g .takes .named) (g .takes .placed))
+      (g .keeps)
 
   grown-ascends : Ascends (grown-split .lower ++ (entry hash key p ∷ grown-split .upper))
   grown-ascends = rw (grown-split .more) at (ascends-map u (g .sound .t4))

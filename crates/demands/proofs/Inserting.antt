@@ -16,10 +16,10 @@ use Rattle.shape.specs.Tree.{Tree}
 use Rattle.redblack.specs.Holding.{Has, Stands}
 use Rattle.demands.specs.Live.{Live, Fit, capacityOf}
 use Rattle.demands.specs.Sound.{Sound, sound}
-use Rattle.demands.specs.Index.{Index, index, FitIndex, Outcome, outcome, fitsIndex, lengthOf, linesOf, appended, at}
-use Rattle.demands.specs.Insert.{lowestFree, soughtIn, grown, inserts}
+use Rattle.demands.specs.Index.{Index, FitIndex, Outcome, outcome, fitsIndex, lengthOf, linesOf, appended, at}
+use Rattle.demands.specs.Insert.{lowestFree, soughtIn, inserts}
 use Rattle.demands.specs.Contents.{entry, contents, put}
-use Rattle.demands.specs.Calls.{Lowest, NoneFree, OneLine}
+use Rattle.demands.specs.Calls.{Lowest, NoneFree, Takes, OneLine}
 use Rattle.demands.specs.Claims.{Inserts}
 use Rattle.demands.proofs.Rules.{small}
 use Rattle.demands.proofs.Sounding.{sound-yes, yes-sound, unsound}
@@ -73,6 +73,19 @@ lowest-is {t} fit x l = go (ℕ-discrete (lowestFree t) null)
     go (no d) = let f = lowest-free t d in least-one {P = λ (k : ℕ). cell (t .cells) k state ≡ free} (lowestFree t) x (f .unused) (l .unused) (f .lowest) (l .lower)
 
 module _ (ix : Index) (hash key p : ℕ) where
+  -- What an accepted insert leaves, of the very tree h.
+  Leaves : Sound (ix .live) → ℕ → Outcome → Type 0
+  Leaves h x o =
+      (g : Sound (o .left .live)) × FitIndex (o .left) × (contents g ≡ put (entry hash key p) (contents h)) × (g .chain ≡ x ∷ h .chain)
+      × OneLine (ix .lines) (o .left .lines) 1 hash key p × (capacityOf (o .left .live) ≡ capacityOf (ix .live))
+      × Takes (ix .live) (o .left .live) x hash key p
+
+  line-more : FitIndex ix → lengthOf (ix .lines) ≢ linesOf (ix .lines)
+      → OneLine (ix .lines) (appended (ix .lines) 1 hash key p) 1 hash key p
+  line-more f l =
+      let room : at (lengthOf (ix .lines)) 3 < length (ix .lines) = omega (arith, f .within, f .four, lines-capacity f) in
+      one-line (ix .lines) 1 hash key p room
+
   unfit-one : fitsIndex ix ≡ false → inserts ix hash key p ≡ outcome (refused 1) ix
   unfolding inserts
   unfit-one e = rw e
@@ -95,10 +108,33 @@ module _ (ix : Index) (hash key p : ℕ) where
       unfolding inserts
       no-line-six d l = rw (e, f, s, ne-eqb (lowestFree (ix .live)) null d, eq-eqb (lengthOf (ix .lines)) (linesOf (ix .lines)) l)
 
-      done-given : lowestFree (ix .live) ≢ null → lengthOf (ix .lines) ≢ linesOf (ix .lines)
-          → inserts ix hash key p ≡ outcome (given (lowestFree (ix .live))) (index (grown (ix .live) (lowestFree (ix .live)) hash key p) (appended (ix .lines) 1 hash key p))
-      unfolding inserts
-      done-given d l = rw (e, f, s, ne-eqb (lowestFree (ix .live)) null d, ne-eqb (lengthOf (ix .lines)) (linesOf (ix .lines)) l)
+      module _ (d : lowestFree (ix .live) ≢ null) (l : lengthOf (ix .lines) ≢ linesOf (ix .lines)) where
+        done-given : inserts ix hash key p .answer ≡ given (lowestFree (ix .live))
+        unfolding inserts
+        done-given = rw (e, f, s, ne-eqb (lowestFree (ix .live)) null d, ne-eqb (lengthOf (ix .lines)) (linesOf (ix .lines)) l)
+
+        done-leaves : FitIndex ix → (h : Sound (ix .live)) → (Has (ix .live .names) (h .tree) hash key → ⊥)
+            → Leaves h (lowestFree (ix .live)) (inserts ix hash key p)
+        unfolding inserts Leaves
+        done-leaves fit h n =
+            let w = lowest-free (ix .live) d in
+            let g = grown-sound (fit .tree) h (lowestFree (ix .live)) hash key p (w .inside) (w .unused) n in
+            let j = line-more fit l in
+            rw (e, f, s, ne-eqb (lowestFree (ix .live)) null d, ne-eqb (lengthOf (ix .lines)) (linesOf (ix .lines)) l) (
+              g .sound,
+              record {
+                tree = grown-fit (fit .tree) h (lowestFree (ix .live)) hash key p (w .inside) (w .unused);
+                capacity = fit .capacity;
+                most = fit .most;
+                four = j .long ∙ fit .four;
+                within = omega (arith, j .count, fit .within, lines-capacity fit);
+              },
+              grown-contents g,
+              g .chain,
+              j,
+              grown-capacity (ix .live) (lowestFree (ix .live)) hash key p,
+              g .takes,
+            )
 
   -- The case that the tests come to, with what it says.
   data Did : Type 0 where
@@ -110,7 +146,9 @@ module _ (ix : Index) (hash key p : ℕ) where
     six : FitIndex ix → (h : Sound (ix .live)) → (Has (ix .live .names) (h .tree) hash key → ⊥) → lowestFree (ix .live) ≢ null → lengthOf (ix .lines) ≡ linesOf (ix .lines)
         → inserts ix hash key p ≡ outcome (refused 6) ix → Did
     taken : FitIndex ix → (h : Sound (ix .live)) → (Has (ix .live .names) (h .tree) hash key → ⊥) → lowestFree (ix .live) ≢ null → lengthOf (ix .lines) ≢ linesOf (ix .lines)
-        → inserts ix hash key p ≡ outcome (given (lowestFree (ix .live))) (index (grown (ix .live) (lowestFree (ix .live)) hash key p) (appended (ix .lines) 1 hash key p)) → Did
+        → inserts ix hash key p .answer ≡ given (lowestFree (ix .live))
+        → ((g : Sound (ix .live)) → (Has (ix .live .names) (g .tree) hash key → ⊥)
+        → Leaves g (lowestFree (ix .live)) (inserts ix hash key p)) → Did
 
   did : Did
   did = go (fitsIndex ix) refl (sound (ix .live)) refl
@@ -119,7 +157,7 @@ module _ (ix : Index) (hash key p : ℕ) where
           → soughtIn (ix .live) hash key ≡ none → Dec (lowestFree (ix .live) ≡ null) → Dec (lengthOf (ix .lines) ≡ linesOf (ix .lines)) → Did
       line f e s h n q (yes d) l = five f h n d (full-five e s q d)
       line f e s h n q (no d) (yes l) = six f h n d l (no-line-six e s q d l)
-      line f e s h n q (no d) (no l) = taken f h n d l (done-given e s q d l)
+      line f e s h n q (no d) (no l) = taken f h n d l (done-given e s q d l) (done-leaves e s q d l f)
 
       look : (f : FitIndex ix) (e : fitsIndex ix ≡ true) (s : sound (ix .live) ≡ true) (h : Sound (ix .live)) → Seen h hash key → Did
       look f e s h (there x z n q) = three f h x z n (present-three e s x q)
@@ -149,7 +187,7 @@ module _ (ix : Index) (hash key p : ℕ) where
       go (three f h x z n e) = absurd (omega (arith, clash e q))
       go (five f h n d e) = absurd (omega (arith, clash e q))
       go (six f h n d l e) = absurd (omega (arith, clash e q))
-      go (taken f h n d l e) = absurd (omega (arith, clash e q))
+      go (taken f h n d l e r) = absurd (omega (arith, number (sym q ∙ e)))
 
   two-then : inserts ix hash key p .answer ≡ refused 2 → FitIndex ix × (Sound (ix .live) → ⊥)
   two-then q = go did
@@ -160,7 +198,7 @@ module _ (ix : Index) (hash key p : ℕ) where
       go (three f h x z n e) = absurd (omega (arith, clash e q))
       go (five f h n d e) = absurd (omega (arith, clash e q))
       go (six f h n d l e) = absurd (omega (arith, clash e q))
-      go (taken f h n d l e) = absurd (omega (arith, clash e q))
+      go (taken f h n d l e r) = absurd (omega (arith, number (sym q ∙ e)))
 
   three-then : (slot : ℕ) → inserts ix hash key p .answer ≡ record { number = 3; value = some slot }
       → FitIndex ix × ((h : Sound (ix .live)) × Stands slot (h .tree) × (pairOf (ix .live .names) slot ≡ pair hash key))
@@ -172,7 +210,7 @@ module _ (ix : Index) (hash key p : ℕ) where
       go (three f h x z n e) = let y : x ≡ slot = value-inj (sym (answer e) ∙ q) refl refl in (f, (h, subst (λ (k : ℕ). Stands k (h .tree)) y z, subst (λ (k : ℕ). pairOf (ix .live .names) k ≡ pair hash key) y n))
       go (five f h n d e) = absurd (omega (arith, clash e q))
       go (six f h n d l e) = absurd (omega (arith, clash e q))
-      go (taken f h n d l e) = absurd (omega (arith, clash e q))
+      go (taken f h n d l e r) = absurd (omega (arith, number (sym q ∙ e)))
 
   five-then : inserts ix hash key p .answer ≡ refused 5
       → FitIndex ix × ((h : Sound (ix .live)) × (Has (ix .live .names) (h .tree) hash key → ⊥) × NoneFree (ix .live))
@@ -184,7 +222,7 @@ module _ (ix : Index) (hash key p : ℕ) where
       go (three f h x z n e) = absurd (omega (arith, clash e q))
       go (five f h n d e) = (f, (h, n, none-free (ix .live) (small (f .tree)) .0 d))
       go (six f h n d l e) = absurd (omega (arith, clash e q))
-      go (taken f h n d l e) = absurd (omega (arith, clash e q))
+      go (taken f h n d l e r) = absurd (omega (arith, number (sym q ∙ e)))
 
   six-then : inserts ix hash key p .answer ≡ refused 6
       → FitIndex ix × ((h : Sound (ix .live)) × (Has (ix .live .names) (h .tree) hash key → ⊥) × ((x : ℕ) × Lowest (ix .live) x) × (lengthOf (ix .lines) ≡ linesOf (ix .lines)))
@@ -196,7 +234,7 @@ module _ (ix : Index) (hash key p : ℕ) where
       go (three f h x z n e) = absurd (omega (arith, clash e q))
       go (five f h n d e) = absurd (omega (arith, clash e q))
       go (six f h n d l e) = (f, (h, n, (lowestFree (ix .live), lowest d), l))
-      go (taken f h n d l e) = absurd (omega (arith, clash e q))
+      go (taken f h n d l e r) = absurd (omega (arith, number (sym q ∙ e)))
 
   given-then : (x : ℕ) → inserts ix hash key p .answer ≡ given x
       → FitIndex ix × ((h : Sound (ix .live)) × (Has (ix .live .names) (h .tree) hash key → ⊥) × Lowest (ix .live) x × (lengthOf (ix .lines) < linesOf (ix .lines)))
@@ -208,7 +246,9 @@ module _ (ix : Index) (hash key p : ℕ) where
       go (three f h y z n e) = absurd (omega (arith, clash e q))
       go (five f h n d e) = absurd (omega (arith, clash e q))
       go (six f h n d l e) = absurd (omega (arith, clash e q))
-      go (taken f h n d l e) = let y : lowestFree (ix .live) ≡ x = value-inj (sym (answer e) ∙ q) refl refl in (f, (h, n, subst (λ (k : ℕ). Lowest (ix .live) k) y (lowest d), omega (arith, f .within, lines-capacity f)))
+      go (taken f h n d l e r) =
+          let y : lowestFree (ix .live) ≡ x = value-inj (sym e ∙ q) refl refl in
+          (f, (h, n, subst (λ (k : ℕ). Lowest (ix .live) k) y (lowest d), omega (arith, f .within, lines-capacity f)))
 
   nothing-written : inserts ix hash key p .answer .number ≢ 0 → inserts ix hash key p .left ≡ ix
   nothing-written q = go did
@@ -222,18 +262,7 @@ module _ (ix : Index) (hash key p : ℕ) where
       go (three f h x z n e) = left e
       go (five f h n d e) = left e
       go (six f h n d l e) = left e
-      go (taken f h n d l e) = absurd (q (number (answer e)))
-
-  -- What an accepted insert leaves, of the very tree h.
-  Leaves : Sound (ix .live) → ℕ → Outcome → Type 0
-  Leaves h x o =
-      (g : Sound (o .left .live)) × FitIndex (o .left) × (contents g ≡ put (entry hash key p) (contents h)) × (g .chain ≡ x ∷ h .chain) × OneLine (ix .lines) (o .left .lines) 1 hash key p
-      × (capacityOf (o .left .live) ≡ capacityOf (ix .live))
-
-  line-more : FitIndex ix → lengthOf (ix .lines) ≢ linesOf (ix .lines) → OneLine (ix .lines) (appended (ix .lines) 1 hash key p) 1 hash key p
-  line-more f l =
-      let room : at (lengthOf (ix .lines)) 3 < length (ix .lines) = omega (arith, f .within, f .four, lines-capacity f) in
-      one-line (ix .lines) 1 hash key p room
+      go (taken f h n d l e r) = absurd (q (number e))
 
   done : (x : ℕ) → inserts ix hash key p .answer ≡ given x → (h : Sound (ix .live)) → Leaves h x (inserts ix hash key p)
   unfolding Leaves
@@ -245,26 +274,9 @@ module _ (ix : Index) (hash key p : ℕ) where
       go (three f k y z n e) = absurd (omega (arith, clash e q))
       go (five f h n d e) = absurd (omega (arith, clash e q))
       go (six f h n d l e) = absurd (omega (arith, clash e q))
-      go (taken f k n d l e) = at-last f k n d l e
-        where
-          at-last : FitIndex ix → (k : Sound (ix .live)) → (Has (ix .live .names) (k .tree) hash key → ⊥) → lowestFree (ix .live) ≢ null → lengthOf (ix .lines) ≢ linesOf (ix .lines)
-              → inserts ix hash key p ≡ outcome (given (lowestFree (ix .live))) (index (grown (ix .live) (lowestFree (ix .live)) hash key p) (appended (ix .lines) 1 hash key p))
-              → Leaves h x (inserts ix hash key p)
-          at-last f k n d l e =
-              let w = lowest-free (ix .live) d in
-              let m : Has (ix .live .names) (h .tree) hash key → ⊥ = subst (λ (u : Tree). Has (ix .live .names) u hash key → ⊥) (tree-one (f .tree) k h) n in
-              let g = grown-sound (f .tree) h (lowestFree (ix .live)) hash key p (w .inside) (w .unused) m in
-              let y : lowestFree (ix .live) ≡ x = value-inj (sym (answer e) ∙ q) refl refl in
-              let j = line-more f l in
-              let fit : FitIndex (index (grown (ix .live) (lowestFree (ix .live)) hash key p) (appended (ix .lines) 1 hash key p)) =
-              record {
-                tree = grown-fit (f .tree) h (lowestFree (ix .live)) hash key p (w .inside) (w .unused);
-                capacity = f .capacity;
-                most = f .most;
-                four = j .long ∙ f .four;
-                within = omega (arith, j .count, f .within, lines-capacity f);
-              } in
-              subst (λ (o : Outcome). Leaves h x o) (sym e) (g .sound, fit, grown-contents g, g .chain ∙ ap (λ (i : ℕ). i ∷ h .chain) y, j, grown-capacity (ix .live) (lowestFree (ix .live)) hash key p)
+      go (taken f k n d l e r) =
+          subst (λ (y : ℕ). Leaves h y (inserts ix hash key p)) (value-inj (sym e ∙ q) refl refl)
+          (r h (subst (λ (u : Tree). Has (ix .live .names) u hash key → ⊥) (tree-one (f .tree) k h) n))
 
   pub insert-claims : Inserts ix hash key p
   unfolding Leaves
@@ -290,7 +302,9 @@ module _ (ix : Index) (hash key p : ℕ) where
         accepted = λ x. (
           given-then x,
           λ r. (let h = r .1 .0 in
-              answer (done-given (index-fits ix (r .0)) (sound-yes (r .0 .tree) h) (sought-none (r .0 .tree) h hash key (r .1 .1)) (has-free (r .0) x (r .1 .2)) (omega (arith, r .1 .3)))
+              done-given (index-fits ix (r .0)) (sound-yes (r .0 .tree) h) (sought-none (r .0 .tree) h hash key (r .1 .1))
+              (has-free (r .0) x (r .1 .2))
+              (omega (arith, r .1 .3))
               ∙ ap given (lowest-is (r .0 .tree) x (r .1 .2))),
         );
         nothing-written = nothing-written;
@@ -310,4 +324,4 @@ module _ (ix : Index) (hash key p : ℕ) where
       go (three f h x z n e) = inl (λ q. omega (arith, number (answer e)))
       go (five f h n d e) = inl (λ q. omega (arith, number (answer e)))
       go (six f h n d l e) = inl (λ q. omega (arith, number (answer e)))
-      go (taken f h n d l e) = inr (lowestFree (ix .live), answer e)
+      go (taken f h n d l e r) = inr (lowestFree (ix .live), e)

@@ -3,7 +3,7 @@ use mathlib.Core.Path.{_≡_, refl, ap, sym, _∙_, subst}
 use mathlib.Core.Logic.{_⊎_, inl, inr}
 use mathlib.Core.Bool.{Bool, true, false}
 use mathlib.Core.List.{List, [], _∷_, _++_, map}
-use Prim.Native.Nat.{ℕ, suc, _+_}
+use Prim.Native.Nat.{ℕ, suc}
 use lib.ListN.{length, length-append}
 use native.Mathlib.Decide.{ℕ-discrete}
 use native.Mathlib.Omega.{arith}
@@ -201,3 +201,39 @@ module _ (e : Entry) (l : List Entry) (r : Ascends l) (i : In e l) where
   pub length-without : suc (length (without (e .hash) (e .key) l)) ≡ length l
   length-without =
       omega (arith, ap length less, ap length (split-at .is), length-append (split-at .lower) (split-at .upper), length-append (split-at .lower) (e ∷ split-at .upper))
+
+-- Two rising lists with the same entries are one list.
+above-in : {e x : Entry} {l : List Entry} → Above e l → In x l → Less (pairIn e) (pairIn x)
+above-in (more h r) first = h
+above-in (more h r) (later i) = above-in r i
+
+not-both : (x y : Entry) → Less (pairIn x) (pairIn y) → Less (pairIn y) (pairIn x) → ⊥
+not-both x y h k = less-irreflexive (pairIn x) (less-transitive (pairIn x) (pairIn y) (pairIn x) h k)
+
+nothing-in : {x : Entry} {m : List Entry} → In x m → m ≡ [] → ⊥
+nothing-in (first {l = k}) q = omega (arith, ap length q)
+nothing-in (later {l = k} i) q = omega (arith, ap length q)
+
+pub ascends-same : (l m : List Entry) → Ascends l → Ascends m → ((e : Entry) → In e l → In e m) → ((e : Entry) → In e m → In e l) → l ≡ m
+ascends-same [] [] a b f g = refl
+ascends-same [] (y ∷ m) a b f g = absurd (nothing-in (g y first) refl)
+ascends-same (x ∷ l) [] a b f g = absurd (nothing-in (f x first) refl)
+ascends-same (x ∷ l) (y ∷ m) (step a r) (step b s) f g =
+    let e = heads (in-case (f x first) y m refl) (in-case (g y first) x l refl) in
+    let to : (z : Entry) → In z l → In z m = λ z i. rest (in-case (f z (later i)) y m refl) (λ q. away z i a (q ∙ sym e)) in
+    let from : (z : Entry) → In z m → In z l = λ z i. rest (in-case (g z (later i)) x l refl) (λ q. away z i b (q ∙ e)) in
+    let t = ascends-same l m r s to from in
+    λ i. e i ∷ t i
+  where
+    heads : (x ≡ y) ⊎ In x m → (y ≡ x) ⊎ In y l → x ≡ y
+    heads (inl e) j = e
+    heads (inr i) (inl e) = sym e
+    heads (inr i) (inr j) = absurd (not-both x y (above-in a j) (above-in b i))
+
+    -- what stands above an entry is another
+    away : {w : Entry} {k : List Entry} (z : Entry) → In z k → Above w k → z ≡ w → ⊥
+    away {w} z i h q = less-irreflexive (pairIn w) (subst (λ (v : Entry). Less (pairIn w) (pairIn v)) q (above-in h i))
+
+    rest : {z w : Entry} {k : List Entry} → (z ≡ w) ⊎ In z k → (z ≡ w → ⊥) → In z k
+    rest (inl q) n = absurd (n q)
+    rest (inr i) n = i

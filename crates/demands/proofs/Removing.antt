@@ -16,11 +16,11 @@ use Rattle.redblack.specs.Balance.{Less}
 use Rattle.redblack.specs.Holding.{Has, Stands}
 use Rattle.demands.specs.Live.{capacityOf}
 use Rattle.demands.specs.Sound.{Sound, sound}
-use Rattle.demands.specs.Index.{Index, index, FitIndex, Outcome, outcome, fitsIndex, lengthOf, linesOf, appended, at}
+use Rattle.demands.specs.Index.{Index, FitIndex, Outcome, outcome, fitsIndex, lengthOf, linesOf, at}
 use Rattle.demands.specs.Insert.{soughtIn}
-use Rattle.demands.specs.Remove.{shrunk, removes}
+use Rattle.demands.specs.Remove.{removes}
 use Rattle.demands.specs.Contents.{contents, without}
-use Rattle.demands.specs.Calls.{OneLine}
+use Rattle.demands.specs.Calls.{Frees, OneLine}
 use Rattle.demands.specs.Claims.{Removes}
 use Rattle.demands.proofs.Sounding.{sound-yes, yes-sound, unsound}
 use Rattle.demands.proofs.Journal.{fits-index, index-fits, lines-capacity, one-line}
@@ -31,6 +31,13 @@ use Rattle.demands.proofs.Unrolling.{tree-one, shrunk-capacity}
 use Rattle.demands.proofs.Inserting.{value-inj, unfit-false, unsound-false, sought-at, sought-none}
 
 module _ (ix : Index) (hash key : ℕ) where
+  -- What an accepted removal leaves, of the very tree h.
+  Leaves : Sound (ix .live) → ℕ → Outcome → Type 0
+  Leaves h x o =
+      (g : Sound (o .left .live)) × FitIndex (o .left) × (contents g ≡ without hash key (contents h)) × Less x (h .chain) (g .chain)
+      × OneLine (ix .lines) (o .left .lines) 2 hash key (cell (ix .live .cells) x place)
+      × (capacityOf (o .left .live) ≡ capacityOf (ix .live)) × Frees (ix .live) (o .left .live) x
+
   unfit-one : fitsIndex ix ≡ false → removes ix hash key ≡ outcome (refused 1) ix
   unfolding removes
   unfit-one e = rw e
@@ -49,10 +56,33 @@ module _ (ix : Index) (hash key : ℕ) where
       unfolding removes
       no-line-six l = rw (e, f, s, eq-eqb (lengthOf (ix .lines)) (linesOf (ix .lines)) l)
 
-      done-given : lengthOf (ix .lines) ≢ linesOf (ix .lines)
-          → removes ix hash key ≡ outcome (given x) (index (shrunk (ix .live) x) (appended (ix .lines) 2 hash key (cell (ix .live .cells) x place)))
-      unfolding removes
-      done-given l = rw (e, f, s, ne-eqb (lengthOf (ix .lines)) (linesOf (ix .lines)) l)
+      module _ (l : lengthOf (ix .lines) ≢ linesOf (ix .lines)) where
+        done-given : removes ix hash key .answer ≡ given x
+        unfolding removes
+        done-given = rw (e, f, s, ne-eqb (lengthOf (ix .lines)) (linesOf (ix .lines)) l)
+
+        done-leaves : FitIndex ix → (h : Sound (ix .live)) → Stands x (h .tree) → pairOf (ix .live .names) x ≡ pair hash key
+            → Leaves h x (removes ix hash key)
+        unfolding removes Leaves
+        done-leaves fit h z n =
+            let room : at (lengthOf (ix .lines)) 3 < length (ix .lines) = omega (arith, fit .within, fit .four, lines-capacity fit) in
+            let g = shrunk-sound (fit .tree) h x z in
+            let j = one-line (ix .lines) 2 hash key (cell (ix .live .cells) x place) room in
+            rw (e, f, s, ne-eqb (lengthOf (ix .lines)) (linesOf (ix .lines)) l) (
+              g .sound,
+              record {
+                tree = shrunk-fit (fit .tree) h x z;
+                capacity = fit .capacity;
+                most = fit .most;
+                four = j .long ∙ fit .four;
+                within = omega (arith, j .count, fit .within, lines-capacity fit);
+              },
+              shrunk-contents g ∙ ap (λ (r : Pair). without (r .hash) (r .key) (contents h)) n,
+              g .chain,
+              j,
+              shrunk-capacity (ix .live) x,
+              g .frees,
+            )
 
   -- The case that the tests come to, with what it says.
   data Did : Type 0 where
@@ -62,7 +92,7 @@ module _ (ix : Index) (hash key : ℕ) where
     six : FitIndex ix → (h : Sound (ix .live)) (x : ℕ) → Stands x (h .tree) → pairOf (ix .live .names) x ≡ pair hash key → lengthOf (ix .lines) ≡ linesOf (ix .lines)
         → removes ix hash key ≡ outcome (refused 6) ix → Did
     taken : FitIndex ix → (h : Sound (ix .live)) (x : ℕ) → Stands x (h .tree) → pairOf (ix .live .names) x ≡ pair hash key → lengthOf (ix .lines) ≢ linesOf (ix .lines)
-        → removes ix hash key ≡ outcome (given x) (index (shrunk (ix .live) x) (appended (ix .lines) 2 hash key (cell (ix .live .cells) x place))) → Did
+        → removes ix hash key .answer ≡ given x → ((h : Sound (ix .live)) → Stands x (h .tree) → Leaves h x (removes ix hash key)) → Did
 
   did : Did
   did = go (fitsIndex ix) refl (sound (ix .live)) refl
@@ -70,7 +100,7 @@ module _ (ix : Index) (hash key : ℕ) where
       line : (f : FitIndex ix) (e : fitsIndex ix ≡ true) (s : sound (ix .live) ≡ true) (h : Sound (ix .live)) (x : ℕ) → Stands x (h .tree) → pairOf (ix .live .names) x ≡ pair hash key
           → soughtIn (ix .live) hash key ≡ some x → Dec (lengthOf (ix .lines) ≡ linesOf (ix .lines)) → Did
       line f e s h x z n q (yes l) = six f h x z n l (no-line-six e s x q l)
-      line f e s h x z n q (no l) = taken f h x z n l (done-given e s x q l)
+      line f e s h x z n q (no l) = taken f h x z n l (done-given e s x q l) (λ k w. done-leaves e s x q l f k w n)
 
       look : (f : FitIndex ix) (e : fitsIndex ix ≡ true) (s : sound (ix .live) ≡ true) (h : Sound (ix .live)) → Seen h hash key → Did
       look f e s h (there x z n q) = line f e s h x z n q (ℕ-discrete (lengthOf (ix .lines)) (linesOf (ix .lines)))
@@ -96,7 +126,7 @@ module _ (ix : Index) (hash key : ℕ) where
       go (two f n e) = absurd (omega (arith, clash e q))
       go (four f h n e) = absurd (omega (arith, clash e q))
       go (six f h y z n l e) = absurd (omega (arith, clash e q))
-      go (taken f h y z n l e) = absurd (omega (arith, clash e q))
+      go (taken f h y z n l e r) = absurd (omega (arith, number (sym q ∙ e)))
 
   two-then : removes ix hash key .answer ≡ refused 2 → FitIndex ix × (Sound (ix .live) → ⊥)
   two-then q = go did
@@ -106,7 +136,7 @@ module _ (ix : Index) (hash key : ℕ) where
       go (two f n e) = (f, n)
       go (four f h n e) = absurd (omega (arith, clash e q))
       go (six f h y z n l e) = absurd (omega (arith, clash e q))
-      go (taken f h y z n l e) = absurd (omega (arith, clash e q))
+      go (taken f h y z n l e r) = absurd (omega (arith, number (sym q ∙ e)))
 
   four-then : removes ix hash key .answer ≡ refused 4 → FitIndex ix × ((h : Sound (ix .live)) × (Has (ix .live .names) (h .tree) hash key → ⊥))
   four-then q = go did
@@ -116,7 +146,7 @@ module _ (ix : Index) (hash key : ℕ) where
       go (two f n e) = absurd (omega (arith, clash e q))
       go (four f h n e) = (f, (h, n))
       go (six f h y z n l e) = absurd (omega (arith, clash e q))
-      go (taken f h y z n l e) = absurd (omega (arith, clash e q))
+      go (taken f h y z n l e r) = absurd (omega (arith, number (sym q ∙ e)))
 
   six-then : removes ix hash key .answer ≡ refused 6
       → FitIndex ix × ((h : Sound (ix .live)) × Has (ix .live .names) (h .tree) hash key × (lengthOf (ix .lines) ≡ linesOf (ix .lines)))
@@ -127,7 +157,7 @@ module _ (ix : Index) (hash key : ℕ) where
       go (two f n e) = absurd (omega (arith, clash e q))
       go (four f h n e) = absurd (omega (arith, clash e q))
       go (six f h y z n l e) = (f, (h, record { slot = y; stands = z; named = n }, l))
-      go (taken f h y z n l e) = absurd (omega (arith, clash e q))
+      go (taken f h y z n l e r) = absurd (omega (arith, number (sym q ∙ e)))
 
   given-then : (x : ℕ) → removes ix hash key .answer ≡ given x
       → FitIndex ix × ((h : Sound (ix .live)) × Stands x (h .tree) × (pairOf (ix .live .names) x ≡ pair hash key) × (lengthOf (ix .lines) < linesOf (ix .lines)))
@@ -138,7 +168,10 @@ module _ (ix : Index) (hash key : ℕ) where
       go (two f n e) = absurd (omega (arith, clash e q))
       go (four f h n e) = absurd (omega (arith, clash e q))
       go (six f h y z n l e) = absurd (omega (arith, clash e q))
-      go (taken f h y z n l e) = let w : y ≡ x = value-inj (sym (answer e) ∙ q) refl refl in (f, (h, subst (λ (k : ℕ). Stands k (h .tree)) w z, subst (λ (k : ℕ). pairOf (ix .live .names) k ≡ pair hash key) w n, omega (arith, f .within, lines-capacity f)))
+      go (taken f h y z n l e r) =
+          let w : y ≡ x = value-inj (sym e ∙ q) refl refl in
+          let named = subst (λ (k : ℕ). pairOf (ix .live .names) k ≡ pair hash key) w n in
+          (f, (h, subst (λ (k : ℕ). Stands k (h .tree)) w z, named, omega (arith, f .within, lines-capacity f)))
 
   nothing-written : removes ix hash key .answer .number ≢ 0 → removes ix hash key .left ≡ ix
   nothing-written q = go did
@@ -151,42 +184,20 @@ module _ (ix : Index) (hash key : ℕ) where
       go (two f n e) = left e
       go (four f h n e) = left e
       go (six f h y z n l e) = left e
-      go (taken f h y z n l e) = absurd (q (number (answer e)))
-
-  -- What an accepted removal leaves, of the very tree h.
-  Leaves : Sound (ix .live) → ℕ → Outcome → Type 0
-  Leaves h x o =
-      (g : Sound (o .left .live)) × FitIndex (o .left) × (contents g ≡ without hash key (contents h)) × Less x (h .chain) (g .chain)
-      × OneLine (ix .lines) (o .left .lines) 2 hash key (cell (ix .live .cells) x place) × (capacityOf (o .left .live) ≡ capacityOf (ix .live))
+      go (taken f h y z n l e r) = absurd (q (number e))
 
   done : (x : ℕ) → removes ix hash key .answer ≡ given x → (h : Sound (ix .live)) → Leaves h x (removes ix hash key)
   unfolding Leaves
   done x q h = go did
     where
-      at-last : FitIndex ix → (k : Sound (ix .live)) (y : ℕ) → Stands y (k .tree) → pairOf (ix .live .names) y ≡ pair hash key → lengthOf (ix .lines) ≢ linesOf (ix .lines)
-          → removes ix hash key ≡ outcome (given y) (index (shrunk (ix .live) y) (appended (ix .lines) 2 hash key (cell (ix .live .cells) y place)))
-          → Leaves h y (removes ix hash key)
-      at-last f k y z n l e =
-          let room : at (lengthOf (ix .lines)) 3 < length (ix .lines) = omega (arith, f .within, f .four, lines-capacity f) in
-          let s : Stands y (h .tree) = subst (λ (u : Tree). Stands y u) (tree-one (f .tree) k h) z in
-          let g = shrunk-sound (f .tree) h y s in
-          let j = one-line (ix .lines) 2 hash key (cell (ix .live .cells) y place) room in
-          let fit : FitIndex (index (shrunk (ix .live) y) (appended (ix .lines) 2 hash key (cell (ix .live .cells) y place))) =
-          record {
-            tree = shrunk-fit (f .tree) h y s;
-            capacity = f .capacity;
-            most = f .most;
-            four = j .long ∙ f .four;
-            within = omega (arith, j .count, f .within, lines-capacity f);
-          } in
-          subst (λ (o : Outcome). Leaves h y o) (sym e) (g .sound, fit, shrunk-contents g ∙ ap (λ (r : Pair). without (r .hash) (r .key) (contents h)) n, g .chain, j, shrunk-capacity (ix .live) y)
-
       go : Did → Leaves h x (removes ix hash key)
       go (one n e) = absurd (omega (arith, clash e q))
       go (two f n e) = absurd (omega (arith, clash e q))
       go (four f h n e) = absurd (omega (arith, clash e q))
       go (six f h y z n l e) = absurd (omega (arith, clash e q))
-      go (taken f k y z n l e) = subst (λ (i : ℕ). Leaves h i (removes ix hash key)) (value-inj (sym (answer e) ∙ q) refl refl) (at-last f k y z n l e)
+      go (taken f k y z n l e r) =
+          subst (λ (i : ℕ). Leaves h i (removes ix hash key)) (value-inj (sym e ∙ q) refl refl)
+          (r h (subst (λ (u : Tree). Stands y u) (tree-one (f .tree) k h) z))
 
   pub remove-claims : Removes ix hash key
   unfolding Leaves
@@ -203,7 +214,8 @@ module _ (ix : Index) (hash key : ℕ) where
         accepted = λ x. (
           given-then x,
           λ r. (let h = r .1 .0 in
-              answer (done-given (index-fits ix (r .0)) (sound-yes (r .0 .tree) h) x (sought-at (r .0 .tree) h hash key x (r .1 .1) (r .1 .2)) (omega (arith, r .1 .3)))),
+              done-given (index-fits ix (r .0)) (sound-yes (r .0 .tree) h) x (sought-at (r .0 .tree) h hash key x (r .1 .1) (r .1 .2))
+              (omega (arith, r .1 .3))),
         );
         nothing-written = nothing-written;
         done = done;
@@ -218,4 +230,4 @@ module _ (ix : Index) (hash key : ℕ) where
       go (two f n e) = inl (λ q. omega (arith, number (answer e)))
       go (four f h n e) = inl (λ q. omega (arith, number (answer e)))
       go (six f h y z n l e) = inl (λ q. omega (arith, number (answer e)))
-      go (taken f h y z n l e) = inr (y, answer e)
+      go (taken f h y z n l e r) = inr (y, e)

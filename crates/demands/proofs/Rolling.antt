@@ -10,14 +10,14 @@ use Rattle.slots.specs.Answers.{Answer, given, refused}
 use Rattle.slots.proofs.Laws.{number}
 use Rattle.demands.specs.Live.{Live, capacityOf}
 use Rattle.demands.specs.Sound.{Sound, sound}
-use Rattle.demands.specs.Index.{Index, index, FitIndex, Outcome, outcome, fitsIndex, lengthOf}
+use Rattle.demands.specs.Index.{Index, FitIndex, Outcome, outcome, fitsIndex, lengthOf}
 use Rattle.demands.specs.Rollback.{Undo, stays, misfit, unrolled, rolls}
 use Rattle.demands.specs.Contents.{contents}
 use Rattle.demands.specs.Undoing.{Undoes, Fits}
 use Rattle.demands.specs.Calls.{BackTo}
 use Rattle.demands.specs.Claims.{Rolls}
 use Rattle.demands.proofs.Sounding.{sound-yes, yes-sound, unsound}
-use Rattle.demands.proofs.Journal.{fits-index, index-fits, rolledLines, back-to}
+use Rattle.demands.proofs.Journal.{fits-index, index-fits, back-to}
 use Rattle.demands.proofs.Unrolling.{Rolled, unrolled-undoes, undoes-unrolled}
 use Rattle.demands.proofs.Inserting.{value-inj, unfit-false, unsound-false}
 
@@ -27,6 +27,26 @@ not-stays e = let z : _≡_ {A = ℕ} 0 1 = cc in omega arith
 module _ (ix : Index) (m : ℕ) where
   abbrev count : ℕ
   count = lengthOf (ix .lines) - m
+
+  whole : m ≤ lengthOf (ix .lines) → m + count ≡ lengthOf (ix .lines)
+  whole l = omega arith
+
+  -- The lines fit exactly where they are undone.
+  fits-of : FitIndex ix → (h : Sound (ix .live)) → m ≤ lengthOf (ix .lines) → (t : Live) → unrolled count (ix .live) (ix .lines) m ≡ stays t
+      → Rolled h (ix .lines) m (lengthOf (ix .lines)) t
+  fits-of f h l t s = subst (λ (k : ℕ). Rolled h (ix .lines) m k t) (whole l) (unrolled-undoes (ix .lines) m count (f .tree) h t s)
+
+  of-fits : FitIndex ix → (h : Sound (ix .live)) → m ≤ lengthOf (ix .lines)
+      → Fits (capacityOf (ix .live)) (ix .lines) m (lengthOf (ix .lines)) (contents h)
+      → (t : Live) × (unrolled count (ix .live) (ix .lines) m ≡ stays t)
+  of-fits f h l r = undoes-unrolled (ix .lines) m count (lengthOf (ix .lines)) (r .1) (sym (whole l)) (f .tree) h refl refl
+
+  -- What an accepted rollback leaves, of the very tree h.
+  Leaves : Sound (ix .live) → Outcome → Type 0
+  Leaves h o =
+      (g : Sound (o .left .live)) × FitIndex (o .left)
+      × Undoes (capacityOf (ix .live)) (ix .lines) m (lengthOf (ix .lines)) (contents h) (contents g)
+      × BackTo m (ix .lines) (o .left .lines) × (capacityOf (o .left .live) ≡ capacityOf (ix .live))
 
   unfit-one : fitsIndex ix ≡ false → rolls ix m ≡ outcome (refused 1) ix
   unfolding rolls
@@ -45,22 +65,30 @@ module _ (ix : Index) (m : ℕ) where
     unfolding rolls
     misfit-eight l s = rw (e, f, le-ltb (lengthOf (ix .lines)) m l, s)
 
-    done-given : (t : Live) → m ≤ lengthOf (ix .lines) → unrolled count (ix .live) (ix .lines) m ≡ stays t
-        → rolls ix m ≡ outcome (given count) (index t (rolledLines count (ix .lines) m))
-    unfolding rolls
-    done-given t l s = rw (e, f, le-ltb (lengthOf (ix .lines)) m l, s)
+    module _ (t : Live) (l : m ≤ lengthOf (ix .lines)) (s : unrolled count (ix .live) (ix .lines) m ≡ stays t) where
+      -- The number answered is the length less the mark.
+      done-given : rolls ix m .answer ≡ given count
+      unfolding rolls
+      done-given = rw (e, f, le-ltb (lengthOf (ix .lines)) m l, s) (ap given (omega arith))
 
-  whole : m ≤ lengthOf (ix .lines) → m + count ≡ lengthOf (ix .lines)
-  whole l = omega arith
-
-  -- The lines fit exactly where they are undone.
-  fits-of : FitIndex ix → (h : Sound (ix .live)) → m ≤ lengthOf (ix .lines) → (t : Live) → unrolled count (ix .live) (ix .lines) m ≡ stays t
-      → Rolled h (ix .lines) m (lengthOf (ix .lines)) t
-  fits-of f h l t s = subst (λ (k : ℕ). Rolled h (ix .lines) m k t) (whole l) (unrolled-undoes (ix .lines) m count (f .tree) h t s)
-
-  of-fits : FitIndex ix → (h : Sound (ix .live)) → m ≤ lengthOf (ix .lines) → Fits (capacityOf (ix .live)) (ix .lines) m (lengthOf (ix .lines)) (contents h)
-      → (t : Live) × (unrolled count (ix .live) (ix .lines) m ≡ stays t)
-  of-fits f h l r = undoes-unrolled (ix .lines) m count (lengthOf (ix .lines)) (r .1) (sym (whole l)) (f .tree) h refl refl
+      done-leaves : FitIndex ix → (h : Sound (ix .live)) → Leaves h (rolls ix m)
+      unfolding rolls Leaves
+      done-leaves fit h =
+          let r = fits-of fit h l t s in
+          let b = back-to (ix .lines) m l (omega (arith, fit .within, fit .four)) in
+          rw (e, f, le-ltb (lengthOf (ix .lines)) m l, s) (
+            r .sound,
+            record {
+              tree = r .fit;
+              capacity = fit .capacity;
+              most = fit .most;
+              four = b .long ∙ fit .four;
+              within = omega (arith, b .count, fit .within);
+            },
+            r .undoes,
+            b,
+            r .capacity,
+          )
 
   -- The case that the tests come to, with what it says.
   data Did : Type 0 where
@@ -70,14 +98,14 @@ module _ (ix : Index) (m : ℕ) where
     eight : FitIndex ix → (h : Sound (ix .live)) → m ≤ lengthOf (ix .lines) → (Fits (capacityOf (ix .live)) (ix .lines) m (lengthOf (ix .lines)) (contents h) → ⊥)
         → rolls ix m ≡ outcome (refused 8) ix → Did
     taken : FitIndex ix → (h : Sound (ix .live)) → m ≤ lengthOf (ix .lines) → (t : Live) → unrolled count (ix .live) (ix .lines) m ≡ stays t
-        → rolls ix m ≡ outcome (given count) (index t (rolledLines count (ix .lines) m)) → Did
+        → rolls ix m .answer ≡ given count → ((h : Sound (ix .live)) → Leaves h (rolls ix m)) → Did
 
   did : Did
   did = go (fitsIndex ix) refl (sound (ix .live)) refl
     where
       undo : (f : FitIndex ix) (e : fitsIndex ix ≡ true) (s : sound (ix .live) ≡ true) (h : Sound (ix .live)) → m ≤ lengthOf (ix .lines)
           → (o : Undo) → unrolled count (ix .live) (ix .lines) m ≡ o → Did
-      undo f e s h l (stays t) q = taken f h l t q (done-given e s t l q)
+      undo f e s h l (stays t) q = taken f h l t q (done-given e s t l q) (done-leaves e s t l q f)
       undo f e s h l misfit q = eight f h l (λ r. not-stays (sym q ∙ of-fits f h l r .1)) (misfit-eight e s l q)
 
       look : (f : FitIndex ix) (e : fitsIndex ix ≡ true) (s : sound (ix .live) ≡ true) (h : Sound (ix .live)) → Dec (lengthOf (ix .lines) < m) → Did
@@ -104,7 +132,7 @@ module _ (ix : Index) (m : ℕ) where
       go (two f n e) = absurd (omega (arith, clash e q))
       go (seven f h l e) = absurd (omega (arith, clash e q))
       go (eight f h l n e) = absurd (omega (arith, clash e q))
-      go (taken f h l t s e) = absurd (omega (arith, clash e q))
+      go (taken f h l t s e r) = absurd (omega (arith, number (sym q ∙ e)))
 
   two-then : rolls ix m .answer ≡ refused 2 → FitIndex ix × (Sound (ix .live) → ⊥)
   two-then q = go did
@@ -114,7 +142,7 @@ module _ (ix : Index) (m : ℕ) where
       go (two f n e) = (f, n)
       go (seven f h l e) = absurd (omega (arith, clash e q))
       go (eight f h l n e) = absurd (omega (arith, clash e q))
-      go (taken f h l t s e) = absurd (omega (arith, clash e q))
+      go (taken f h l t s e r) = absurd (omega (arith, number (sym q ∙ e)))
 
   seven-then : rolls ix m .answer ≡ refused 7 → FitIndex ix × Sound (ix .live) × (lengthOf (ix .lines) < m)
   seven-then q = go did
@@ -124,7 +152,7 @@ module _ (ix : Index) (m : ℕ) where
       go (two f n e) = absurd (omega (arith, clash e q))
       go (seven f h l e) = (f, h, l)
       go (eight f h l n e) = absurd (omega (arith, clash e q))
-      go (taken f h l t s e) = absurd (omega (arith, clash e q))
+      go (taken f h l t s e r) = absurd (omega (arith, number (sym q ∙ e)))
 
   eight-then : rolls ix m .answer ≡ refused 8
       → FitIndex ix × (m ≤ lengthOf (ix .lines)) × ((h : Sound (ix .live)) × (Fits (capacityOf (ix .live)) (ix .lines) m (lengthOf (ix .lines)) (contents h) → ⊥))
@@ -135,7 +163,7 @@ module _ (ix : Index) (m : ℕ) where
       go (two f n e) = absurd (omega (arith, clash e q))
       go (seven f h l e) = absurd (omega (arith, clash e q))
       go (eight f h l n e) = (f, l, (h, n))
-      go (taken f h l t s e) = absurd (omega (arith, clash e q))
+      go (taken f h l t s e r) = absurd (omega (arith, number (sym q ∙ e)))
 
   given-then : (c : ℕ) → rolls ix m .answer ≡ given c
       → FitIndex ix × (m ≤ lengthOf (ix .lines)) × (c ≡ lengthOf (ix .lines) - m) × ((h : Sound (ix .live)) × Fits (capacityOf (ix .live)) (ix .lines) m (lengthOf (ix .lines)) (contents h))
@@ -146,7 +174,9 @@ module _ (ix : Index) (m : ℕ) where
       go (two f n e) = absurd (omega (arith, clash e q))
       go (seven f h l e) = absurd (omega (arith, clash e q))
       go (eight f h l n e) = absurd (omega (arith, clash e q))
-      go (taken f h l t s e) = let r = fits-of f h l t s in (f, l, sym (value-inj (sym (answer e) ∙ q) refl refl), (h, (contents (r .sound), r .undoes)))
+      go (taken f h l t s e r) =
+          let o = fits-of f h l t s in
+          (f, l, sym (value-inj (sym e ∙ q) refl refl), (h, (contents (o .sound), o .undoes)))
 
   nothing-written : rolls ix m .answer .number ≢ 0 → rolls ix m .left ≡ ix
   nothing-written q = go did
@@ -159,33 +189,18 @@ module _ (ix : Index) (m : ℕ) where
       go (two f n e) = left e
       go (seven f h l e) = left e
       go (eight f h l n e) = left e
-      go (taken f h l t s e) = absurd (q (number (answer e)))
-
-  -- What an accepted rollback leaves, of the very tree h.
-  Leaves : Sound (ix .live) → Outcome → Type 0
-  Leaves h o =
-      (g : Sound (o .left .live)) × FitIndex (o .left) × Undoes (capacityOf (ix .live)) (ix .lines) m (lengthOf (ix .lines)) (contents h) (contents g)
-      × BackTo m (ix .lines) (o .left .lines) × (capacityOf (o .left .live) ≡ capacityOf (ix .live))
+      go (taken f h l t s e r) = absurd (q (number e))
 
   done : (c : ℕ) → rolls ix m .answer ≡ given c → (h : Sound (ix .live)) → Leaves h (rolls ix m)
   unfolding Leaves
   done c q h = go did
     where
-      at-last : FitIndex ix → m ≤ lengthOf (ix .lines) → (t : Live) → unrolled count (ix .live) (ix .lines) m ≡ stays t
-          → rolls ix m ≡ outcome (given count) (index t (rolledLines count (ix .lines) m)) → Leaves h (rolls ix m)
-      at-last f l t s e =
-          let r = fits-of f h l t s in
-          let b : BackTo m (ix .lines) (rolledLines count (ix .lines) m) = back-to (ix .lines) m l (omega (arith, f .within, f .four)) in
-          let fit : FitIndex (index t (rolledLines count (ix .lines) m)) =
-          record { tree = r .fit; capacity = f .capacity; most = f .most; four = b .long ∙ f .four; within = omega (arith, b .count, f .within) } in
-          subst (λ (o : Outcome). Leaves h o) (sym e) (r .sound, fit, r .undoes, b, r .capacity)
-
       go : Did → Leaves h (rolls ix m)
       go (one n e) = absurd (omega (arith, clash e q))
       go (two f n e) = absurd (omega (arith, clash e q))
       go (seven f h l e) = absurd (omega (arith, clash e q))
       go (eight f h l n e) = absurd (omega (arith, clash e q))
-      go (taken f k l t s e) = at-last f l t s e
+      go (taken f k l t s e r) = r h
 
   pub rollback-claims : Rolls ix m
   unfolding Leaves
@@ -202,7 +217,7 @@ module _ (ix : Index) (m : ℕ) where
         accepted = λ c. (
           given-then c,
           λ r. (let h = r .3 .0 in let u = of-fits (r .0) h (r .1) (r .3 .1) in
-              answer (done-given (index-fits ix (r .0)) (sound-yes (r .0 .tree) h) (u .0) (r .1) (u .1)) ∙ ap given (sym (r .2))),
+              done-given (index-fits ix (r .0)) (sound-yes (r .0 .tree) h) (u .0) (r .1) (u .1) ∙ ap given (sym (r .2))),
         );
         nothing-written = nothing-written;
         done = done;
@@ -225,4 +240,4 @@ module _ (ix : Index) (m : ℕ) where
       go (two f n e) = inl (λ q. omega (arith, number (answer e)))
       go (seven f h l e) = inl (λ q. omega (arith, number (answer e)))
       go (eight f h l n e) = inl (λ q. omega (arith, number (answer e)))
-      go (taken f h l t s e) = inr (lengthOf (ix .lines) - m, answer e)
+      go (taken f h l t s e r) = inr (lengthOf (ix .lines) - m, e)

@@ -3,18 +3,19 @@ use mathlib.Core.Path.{_≡_, refl, ap, sym, subst, _∙_}
 use mathlib.Core.Logic.{_≢_, _⊎_, inl, inr}
 use mathlib.Core.Bool.{true}
 use mathlib.Core.List.{List, [], _∷_, _++_}
-use Prim.Native.Nat.{ℕ, _+_, _-_, _*_, _/_, _<_, _≤_}
+use Prim.Native.Nat.{ℕ, _+_, _*_, _<_, _≤_}
 use native.Mathlib.Decide.{ℕ-discrete}
 use native.Mathlib.Omega.{arith}
 use lib.ListN.{length}
 use lib.Dec.{ltb}
-use Rattle.slots.specs.Words.{null, place, state, parent, left, right, prev, next, free, fields, parts, cell, roomy, hashPart, keyPart}
+use Rattle.slots.specs.Words.{null, place, state, parent, left, right, prev, next, free, fields, parts, cell, roomy}
+use Rattle.slots.specs.Pairs.{Pair, pair, pairOf}
 use Rattle.slots.proofs.Laws.{pick-eq, pick-ne, cell-same, cell-across, cell-else, roomy-write, length-write}
 use Rattle.shape.specs.Tree.{Tree, slots, times, Rooted}
 use Rattle.shape.specs.Chain.{Chain, linked}
 use Rattle.shape.proofs.Counting.{times-append, times-head, times-rest, times-cases}
 use Rattle.shape.proofs.Chaining.{chain-inside, chain-once}
-use Rattle.redblack.specs.Links.{Links}
+use Rattle.redblack.specs.Links.{Links, read}
 use Rattle.redblack.specs.Removal.{removed}
 use Rattle.redblack.specs.Balance.{Less}
 use Rattle.redblack.specs.Holding.{Holds, RedBlackTree}
@@ -22,14 +23,15 @@ use Rattle.redblack.specs.Kept.{Agree}
 use Rattle.redblack.specs.Claims.{RemovesSlot}
 use Rattle.redblack.proofs.Kept.{place-aside, prev-aside, next-aside}
 use Rattle.redblack.proofs.Claims.{claims}
-use Rattle.demands.specs.Live.{Live, Fit, rootOf, firstOf, countOf, capacityOf}
+use Rattle.demands.specs.Live.{Live, Fit, rootOf, firstOf, capacityOf}
 use Rattle.demands.specs.Sound.{Sound, Cleared}
 use Rattle.demands.specs.Built.{Built}
 use Rattle.demands.specs.Remove.{unchained, newFirst, wiped, shrunk}
+use Rattle.demands.specs.Calls.{Alike, OthersStay, Frees}
 use Rattle.demands.proofs.Fit.{half}
 use Rattle.demands.proofs.Rules.{small}
 use Rattle.demands.proofs.Building.{built-sound, built-tree, built-chain}
-use Rattle.demands.proofs.Frames.{Still, Kept, none-of, off-chain, sound-balanced, tree-inside, same-slots, nowhere-free, sound-count, hangs-frame, chain-frame, chain-behind, chain-starts, rising-frame, rising-without, without-else, without-same, without-length, roomy-cells, roomy-names, paired-length, paired-else, paired-pair, paired-hash, paired-key, headed-length, headed-root, headed-first, headed-count}
+use Rattle.demands.proofs.Frames.{Still, none-of, off-chain, sound-balanced, tree-inside, same-slots, nowhere-free, sound-count, hangs-frame, chain-frame, chain-behind, chain-starts, rising-frame, rising-without, without-else, without-same, without-length, roomy-cells, roomy-names, name-same, name-across, name-else, roomy-rename, length-rename, headed-length, headed-root, headed-first, headed-count}
 
 -- A member of a list can be taken out of it.
 taken : (x : ℕ) (l : List ℕ) → 1 ≤ times x l → (m : List ℕ) × Less x l m
@@ -63,10 +65,6 @@ module _ (cells : List ℕ) (x : ℕ) where
   loose-still : (k : ℕ) → Still cells (unchained cells x) k
   unfolding unchained
   loose-still k = record { states = simp cell-across; parents = simp cell-across; lefts = simp cell-across; rights = simp cell-across }
-
-  loose-place : (k : ℕ) → cell (unchained cells x) k place ≡ cell cells k place
-  unfolding unchained
-  loose-place k = simp cell-across
 
   loose-next : (k : ℕ) → k ≢ cell cells x prev → cell (unchained cells x) k next ≡ cell cells k next
   unfolding unchained
@@ -139,9 +137,8 @@ pub record Shrunk (t u : Live) (h : Sound t) (x : ℕ) : Type 0 where
   pub sound : Sound u
   pub chain : Less x (h .chain) (sound .chain)
   pub slotted : Less x (slots (h .tree)) (slots (sound .tree))
-  pub keeps : (k : ℕ) → 1 ≤ times k (slots (sound .tree)) → Kept t u k
-  pub least : 1 ≤ countOf t
-  pub count : countOf u ≡ countOf t - 1
+  pub keeps : (k : ℕ) → 1 ≤ times k (slots (sound .tree)) → Alike t u k
+  pub frees : Frees t u x
 
 module _ {t : Live} (fit : Fit t) (h : Sound t) (x : ℕ) (here : 1 ≤ times x (slots (h .tree))) where
   inside : x < capacityOf t
@@ -164,6 +161,16 @@ module _ {t : Live} (fit : Fit t) (h : Sound t) (x : ℕ) (here : 1 ≤ times x 
 
   removes-slot : RemovesSlot (capacityOf t) (capacityOf t) links (h .tree) x
   removes-slot = claims .removes-slot (capacityOf t) (capacityOf t) links (h .tree) x
+
+  -- A removal leaves every place as it was, whatever the links are.
+  gone-place : (s : Links) (k : ℕ) → read (removed (capacityOf t) s x) k place ≡ read s k place
+  gone-place s k = claims .removes-slot (capacityOf t) (capacityOf t) s (h .tree) x .keeps place place-aside .same k
+
+  -- Which slot keeps which pair and place.
+  others-stay : OthersStay t (shrunk t x) x
+  unfolding shrunk wiped unchained
+  others-stay y d =
+      record { pairs = simp name-else; places = simp cell-else (gone-place _ y ∙ simp cell-across) }
 
   holds : Holds (capacityOf t) links (h .tree)
   holds =
@@ -291,13 +298,17 @@ module _ {t : Live} (fit : Fit t) (h : Sound t) (x : ℕ) (here : 1 ≤ times x 
       go (inr z) = inr (omega (arith, within (cell (t .cells) x next), times-rest (cell (t .cells) x next) x back))
 
   -- The slot x is cleared.
+  nameless : pairOf (shrunk t x .names) x ≡ pair 0 0
+  unfolding shrunk
+  nameless = simp (name-across, name-same, roomy-rename, roomN)
+
   own : (cell clean x state ≡ free) × Cleared (shrunk t x) x
   unfolding shrunk wiped
   own = (
     simp (cell-across, cell-same, roomy-write, room),
     record {
-      hash = paired-hash (t .names) x 0 0 roomN;
-      key = paired-key (t .names) x 0 0 roomN;
+      hash = ap (λ (q : Pair). q .hash) nameless;
+      key = ap (λ (q : Pair). q .key) nameless;
       placed = simp (cell-across, cell-same, room);
       parents = simp (cell-across, cell-same, roomy-write, room);
       lefts = simp (cell-across, cell-same, roomy-write, room);
@@ -319,9 +330,9 @@ module _ {t : Live} (fit : Fit t) (h : Sound t) (x : ℕ) (here : 1 ≤ times x 
           let w : (f : ℕ) → ltb f fields ≡ true → cell clean k f ≡ cell loose k f = λ f m. wiped-else (gone .cells) x k f d m ∙ a .same f m in (
             w state refl ∙ s .states ∙ nowhere-free h k l y,
             record {
-              hash = paired-else (t .names) x 0 0 k hashPart d refl ∙ c .hash;
-              key = paired-else (t .names) x 0 0 k keyPart d refl ∙ c .key;
-              placed = w place refl ∙ loose-place (t .cells) x k ∙ c .placed;
+              hash = ap (λ (q : Pair). q .hash) (others-stay k d .pairs) ∙ c .hash;
+              key = ap (λ (q : Pair). q .key) (others-stay k d .pairs) ∙ c .key;
+              placed = others-stay k d .places ∙ c .placed;
               parents = w parent refl ∙ s .parents ∙ c .parents;
               lefts = w left refl ∙ s .lefts ∙ c .lefts;
               rights = w right refl ∙ s .rights ∙ c .rights;
@@ -341,14 +352,14 @@ module _ {t : Live} (fit : Fit t) (h : Sound t) (x : ℕ) (here : 1 ≤ times x 
         capacity = fit .capacity;
         least = fit .least;
         most = fit .most;
-        two = paired-length (t .names) x 0 0 ∙ fit .two;
+        two = simp length-rename (fit .two);
         seven = wiped-length (gone .cells) x ∙ removes-slot .keeps place place-aside .long ∙ loose-length (t .cells) x ∙ fit .seven;
-        three = headed-length (t .head) (gone .root) (newFirst t x) (countOf t - 1) ∙ fit .three;
+        three = headed-length (t .head) _ _ _ ∙ fit .three;
       }
 
   cap : capacityOf (shrunk t x) ≡ capacityOf t
   unfolding shrunk
-  cap = ap (λ (m : ℕ). m / 2) (paired-length (t .names) x 0 0)
+  cap = simp length-rename
 
   built : Built (shrunk t x)
   unfolding shrunk
@@ -356,23 +367,14 @@ module _ {t : Live} (fit : Fit t) (h : Sound t) (x : ℕ) (here : 1 ≤ times x 
       record {
         tree = result .0;
         chain = others-chain .0;
-        rooted = rw (cap, headed-root (t .head) (gone .root) (newFirst t x) (countOf t - 1) (fit .three)) clean-rooted;
-        rising = rising-frame (λ k z. paired-pair (t .names) x 0 0 k (not-x k z)) (rising-without (result .3) (h .t4));
+        rooted = rw (cap, headed-root (t .head) _ _ _ (fit .three)) clean-rooted;
+        rising = rising-frame (λ k z. others-stay k (not-x k z) .pairs) (rising-without (result .3) (h .t4));
         coloured = result .2 .coloured;
         level = result .2 .level;
-        linked = rw (cap, headed-first (t .head) (gone .root) (newFirst t x) (countOf t - 1) (fit .three)) clean-chain;
+        linked = rw (cap, headed-first (t .head) _ _ _ (fit .three)) clean-chain;
         same = λ k l. same k (rw cap at l);
         others = λ k l z. others k (rw cap at l) z;
-        count = headed-count (t .head) (gone .root) (newFirst t x) (countOf t - 1) (fit .three) ∙ omega (arith, sound-count h, without-length (result .3));
-      }
-
-  keeps : (k : ℕ) → 1 ≤ times k (slots (result .0)) → Kept t (shrunk t x) k
-  unfolding shrunk
-  keeps k z =
-      let d = not-x k z in
-      record {
-        pairs = paired-pair (t .names) x 0 0 k d;
-        places = wiped-else (gone .cells) x k place d refl ∙ removes-slot .keeps place place-aside .same k ∙ loose-place (t .cells) x k;
+        count = headed-count (t .head) _ _ _ (fit .three) ∙ omega (arith, sound-count h, without-length (result .3));
       }
 
   pub shrunk-sound : Shrunk t (shrunk t x) h x
@@ -382,7 +384,6 @@ module _ {t : Live} (fit : Fit t) (h : Sound t) (x : ℕ) (here : 1 ≤ times x 
         sound = built-sound shrunk-fit built;
         chain = rw (built-chain shrunk-fit built) (others-chain .1);
         slotted = rw (built-tree shrunk-fit built) (result .3);
-        keeps = λ k z. keeps k (rw (built-tree shrunk-fit built) at z);
-        least = omega (arith, sound-count h, without-length (result .3));
-        count = headed-count (t .head) (gone .root) (newFirst t x) (countOf t - 1) (fit .three);
+        keeps = λ k z. others-stay k (not-x k (rw (built-tree shrunk-fit built) at z));
+        frees = record { freed = own .0; others = others-stay };
       }

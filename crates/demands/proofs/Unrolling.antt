@@ -3,7 +3,7 @@ use mathlib.Core.Path.{_≡_, refl, ap, sym, _∙_, subst}
 use mathlib.Core.Logic.{_≢_, _↔_}
 use mathlib.Core.Bool.{Bool, true, false}
 use mathlib.Core.List.{List}
-use Prim.Native.Nat.{ℕ, zero, suc, _+_, _-_, _/_, _<_, _≤_}
+use Prim.Native.Nat.{ℕ, zero, suc, _+_, _<_, _≤_}
 use native.Mathlib.Decide.{ℕ-discrete, decLt}
 use native.Mathlib.Omega.{arith}
 use lib.ListN.{length}
@@ -25,7 +25,7 @@ use Rattle.demands.specs.Rollback.{Undo, stays, misfit, takenBack, putBa
 use Rattle.demands.specs.Contents.{Entry, entry, entryOf, contents, put, without, In, Lacks}
 use Rattle.demands.specs.Undoing.{lineEntry, Undoes, back, insertLine, removeLine}
 use Rattle.demands.proofs.Rules.{small}
-use Rattle.demands.proofs.Frames.{paired-length}
+use Rattle.demands.proofs.Frames.{length-rename}
 use Rattle.demands.proofs.Growing.{grown-fit, grown-sound}
 use Rattle.demands.proofs.Shrinking.{shrunk-fit, shrunk-sound}
 use Rattle.demands.proofs.Free.{lowest-free, none-free}
@@ -43,11 +43,11 @@ contents-one {t} fit h g =
 
 pub grown-capacity : (t : Live) (x hash key p : ℕ) → capacityOf (grown t x hash key p) ≡ capacityOf t
 unfolding grown
-grown-capacity t x hash key p = ap (λ (n : ℕ). n / 2) (paired-length (t .names) x hash key)
+grown-capacity t x hash key p = simp length-rename
 
 pub shrunk-capacity : (t : Live) (x : ℕ) → capacityOf (shrunk t x) ≡ capacityOf t
 unfolding shrunk
-shrunk-capacity t x = ap (λ (n : ℕ). n / 2) (paired-length (t .names) x 0 0)
+shrunk-capacity t x = simp length-rename
 
 -- There is a free slot exactly where the contents are fewer than the slots.
 tally-all : (n : ℕ) (f : ℕ → ℕ) → ((k : ℕ) → k < n → f k ≡ 1) → tally n f ≡ n
@@ -142,7 +142,7 @@ module _ {t : Live} (fit : Fit t) (h : Sound t) (lines : List ℕ) (k : ℕ) whe
           → Dec (cell (t .cells) x place ≡ lineWord lines k placeWord) → takenBack t (some x) (lineWord lines k placeWord) ≡ stays u → Stepped h lines k u
       placed x z n (yes p) q =
           let is : entryOf t x ≡ lineEntry lines k = λ i. entry (n i .hash) (n i .key) (p i) in
-          let same : shrunk t x ≡ u = stays-is (rw (eq-eqb (cell (t .cells) x place) (lineWord lines k placeWord) p) at q) in
+          let same = stays-is (rw (eq-eqb (cell (t .cells) x place) (lineWord lines k placeWord) p) at q) in
           took one (subst (λ (r : Entry). In r (contents h)) is (stands-in h x z)) (subst (λ (v : Live). Left t v (without (lineWord lines k hashWord) (lineWord lines k keyWord) (contents h))) same (shrinks fit h x (lineWord lines k hashWord) (lineWord lines k keyWord) z n))
       placed x z n (no p) q = absurd (not-stays (rw (ne-eqb (cell (t .cells) x place) (lineWord lines k placeWord) p) at q))
 
@@ -159,8 +159,7 @@ module _ {t : Live} (fit : Fit t) (h : Sound t) (lines : List ℕ) (k : ℕ) whe
       placed n (yes d) f q = absurd (not-stays (rw (eq-eqb (lowestFree t) null d) at q))
       placed n (no d) (no f) q = absurd (not-stays (rw (ne-eqb (lowestFree t) null d, le-ltb (lineWord lines k placeWord) 4294967296 (omega arith)) at q))
       placed n (no d) (yes f) q =
-          let same : grown t (lowestFree t) (lineWord lines k hashWord) (lineWord lines k keyWord) (lineWord lines k placeWord) ≡ u =
-          stays-is (rw (ne-eqb (lowestFree t) null d, lt-ltb (lineWord lines k placeWord) 4294967296 f) at q) in
+          let same = stays-is (rw (ne-eqb (lowestFree t) null d, lt-ltb (lineWord lines k placeWord) 4294967296 f) at q) in
           gave two (lacks-of h (lineWord lines k hashWord) (lineWord lines k keyWord) n) (free-room fit h .0 d) f
           (subst (λ (v : Live). Left t v (put (lineEntry lines k) (contents h))) same (grows fit h (lineWord lines k hashWord) (lineWord lines k keyWord) (lineWord lines k placeWord) n d))
 
@@ -199,14 +198,6 @@ module _ {t : Live} (fit : Fit t) (h : Sound t) (lines : List ℕ) (k : ℕ) whe
       )
 
 -- So many lines undone.
-unrolled-on : (c : ℕ) (t v : Live) (lines : List ℕ) (m : ℕ) → undone t lines (m + c) ≡ stays v → unrolled (suc c) t lines m ≡ unrolled c v lines m
-unfolding unrolled
-unrolled-on c t v lines m e = rw (e, unrolled)
-
-unrolled-off : (c : ℕ) (t : Live) (lines : List ℕ) (m : ℕ) → undone t lines (m + c) ≡ misfit → unrolled (suc c) t lines m ≡ misfit
-unfolding unrolled
-unrolled-off c t lines m e = rw (e, unrolled)
-
 pub record Rolled {t : Live} (h : Sound t) (lines : List ℕ) (m k : ℕ) (u : Live) : Type 0 where
   pub fit : Fit u
   pub sound : Sound u
@@ -240,8 +231,8 @@ module _ (lines : List ℕ) (m : ℕ) where
       go (stays v) q rest =
           let z : m + suc c ≡ suc (m + c) = omega arith in
           let s = undone-step fit h lines (m + c) v q in
-          subst (λ (k : ℕ). Rolled h lines m k u) (sym z) (one-more (m + c) h (omega arith) s (λ g f. rest v g f (sym (unrolled-on c t v lines m q) ∙ e)))
-      go misfit q rest = absurd (not-stays (sym (unrolled-off c t lines m q) ∙ e))
+          subst (λ (k : ℕ). Rolled h lines m k u) (sym z) (one-more (m + c) h (omega arith) s (λ g f. rest v g f (rw (q, unrolled) at e)))
+      go misfit q rest = absurd (not-stays (rw (q, unrolled) at e))
 
   -- And lines that fit are undone.
   pub undoes-unrolled : (c k : ℕ) {n : ℕ} {l l′ : List Entry} {t : Live} → Undoes n lines m k l l′ → k ≡ m + c → Fit t → (h : Sound t) → l ≡ contents h → n ≡ capacityOf t
@@ -259,7 +250,7 @@ module _ (lines : List ℕ) (m : ℕ) where
           → (u : Live) × (unrolled (suc c) t lines m ≡ stays u)
       next v y (took a b f) z rest =
           let o = rest v (f .sound) (f .fit) (ap (without (lineWord lines k hashWord) (lineWord lines k keyWord)) q ∙ sym (f .holds)) (r ∙ sym (f .capacity)) in
-          (o .0, unrolled-on c t v lines m (rw (← z) y) ∙ o .1)
+          let w : undone t lines (m + c) ≡ stays v = rw (← z) y in (o .0, rw (w, unrolled) (o .1))
       next v y (gave a b d g f) z rest = absurd (omega arith)
   undoes-unrolled (suc c) (suc k) {n} {l} {l′} {t} (removeLine w p i d f x) e fit h q r =
       let z : k ≡ m + c = omega arith in
@@ -272,4 +263,4 @@ module _ (lines : List ℕ) (m : ℕ) where
       next v y (took a b f) z rest = absurd (omega arith)
       next v y (gave a b d g f) z rest =
           let o = rest v (f .sound) (f .fit) (ap (put (lineEntry lines k)) q ∙ sym (f .holds)) (r ∙ sym (f .capacity)) in
-          (o .0, unrolled-on c t v lines m (rw (← z) y) ∙ o .1)
+          let w : undone t lines (m + c) ≡ stays v = rw (← z) y in (o .0, rw (w, unrolled) (o .1))

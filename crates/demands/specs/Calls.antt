@@ -4,7 +4,8 @@ use mathlib.Core.List.{List, [], _∷_}
 use mathlib.Core.Logic.{_≢_}
 use Prim.Native.Nat.{ℕ, _+_, _<_, _≤_}
 use lib.ListN.{length, getD}
-use Rattle.slots.specs.Words.{state, free, cell}
+use Rattle.slots.specs.Words.{place, state, free, cell}
+use Rattle.slots.specs.Pairs.{pair, pairOf}
 use Rattle.demands.specs.Live.{Live, capacityOf}
 use Rattle.demands.specs.Index.{Index, Outcome, lengthOf, lineWord, at, kindWord, hashWord, keyWord, placeWord}
 use Rattle.demands.specs.Insert.{inserts}
@@ -47,7 +48,27 @@ pub record Lowest (t : Live) (x : ℕ) : Type 0 where
 abbrev pub NoneFree : Live → Type 0
 NoneFree t = (k : ℕ) → k < capacityOf t → cell (t .cells) k state ≢ free
 
--- "exactly one line more": the length, this line, and every other word as it was.
+-- The slot y has in u the pair and the place that it has in t.
+pub record Alike (t u : Live) (y : ℕ) : Type 0 where
+  pub pairs : pairOf (u .names) y ≡ pairOf (t .names) y
+  pub places : cell (u .cells) y place ≡ cell (t .cells) y place
+
+-- Every slot but x keeps its pair and its place.
+abbrev pub OthersStay : Live → Live → ℕ → Type 0
+OthersStay t u x = (y : ℕ) → y ≢ x → Alike t u y
+
+-- The slot x takes the pair and its place, and the others stay.
+pub record Takes (t u : Live) (x hash key p : ℕ) : Type 0 where
+  pub named : pairOf (u .names) x ≡ pair hash key
+  pub placed : cell (u .cells) x place ≡ p
+  pub others : OthersStay t u x
+
+-- The slot x is free after, and the others stay.
+pub record Frees (t u : Live) (x : ℕ) : Type 0 where
+  pub freed : cell (u .cells) x state ≡ free
+  pub others : OthersStay t u x
+
+-- "Each accepted insert or remove appends one": the length, this line, and every other word as it was.
 pub record OneLine (lines lines′ : List ℕ) (kind hash key p : ℕ) : Type 0 where
   pub long : length lines′ ≡ length lines
   pub count : lengthOf lines′ ≡ lengthOf lines + 1

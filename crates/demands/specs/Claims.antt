@@ -21,15 +21,15 @@ use Rattle.demands.specs.Index.{Index, FitIndex, lengthOf, linesOf, at}
 use Rattle.demands.specs.Insert.{inserts}
 use Rattle.demands.specs.Remove.{removes}
 use Rattle.demands.specs.Rollback.{rolls}
-use Rattle.demands.specs.Contents.{entry, contents, put, without}
+use Rattle.demands.specs.Contents.{entry, contents, HoldSame, put, without}
 use Rattle.demands.specs.Undoing.{Undoes, Fits}
-use Rattle.demands.specs.Calls.{Call, after, Allowed, Places, Lowest, NoneFree, OneLine, BackTo}
+use Rattle.demands.specs.Calls.{Call, after, Allowed, Places, Lowest, NoneFree, Takes, Frees, OneLine, BackTo}
 
 -- find on any words, for any pair.
 pub record Finds (t : Live) (hash key : ℕ) : Type 0 where
-  -- "1 Unfit: slice lengths disagree, a capacity breaks its rule": exactly then
+  -- 1 Unfit, "slice lengths disagree, a capacity .. breaks its rule": exactly then
   pub one : (finds t hash key ≡ refused 1) ↔ (Fit t → ⊥)
-  -- "9 Lost": exactly where the words are fit and the search is lost
+  -- 9 Lost: exactly where the words are fit and the search is lost
   pub nine : (finds t hash key ≡ refused 9) ↔ (Fit t × Lost (t .names) (t .cells) (rootOf t) hash key)
   -- the slot, and Nothing, exactly where the words are fit and the search comes to them
   pub at : (slot : ℕ) → (finds t hash key ≡ given slot) ↔ (Fit t × Here (t .names) (t .cells) (rootOf t) hash key slot)
@@ -59,49 +59,52 @@ pub record Sounds (t : Live) : Type 0 where
   pub rule-six : Fit t → T1 t → {tree : Tree} → T3 t tree → (rule6 t ≡ true) ↔ T6 tree
   pub rule-seven : Fit t → T1 t → (rule7 t ≡ true) ↔ ((chain : List ℕ) × T7 t chain)
 
--- find on a sound tree: "the slot exactly where the pair is, Nothing exactly where it is not, never 9".
+-- find on a sound tree: the slot exactly where the pair is, Nothing exactly where it is not, never 9.
 pub record FindsSound (t : Live) (fit : Fit t) (h : Sound t) (hash key : ℕ) : Type 0 where
   pub at : (slot : ℕ) → (finds t hash key ≡ given slot) ↔ (Stands slot (h .tree) × (pairOf (t .names) slot ≡ pair hash key))
   pub none : (finds t hash key ≡ nothing) ↔ (Has (t .names) (h .tree) hash key → ⊥)
   pub never-nine : finds t hash key ≡ refused 9 → ⊥
 
--- The contents of a sound tree are one list, and it strictly rises: two trees that hold the same have equal contents.
+-- The contents of a sound tree are one list, and it strictly rises: two trees have equal contents exactly if they hold the same.
 pub record Holds (t : Live) (fit : Fit t) : Type 0 where
   pub one : (h g : Sound t) → contents h ≡ contents g
   pub rising : (h : Sound t) → Rising (t .names) (slots (h .tree))
   pub many : (h : Sound t) → length (contents h) ≡ countOf t
+  pub same : (h : Sound t) (u : Live) (g : Sound u) → HoldSame h g ↔ (contents h ≡ contents g)
 
 -- insert on any words: each refusal exactly when 01's table says and no earlier number holds.
 pub record Inserts (ix : Index) (hash key p : ℕ) : Type 0 where
-  -- "1 Unfit: slice lengths disagree, a capacity breaks its rule, or the journal's length passes its capacity"
+  -- 1 Unfit, "slice lengths disagree, a capacity .. breaks its rule, or the journal's length passes its capacity"
   pub one : (inserts ix hash key p .answer ≡ refused 1) ↔ (FitIndex ix → ⊥)
-  -- "2 Damaged: the tree is not sound"
+  -- 2 Damaged, "the tree is not sound"
   pub two : (inserts ix hash key p .answer ≡ refused 2) ↔ (FitIndex ix × (Sound (ix .live) → ⊥))
-  -- "3 Present: the pair is there; its slot is returned too"
+  -- 3 Present, "the pair is there; its slot is returned too"
   pub three : (slot : ℕ) → (inserts ix hash key p .answer ≡ record { number = 3; value = some slot })
       ↔ (FitIndex ix × ((h : Sound (ix .live)) × Stands slot (h .tree) × (pairOf (ix .live .names) slot ≡ pair hash key)))
-  -- "5 Full: no free slot"
+  -- 5 Full, "no free slot"
   pub five : (inserts ix hash key p .answer ≡ refused 5)
       ↔ (FitIndex ix × ((h : Sound (ix .live)) × (Has (ix .live .names) (h .tree) hash key → ⊥) × NoneFree (ix .live)))
-  -- "6 Journal full: no line left"
+  -- 6 Journal full, "no line left"
   pub six : (inserts ix hash key p .answer ≡ refused 6)
       ↔ (FitIndex ix × ((h : Sound (ix .live)) × (Has (ix .live .names) (h .tree) hash key → ⊥) × ((x : ℕ) × Lowest (ix .live) x) × (lengthOf (ix .lines) ≡ linesOf (ix .lines))))
   -- accepted exactly else, and it answers the lowest free slot
   pub accepted : (x : ℕ) → (inserts ix hash key p .answer ≡ given x)
       ↔ (FitIndex ix × ((h : Sound (ix .live)) × (Has (ix .live .names) (h .tree) hash key → ⊥) × Lowest (ix .live) x × (lengthOf (ix .lines) < linesOf (ix .lines))))
-  -- "A refusal writes nothing."
+  -- "A refusal .. writes nothing."
   pub nothing-written : (inserts ix hash key p .answer .number ≢ 0) → inserts ix hash key p .left ≡ ix
-  -- accepted: sound after, with exactly this entry more; "the chain the new slot and then the old chain"; exactly one line more, of kind 1
+  -- accepted: sound after, with exactly this entry more; the chain is the new slot and then the old chain; exactly one line more, of kind 1;
+  -- the slot answered is the one that took the pair
   pub done : (x : ℕ) → inserts ix hash key p .answer ≡ given x → (h : Sound (ix .live))
       → (g : Sound (inserts ix hash key p .left .live)) × FitIndex (inserts ix hash key p .left)
       × (contents g ≡ put (entry hash key p) (contents h)) × (g .chain ≡ x ∷ h .chain)
       × OneLine (ix .lines) (inserts ix hash key p .left .lines) 1 hash key p × (capacityOf (inserts ix hash key p .left .live) ≡ capacityOf (ix .live))
+      × Takes (ix .live) (inserts ix hash key p .left .live) x hash key p
 
 -- remove on any words.
 pub record Removes (ix : Index) (hash key : ℕ) : Type 0 where
   pub one : (removes ix hash key .answer ≡ refused 1) ↔ (FitIndex ix → ⊥)
   pub two : (removes ix hash key .answer ≡ refused 2) ↔ (FitIndex ix × (Sound (ix .live) → ⊥))
-  -- "4 Absent: it is not"
+  -- 4 Absent, "it is not" there
   pub four : (removes ix hash key .answer ≡ refused 4) ↔ (FitIndex ix × ((h : Sound (ix .live)) × (Has (ix .live .names) (h .tree) hash key → ⊥)))
   pub six : (removes ix hash key .answer ≡ refused 6)
       ↔ (FitIndex ix × ((h : Sound (ix .live)) × Has (ix .live .names) (h .tree) hash key × (lengthOf (ix .lines) ≡ linesOf (ix .lines))))
@@ -109,19 +112,21 @@ pub record Removes (ix : Index) (hash key : ℕ) : Type 0 where
   pub accepted : (x : ℕ) → (removes ix hash key .answer ≡ given x)
       ↔ (FitIndex ix × ((h : Sound (ix .live)) × Stands x (h .tree) × (pairOf (ix .live .names) x ≡ pair hash key) × (lengthOf (ix .lines) < linesOf (ix .lines))))
   pub nothing-written : (removes ix hash key .answer .number ≢ 0) → removes ix hash key .left ≡ ix
-  -- accepted: sound after, with exactly this pair's entry gone; the chain without the slot; exactly one line more, of kind 2, with the place it had
+  -- accepted: sound after, with exactly this pair's entry gone; the chain without the slot; exactly one line more, of kind 2, with the
+  -- place it had; the slot answered is free
   pub done : (x : ℕ) → removes ix hash key .answer ≡ given x → (h : Sound (ix .live))
       → (g : Sound (removes ix hash key .left .live)) × FitIndex (removes ix hash key .left)
       × (contents g ≡ without hash key (contents h)) × Less x (h .chain) (g .chain)
       × OneLine (ix .lines) (removes ix hash key .left .lines) 2 hash key (cell (ix .live .cells) x place) × (capacityOf (removes ix hash key .left .live) ≡ capacityOf (ix .live))
+      × Frees (ix .live) (removes ix hash key .left .live) x
 
 -- rollback on any words.
 pub record Rolls (ix : Index) (m : ℕ) : Type 0 where
   pub one : (rolls ix m .answer ≡ refused 1) ↔ (FitIndex ix → ⊥)
   pub two : (rolls ix m .answer ≡ refused 2) ↔ (FitIndex ix × (Sound (ix .live) → ⊥))
-  -- "7 Bad mark: mark above the length"
+  -- 7 Bad mark, "mark above the length"
   pub seven : (rolls ix m .answer ≡ refused 7) ↔ (FitIndex ix × Sound (ix .live) × (lengthOf (ix .lines) < m))
-  -- "8 Misfit: the lines do not fit"
+  -- 8 Misfit, "the lines do not fit"
   pub eight : (rolls ix m .answer ≡ refused 8)
       ↔ (FitIndex ix × (m ≤ lengthOf (ix .lines)) × ((h : Sound (ix .live)) × (Fits (capacityOf (ix .live)) (ix .lines) m (lengthOf (ix .lines)) (contents h) → ⊥)))
   -- accepted exactly else, and it answers the lines undone

@@ -1,12 +1,14 @@
 -- What a sound tree holds: its pairs with their places, in order.
 use mathlib.Core.Path.{_≡_}
+use mathlib.Core.Logic.{_↔_}
 use mathlib.Core.Bool.{Bool, false}
 use mathlib.Core.List.{List, [], _∷_, map}
 use Prim.Native.Nat.{ℕ}
 use lib.Dec.{eqb}
 use Rattle.slots.specs.Words.{pick, place, cell, nameOf, hashPart, keyPart}
-use Rattle.slots.specs.Pairs.{before}
+use Rattle.slots.specs.Pairs.{pair, pairOf, before}
 use Rattle.shape.specs.Tree.{Tree, slots}
+use Rattle.redblack.specs.Holding.{Stands}
 use Rattle.demands.specs.Live.{Live}
 use Rattle.demands.specs.Sound.{Sound}
 
@@ -28,6 +30,17 @@ listed t tree = map (entryOf t) (slots tree)
 
 abbrev pub contents : {t : Live} → Sound t → List Entry
 contents {t} h = listed t (h .tree)
+
+-- The tree has the pair with the place: some slot of it has both.
+pub record HasAt (t : Live) (tree : Tree) (hash key p : ℕ) : Type 0 where
+  pub slot : ℕ
+  pub stands : Stands slot tree
+  pub named : pairOf (t .names) slot ≡ pair hash key
+  pub placed : cell (t .cells) slot place ≡ p
+
+-- Two sound trees hold the same: each has every pair, with its place, that the other has, in whatever slots and whatever shape.
+abbrev pub HoldSame : {t u : Live} → Sound t → Sound u → Type 0
+HoldSame {t} {u} h g = (hash key p : ℕ) → HasAt t (h .tree) hash key p ↔ HasAt u (g .tree) hash key p
 
 -- The list with one entry more, in its place in the order.
 unfoldable pub put : Entry → List Entry → List Entry

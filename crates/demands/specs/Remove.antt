@@ -20,7 +20,7 @@ unchained cells x =
 abbrev pub newFirst : Live → ℕ → ℕ
 newFirst t x = pick (eqb (cell (t .cells) x prev) null) (cell (t .cells) x next) (firstOf t)
 
--- "A freed slot is cleared whole": "all zero with null links".
+-- The slot is "all zero with null links" again.
 unfoldable pub wiped : List ℕ → ℕ → List ℕ
 wiped cells x =
     write (write (write (write (write (write (write cells x place 0) x state free) x parent null) x left null) x right null) x prev null) x next null

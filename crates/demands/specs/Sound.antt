@@ -141,6 +141,6 @@ rule7 t =
 unfoldable pub sound : Live → Bool
 sound t = pick (rule1 t) (pick (rule2 t) (pick (rule3 t) (pick (rule4 t) (pick (rule5 t) (pick (rule6 t) (rule7 t) false) false) false) false) false) false
 
--- "The full check gives 1, or else yes or no": yes is 1, no is 0.
+-- "The full check and acceptance give 1, or else yes or no": yes is 1, no is 0.
 unfoldable pub sounds : Live → Answer
 sounds t = pick (fits t) (pick (sound t) (given 1) (given 0)) (refused 1)

@@ -6,7 +6,7 @@ use lib.Dec.{ltb}
 use Rattle.slots.specs.Words.{pick}
 use Rattle.dialogue.specs.Text.{Read, read, unread, readNumber, readNext, begins, decimal, space, plusWord, minusWord, askWord, rollWord, markWord, listWord}
 
--- "`+` takes hash, key, place; `-` and `?` hash, key; `r` a mark; `m` and `l` nothing. A line of another form prints `bad`."
+-- "`+` takes hash, key, place; `-` and `?` hash, key; `r` a mark; `m` and `l` nothing." "A line of another form .. prints `bad`."
 pub data Command : Type 0 where
   insert : ℕ → ℕ → ℕ → Command
   remove find : ℕ → ℕ → Command

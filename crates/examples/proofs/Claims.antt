@@ -29,8 +29,9 @@ use Rattle.demands.proofs.Claims.{claims as demanded}
 use Rattle.demands.specs.Calls.{after}
 use Rattle.demands.specs.Insert.{freeFrom, lowestFree, soughtIn, fronted, grown, inserts}
 use Rattle.demands.specs.Remove.{unchained, wiped, shrunk, removes}
-use Rattle.sets.specs.Words.{begins, doubling, doubled, fitTables, binOf}
+use Rattle.sets.specs.Words.{begins, doubling, doubled, fitTables, binOf, bini}
 use Rattle.sets.specs.Words.{fits as setFits}
+use Rattle.sets.specs.Accepting.{isHome, isListSlot, samePair, unlike, listSlotFine, listFine, placed as mayStand, ownFine, binAsks, belowFine, binFine, tableFine, isBlank, headersFine, allHeld, accepted, accepts}
 use Rattle.walks.specs.Cursor.{starts, levelFine, levelsFine, baseFine, fine}
 use Rattle.walks.specs.Walk.{kept, advanced, sought, under, walked, nexts}
 use Rattle.walks.specs.Held.{after as stepped}
@@ -60,6 +61,10 @@ walk-order : walks 7 tables (starts tables 0 .cursor) ≡ bin 2 0 ∷ (bin 2 4 �
 unfolding walks tables listSlots cell nameOf begins doubling doubled fitTables setFits binOf starts levelFine levelsFine baseFine fine kept advanced sought under walked nexts
 walk-order = refl
 
+tables-accepted : accepts tables ≡ given 1
+unfolding tables listSlots cell nameOf tally linksIn isCleared slotFine slotsFine begins doubling doubled fitTables setFits binOf bini isHome isListSlot samePair unlike listSlotFine listFine mayStand ownFine binAsks belowFine binFine tableFine isBlank headersFine allHeld accepted accepts
+tables-accepted = refl
+
 walk-done : nexts tables (stepped 6 tables (starts tables 0 .cursor)) .answer ≡ nothing
 unfolding tables listSlots cell begins doubling doubled fitTables setFits binOf starts levelFine levelsFine baseFine fine kept advanced sought under walked nexts stepped
 walk-done = refl
@@ -85,6 +90,7 @@ claims =
       one-more = λ ix fit h. demanded .rollback ix (lengthOf (ix .lines) + 1) .seven .1 (fit, h, omega arith);
       both-tree = refl;
       both-looks = refl;
+      tables-accepted = tables-accepted;
       walk-order = walk-order;
       walk-done = walk-done;
     }

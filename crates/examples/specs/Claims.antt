@@ -14,6 +14,7 @@ use Rattle.demands.specs.Insert.{inserts}
 use Rattle.demands.specs.Remove.{removes}
 use Rattle.demands.specs.Rollback.{rolls}
 use Rattle.demands.specs.Calls.{after, Lowest}
+use Rattle.sets.specs.Accepting.{accepts}
 use Rattle.walks.specs.Cursor.{starts}
 use Rattle.walks.specs.Walk.{nexts}
 use Rattle.walks.specs.Held.{after as stepped}
@@ -60,5 +61,6 @@ pub record Claims : Type 0 where
       let t = after (add 1 ∷ (add 2 ∷ [])) (empty 4 8) .live in
       found (t .names) (t .cells) (rootOf t) 0 0 ≡ record { answer = nothing; looks = 0 ∷ (1 ∷ []) }
   -- "Table lengths 2, 4, 8; Moved: both of table 0, bins 0 and 2 of table 1. Walk order: table 2 bins 0, 4, 2, 6, then table 1 bins 1, 3."
+  pub tables-accepted : accepts tables ≡ given 1
   pub walk-order : walks 7 tables (starts tables 0 .cursor) ≡ bin 2 0 ∷ (bin 2 4 ∷ (bin 2 2 ∷ (bin 2 6 ∷ (bin 1 1 ∷ (bin 1 3 ∷ [])))))
   pub walk-done : nexts tables (stepped 6 tables (starts tables 0 .cursor)) .answer ≡ nothing

@@ -33,10 +33,10 @@ add k = insertCall 0 k (10 * k)
 abbrev pub take : ℕ → Call
 take k = removeCall 0 k
 
--- A tree as one draws it: the keys with their colours, one under another.
+-- A tree as one draws it: the keys with their colours, one under another. Black is state 1, red state 2; other is any other state.
 pub data Drawing : Type 0 where
   none : Drawing
-  black red : Drawing → ℕ → Drawing → Drawing
+  black red other : Drawing → ℕ → Drawing → Drawing
 
 -- The drawing from the link i, at most so deep.
 unfoldable pub drawnFrom : ℕ → Live → ℕ → Drawing
@@ -45,7 +45,7 @@ drawnFrom (suc depth) t i =
     let k = nameOf (t .names) i keyPart in
     let l = drawnFrom depth t (cell (t .cells) i left) in
     let r = drawnFrom depth t (cell (t .cells) i right) in
-    pick (eqb i null) none (pick (eqb (cell (t .cells) i state) 2) (red l k r) (black l k r))
+    pick (eqb i null) none (pick (eqb (cell (t .cells) i state) 1) (black l k r) (pick (eqb (cell (t .cells) i state) 2) (red l k r) (other l k r)))
 
 unfoldable pub drawn : Live → Drawing
 drawn t = drawnFrom (capacityOf t) t (rootOf t)

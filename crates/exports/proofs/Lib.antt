@@ -1,4 +1,5 @@
 pub mod Bounds
 pub mod Telling
 pub mod Keeping
+pub mod Answering
 pub mod Claims

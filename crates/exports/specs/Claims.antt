@@ -1,8 +1,12 @@
--- What crate `exports` proves beside its contracts: a word has one number and one value, and each exported routine has one outcome.
+-- What crate `exports` proves beside its contracts: a word has one number and one value, it tells which answer it is, and each exported
+-- routine has one outcome.
 use mathlib.Core.Path.{_≡_}
+use mathlib.Core.Logic.{_↔_}
 use mathlib.Core.List.{List}
-use Prim.Native.Nat.{ℕ, _+_, _*_, _<_}
-use Rattle.slots.specs.Answers.{OneAnswer}
+use Prim.Native.Nat.{ℕ, _+_, _*_, _<_, _≤_}
+use lib.ListN.{length}
+use Rattle.slots.specs.Words.{null}
+use Rattle.slots.specs.Answers.{Answer, given, nothing, refused, OneAnswer}
 use Rattle.demands.specs.Live.{Live}
 use Rattle.demands.specs.Index.{Index}
 use Rattle.demands.specs.Find.{finds}
@@ -14,13 +18,28 @@ use Rattle.demands.specs.Rollback.{rolls}
 use Rattle.sets.specs.Words.{Set}
 use Rattle.sets.specs.Accepting.{accepts}
 use Rattle.walks.specs.Lookup.{lookups}
+use Rattle.walks.specs.Cursor.{Cursor}
+use Rattle.walks.specs.Walk.{nexts}
 use Rattle.exports.specs.Words.{answerWord, checkWord, Told, told}
-use Rattle.exports.specs.Cursors.{Kept, started, walked}
+use Rattle.exports.specs.Cursors.{cursorIn, Kept, started, walked}
+
+-- The word of an answer tells which it is: a slot given is below 4,096, so that null is Nothing or Done alone.
+pub record Tells (a : Answer) : Type 0 where
+  pub below : (slot : ℕ) → a ≡ given slot → slot < 4096
+  pub at : (slot : ℕ) → slot < null → (answerWord a ≡ slot) ↔ (a ≡ given slot)
+  pub none : (answerWord a ≡ null) ↔ (a ≡ nothing)
+  pub refuses : (n : ℕ) → 1 ≤ n → (answerWord a ≡ 4294967296 * n) ↔ (a ≡ refused n)
 
 pub record Claims : Type 0 where
   -- "The answer is value + 2^32 * number."
   pub numbers-apart : (m n v w : ℕ) → v < 4294967296 → w < 4294967296 → v + 4294967296 * m ≡ w + 4294967296 * n → m ≡ n
   pub values-apart : (m n v w : ℕ) → v < 4294967296 → w < 4294967296 → v + 4294967296 * m ≡ w + 4294967296 * n → v ≡ w
+  pub find-tells : (t : Live) (hash key : ℕ) → Tells (finds t hash key)
+  pub lookup-tells : (s : Set) (table hash key : ℕ) → Tells (lookups s table hash key)
+  pub walk-tells : (s : Set) (c : Cursor) → Tells (nexts s c .answer)
+  -- null in the walk's word is Done, with a cursor of eleven words
+  pub walk-done : (s : Set) (cursor : List ℕ)
+      → (walked s cursor .word ≡ null) ↔ ((length cursor ≡ 11) × (nexts s (cursorIn cursor) .answer ≡ nothing))
   pub find-one : (t : Live) (hash key : ℕ) → OneAnswer (λ (r : ℕ). r ≡ answerWord (finds t hash key))
   pub check-one : (t : Live) → OneAnswer (λ (r : ℕ). r ≡ checkWord (checks t))
   pub sound-one : (t : Live) → OneAnswer (λ (r : ℕ). r ≡ answerWord (sounds t))

@@ -25,6 +25,9 @@ use Rattle.live.specs.declared.sound.Soundness.{Soundness}
 use Rattle.live.specs.declared.sound.Soundness.the-variants.{Yes, No, Unfit}
 use Rattle.live.proofs.sound.Soundness.{the-type as soundness}
 use Rattle.live.proofs.Slots.{used-one}
+use Rattle.index.specs.Answers.{fitnessOf}
+use Rattle.index.specs.declared.fit.Fitness.{Fitness}
+use Rattle.index.specs.declared.fit.Fitness.the-variants.{Fit as WordsFit, Unfit as WordsUnfit}
 use Rattle.tree.specs.Find.{answerOf}
 use Rattle.tree.specs.declared.find.Found.{Found}
 use Rattle.tree.specs.declared.find.Found.the-variants.{At, Nothing, Lost}
@@ -36,9 +39,17 @@ module _ (ix : Index) {b : Bool} (e : b ≡ fits (ix .live)) where
   unfolding fitsIndex
   unfit-tree f = rw (← e, f)
 
-  pub fit-tree : b ≡ true → {j : Bool} → j ≡ fitsJournal (ix .lines) → j ≡ fitsIndex ix
+  pub fit-tree : b ≡ true → {j k : Bool} → j ≡ fitsJournal (ix .lines) → j ≡ k → k ≡ fitsIndex ix
   unfolding fitsIndex
-  fit-tree f g = rw (← e, f) g
+  fit-tree f g h = rw (← e, f) (sym h ∙ g)
+
+-- Words are fit, or they are not.
+module _ (ix : Index) {r : Fitness} (e : fitnessOf r ≡ fitsIndex ix) where
+  pub is-fit : r ≡ WordsFit → fitsIndex ix ≡ true
+  is-fit f = sym e ∙ ap fitnessOf f
+
+  pub is-unfit : r ≡ WordsUnfit → fitsIndex ix ≡ false
+  is-unfit f = sym e ∙ ap fitnessOf f
 
 pub tree-fits : (ix : Index) → fitsIndex ix ≡ true → fits (ix .live) ≡ true
 unfolding fitsIndex

@@ -1,5 +1,6 @@
 -- Every claim of the crate holds: an answer is read back off its number and value, and the slices are those of the one outcome.
 use mathlib.Core.Path.{_≡_, refl, ap, sym, _∙_}
+use mathlib.Core.Bool.{true≢false}
 use mathlib.Core.List.{List}
 use Prim.Native.Nat.{ℕ}
 use lib.Dec.{eqb}
@@ -7,8 +8,10 @@ use Rattle.slots.specs.Words.{pick}
 use Rattle.slots.specs.Answers.{Answer, Value, some, none}
 use Rattle.slots.proofs.Laws.{told-apart}
 use Rattle.demands.specs.Index.{Outcome}
-use Rattle.index.specs.Answers.{insertedOf, removedOf}
+use Rattle.index.specs.Answers.{fitnessOf, insertedOf, removedOf}
 use Rattle.index.specs.Claims.{Call, outcomeOf, Claims}
+use Rattle.index.specs.declared.fit.Fitness.{Fitness}
+use Rattle.index.specs.declared.fit.Fitness.the-variants.{Fit, Unfit}
 use Rattle.index.specs.declared.insert.Inserted.{Inserted}
 use Rattle.index.specs.declared.insert.Inserted.the-variants.{At as InsertAt, Unfit as InsertUnfit, Damaged as InsertDamaged, Present, Full, JournalFull as InsertJournalFull}
 use Rattle.index.specs.declared.remove.Removed.{Removed}
@@ -45,6 +48,12 @@ remove-back RemoveJournalFull = refl
 removed-one-to-one : (a b : Removed) → removedOf a ≡ removedOf b → a ≡ b
 removed-one-to-one = told-apart removedOf (λ a. removeBack (a .number) (a .value)) remove-back
 
+fitness-one-to-one : (a b : Fitness) → fitnessOf a ≡ fitnessOf b → a ≡ b
+fitness-one-to-one Fit Fit e = refl
+fitness-one-to-one Fit Unfit e = absurd (true≢false e)
+fitness-one-to-one Unfit Fit e = absurd (true≢false (sym e))
+fitness-one-to-one Unfit Unfit e = refl
+
 -- Calls whose outcomes are one are one.
 module _ {A : Type 0} (f : A → Answer) (apart : (a b : A) → f a ≡ f b → a ≡ b) where
   call : {a b : A} {n c h l n′ c′ h′ l′ : List ℕ} → a ≡ b → n ≡ n′ → c ≡ c′ → h ≡ h′ → l ≡ l′
@@ -68,5 +77,6 @@ claims =
       insert-one = λ ix hash key p c d. one insertedOf inserted-one-to-one _ c d;
       removed-one-to-one = removed-one-to-one;
       remove-one = λ ix hash key c d. one removedOf removed-one-to-one _ c d;
-      fit-index-one = λ ix a b p q. p ∙ sym q;
+      fitness-one-to-one = fitness-one-to-one;
+      fit-index-one = λ ix a b p q. fitness-one-to-one a b (p ∙ sym q);
     }

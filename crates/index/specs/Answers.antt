@@ -1,9 +1,16 @@
--- 01's number and value of each answer of this crate's entry points.
+-- 01's number and value of each answer of this crate's entry points, and what its test of fitness answers.
+use mathlib.Core.Bool.{Bool, true, false}
 use Rattle.slots.specs.Answers.{Answer, some, given, refused}
+use Rattle.index.specs.declared.fit.Fitness.{Fitness}
+use Rattle.index.specs.declared.fit.Fitness.the-variants.{Fit, Unfit}
 use Rattle.index.specs.declared.insert.Inserted.{Inserted}
 use Rattle.index.specs.declared.insert.Inserted.the-variants.{At as InsertAt, Unfit as InsertUnfit, Damaged as InsertDamaged, Present, Full, JournalFull as InsertJournalFull}
 use Rattle.index.specs.declared.remove.Removed.{Removed}
 use Rattle.index.specs.declared.remove.Removed.the-variants.{At as RemoveAt, Unfit as RemoveUnfit, Damaged as RemoveDamaged, Absent, JournalFull as RemoveJournalFull}
+
+abbrev pub fitnessOf : Fitness → Bool
+fitnessOf Fit = true
+fitnessOf Unfit = false
 
 abbrev pub insertedOf : Inserted → Answer
 insertedOf (InsertAt slot) = given slot

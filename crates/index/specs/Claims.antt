@@ -7,7 +7,8 @@ use Rattle.slots.specs.Answers.{Answer, OneAnswer}
 use Rattle.demands.specs.Index.{Index, Outcome, fitsIndex}
 use Rattle.demands.specs.Insert.{inserts}
 use Rattle.demands.specs.Remove.{removes}
-use Rattle.index.specs.Answers.{insertedOf, removedOf}
+use Rattle.index.specs.Answers.{fitnessOf, insertedOf, removedOf}
+use Rattle.index.specs.declared.fit.Fitness.{Fitness}
 use Rattle.index.specs.declared.insert.Inserted.{Inserted}
 use Rattle.index.specs.declared.remove.Removed.{Removed}
 
@@ -31,4 +32,5 @@ pub record Claims : Type 0 where
   pub insert-one : (ix : Index) (hash key p : ℕ) → OneAnswer (λ c. outcomeOf insertedOf c ≡ inserts ix hash key p)
   pub removed-one-to-one : (a b : Removed) → removedOf a ≡ removedOf b → a ≡ b
   pub remove-one : (ix : Index) (hash key : ℕ) → OneAnswer (λ c. outcomeOf removedOf c ≡ removes ix hash key)
-  pub fit-index-one : (ix : Index) → OneAnswer (λ r. r ≡ fitsIndex ix)
+  pub fitness-one-to-one : (a b : Fitness) → fitnessOf a ≡ fitnessOf b → a ≡ b
+  pub fit-index-one : (ix : Index) → OneAnswer (λ r. fitnessOf r ≡ fitsIndex ix)

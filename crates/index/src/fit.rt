@@ -4,13 +4,23 @@ use live::fit::fit;
 ghost use mathlib.Core.Path.{_≡_};
 ghost use Rattle.demands.specs.Live.{Live};
 ghost use Rattle.demands.specs.Index.{Index, fitsIndex};
+ghost use Rattle.index.specs.Answers.{fitnessOf};
 
-pub fn fit_index(names: &[u64], cells: &[u32], head: &[u32], lines: &[u64]) -> bool
-    ensures { λ r. ⌜ r ≡ fitsIndex (record { live = record { names = now (names .entry); cells = now (cells .entry); head = now (head .entry) }; lines = now (lines .entry) }) ⌝ }
+pub enum Fitness {
+    Fit,
+    Unfit,
+}
+
+pub fn fit_index(names: &[u64], cells: &[u32], head: &[u32], lines: &[u64]) -> Fitness
+    ensures { λ r. ⌜ fitnessOf r ≡ fitsIndex (record { live = record { names = now (names .entry); cells = now (cells .entry); head = now (head .entry) }; lines = now (lines .entry) }) ⌝ }
 {
     let tree = fit(names, cells, head);
     if !tree {
-        return false;
+        return Fitness::Unfit;
     }
-    fit_journal(lines)
+    let journal = fit_journal(lines);
+    if !journal {
+        return Fitness::Unfit;
+    }
+    Fitness::Fit
 }

@@ -1,4 +1,5 @@
 // insert: a pair with its place joins the tree, and the journal takes a line.
+use crate::fit::Fitness;
 use crate::fit::fit_index;
 use drivers::grow::Free;
 use drivers::grow::grow;
@@ -32,10 +33,10 @@ pub enum Inserted {
 fn ask(names: &[u64], cells: &[u32], head: &[u32], lines: &[u64], hash: u64, key: u64) -> Inserted
     ensures { λ r. ⌜ ((p : ℕ) → insertedOf r ≡ inserts (record { live = record { names = now (names .entry); cells = now (cells .entry); head = now (head .entry) }; lines = now (lines .entry) }) hash key p .answer) ⌝ }
 {
-    let fits = fit_index(names, cells, head, lines);
-    if !fits {
+    let fitness = fit_index(names, cells, head, lines);
+    let Fitness::Fit = fitness else {
         return Inserted::Unfit;
-    }
+    };
     let verdict = sound(names, cells, head);
     let Soundness::Yes = verdict else {
         return Inserted::Damaged;

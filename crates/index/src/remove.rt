@@ -1,4 +1,5 @@
 // remove: a pair leaves the tree, and the journal takes a line.
+use crate::fit::Fitness;
 use crate::fit::fit_index;
 use drivers::journal::REMOVE;
 use drivers::journal::append;
@@ -30,10 +31,10 @@ pub enum Removed {
 fn ask(names: &[u64], cells: &[u32], head: &[u32], lines: &[u64], hash: u64, key: u64) -> Removed
     ensures { λ r. ⌜ removedOf r ≡ removes (record { live = record { names = now (names .entry); cells = now (cells .entry); head = now (head .entry) }; lines = now (lines .entry) }) hash key .answer ⌝ }
 {
-    let fits = fit_index(names, cells, head, lines);
-    if !fits {
+    let fitness = fit_index(names, cells, head, lines);
+    let Fitness::Fit = fitness else {
         return Removed::Unfit;
-    }
+    };
     let verdict = sound(names, cells, head);
     let Soundness::Yes = verdict else {
         return Removed::Damaged;

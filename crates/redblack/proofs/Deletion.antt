@@ -10,14 +10,15 @@ use lib.ListN.{length}
 use lib.Dec.{eqb}
 use borrow.Author.Tests.{eq-eqb, ne-eqb}
 use Rattle.slots.specs.Words.{null, state, parent, Colour, code, Side, other, toward, black, red, leftward, rightward}
+use Rattle.slots.proofs.Laws.{length-write}
 use Rattle.redblack.specs.Links.{Links, read, painted, isRed, Turn, done, more}
-use Rattle.redblack.specs.Sided.{Sided, Frame, Way, top, plug, around, slots, count, countWay, Site, fork, frame, home}
+use Rattle.redblack.specs.Sided.{Sided, Frame, Way, top, plug, around, slots, count, countWay, Cap, Site, fork, frame, home}
 use Rattle.redblack.specs.Balance.{RedBlack, Wants, crown, Mended, void, dark, rosy, atop, below, under}
 use Rattle.redblack.specs.Rotate.{rotated}
 use Rattle.redblack.specs.Deletion.{capped, settled, tucked, eased, sunk, deletionTurn, balancedDeletion}
-use Rattle.redblack.proofs.Reading.{reads, solid}
+use Rattle.redblack.proofs.Reading.{reads, roomy-cap, solid}
 use Rattle.redblack.proofs.Frames.{hit-same, apart, count-top, cell-of, this-of, that-of, way-cell, way-tree, outward, inward, turn, turn′, not-root}
-use Rattle.redblack.proofs.Paint.{painting, painting-this, painting-that, turn-this}
+use Rattle.redblack.proofs.Paint.{Repaints, three-painted, painting, painting-this, painting-that, turn-this}
 use Rattle.redblack.proofs.Order.{slots-plug, around-turn, around-spin}
 use Rattle.redblack.proofs.Looks.{pick-side, red-top, dark-top, colour-is}
 use Rattle.redblack.proofs.Parts.{crown-black, plug-black, plug-any}
@@ -52,20 +53,28 @@ turn-sunk {s = s} {τ = τ} {y = y} {x} {xp} h =
     rw (solid (k .inside) (h .cap .small), ne-eqb _ _ (not-root h), k .above, solid (m .inside) (h .cap .small), k .hued)
     (pick-side s τ x xp (λ (f g : ℕ). sunk f g s x xp) (m .this) (λ e. ne (sym e ∙ m .that)))
 
--- The three paintings, with what they read first.
-cappedBy : Links → Colour → ℕ → ℕ → ℕ → Links
-cappedBy s c i j xp = painted (painted (painted s i c) j black) xp black
+-- The sibling i has the colour c that xp had, its outer child j and xp are black, and no other word is written.
+record Caps (s t : Links) (c : Colour) (i j xp : ℕ) : Type 0 where
+  paints : Repaints s t i j xp
+  sibling : read t i state ≡ code c
+  nephew : read t j state ≡ code black
+  lower : read t xp state ≡ code black
 
-capped-is : (s : Links) (τ : Side) (c : Colour) (xp i j : ℕ) → read s xp state ≡ code c → read s i (toward (other τ)) ≡ j → capped (toward τ) (toward (other τ)) s xp i ≡ cappedBy s c i j xp
-unfolding capped cappedBy
-capped-is s τ c xp i j hc kj =
-    ap (λ (d : Colour). cappedBy s d i (read (painted s i d) i (toward (other τ))) xp) (colour-is s xp c hc) ∙ ap (λ (k : ℕ). cappedBy s c i k xp) (simp reads kj)
-
-settled-is : (s : Links) (τ : Side) (c : Colour) (xp i j : ℕ) → read s xp state ≡ code c → read s i (toward (other τ)) ≡ j
-    → (let t = rotated (toward τ) (toward (other τ)) (cappedBy s c i j xp) xp in settled (toward τ) (toward (other τ)) s xp i ≡ more t (t .root))
-unfolding settled
-settled-is s τ c xp i j hc kj =
-    ap (λ (u : Links). let t = rotated (toward τ) (toward (other τ)) u xp in more t (t .root)) (capped-is s τ c xp i j hc kj)
+caps : {n : ℕ} (s : Links) (τ : Side) (c : Colour) (xp i j : ℕ) → Cap n s → i < n → j < n → xp < n → i ≢ j → i ≢ xp → j ≢ xp
+    → read s xp state ≡ code c → read s i (toward (other τ)) ≡ j
+    → Caps s (capped (toward τ) (toward (other τ)) s xp i) c i j xp
+unfolding capped
+caps s τ c xp i j k wi wj wp a b d hc kj =
+    let a′ : j ≢ i = λ z. a (sym z) in
+    let b′ : xp ≢ i = λ z. b (sym z) in
+    let d′ : xp ≢ read s i (toward (other τ)) = λ z. d (sym (z ∙ kj)) in
+    let e = colour-is s xp c hc in
+    record {
+      paints = record { long = simp length-write; root = refl; links = λ l g m z. simp reads; states = λ l x y z. simp (reads, kj) };
+      sibling = simp (reads, kj, e, roomy-cap i k wi);
+      nephew = simp (reads, kj, roomy-cap j k wj);
+      lower = simp (reads, roomy-cap xp k wp);
+    }
 
 tucked-is : (s : Links) (τ : Side) (i j : ℕ) → read s i (toward τ) ≡ j → tucked (toward τ) (toward (other τ)) s i ≡ rotated (toward (other τ)) (toward τ) (painted (painted s j black) i red) i
 unfolding tucked
@@ -102,10 +111,20 @@ over′ h = inward (turn′ (outward h))
 
 -- The outer nephew is red.
 settled-site : {n : ℕ} {s : Links} {τ β : Side} {c : Colour} {C : Way} {t a b d : Sided} {xp i j : ℕ} → crown C c ≡ c → Site n s (frame τ c xp (fork τ black a i (fork β red b j d)) ∷ C) t
-    → Site n (rotated (toward τ) (toward (other τ)) (cappedBy s c i j xp) xp) (frame τ black xp a ∷ (frame τ c i (fork β black b j d) ∷ C)) t
-unfolding cappedBy
-settled-site {c = c} e h =
-    let v = rotation (painting black (outward (over′ (painting-that black (painting c (over h)))))) in
+    → (let u = capped (toward τ) (toward (other τ)) s xp i in
+    Site n (rotated (toward τ) (toward (other τ)) u xp) (frame τ black xp a ∷ (frame τ c i (fork β black b j d) ∷ C)) t)
+unfolding count countWay
+settled-site {s = s} {τ} {c = c} {xp = xp} {i} {j} e h =
+    let w = way-cell (h .way) in
+    let y = way-tree (h .way) in
+    let wi = cell-of y .inside in
+    let wj = cell-of (that-of y) .inside in
+    let ij : i ≢ j = apart (omega (arith, h .once i, hit-same i)) in
+    let ip : i ≢ xp = apart (omega (arith, h .once i, hit-same i)) in
+    let jp : j ≢ xp = apart (omega (arith, h .once j, hit-same j)) in
+    let k = caps s τ c xp i j (h .cap) wi wj (w .inside) ij ip jp (w .hued) (cell-of y .that) in
+    let p = painting black (outward (over′ (painting-that black (painting c (over h))))) in
+    let v = rotation (three-painted c black black (h .cap) wi wj (w .inside) (k .paints) (k .sibling) (k .nephew) (k .lower) p) in
     inward (inward (rw e at v))
 
 -- The inner one.
@@ -164,13 +183,11 @@ deletion-resumed m s x = go (deletionTurn s x) refl
 -- The outer nephew is red: the end.
 ending : {n h : ℕ} {s : Links} {τ β : Side} {c ca e : Colour} {C : Way} {t g a b d : Sided} {xp i j : ℕ} (m : ℕ) → Wants (suc h) e (frame τ c xp (fork τ black a i (fork β red b j d)) ∷ C) → RedBlack black h g → RedBlack ca h a → RedBlack black h b → RedBlack black h d
     → Site n s (frame τ c xp (fork τ black a i (fork β red b j d)) ∷ C) t → Mended n (resumed m (settled (toward τ) (toward (other τ)) s xp i)) (frame τ c xp (fork τ black a i (fork β red b j d)) ∷ C) t g
-unfolding plug slots
+unfolding plug slots settled
 ending {s = s} {τ} {β} {c} {C = C} {g = g} {a} {b} {d} {xp} {i} {j} m w sg sa sb sd h =
-    let k = way-cell (h .way) in
-    let y = way-tree (h .way) in
-    let s2 = rotated (toward τ) (toward (other τ)) (cappedBy s c i j xp) xp in
+    let s2 = rotated (toward τ) (toward (other τ)) (capped (toward τ) (toward (other τ)) s xp i) xp in
     let z = crowned τ i w (dark sg sa) (dark sb sd) in
-    carried (ap (resumed m) (settled-is s τ c xp i j (k .hued) (cell-of y .that)) ∙ resumed-more m s2 (s2 .root) ∙ deletion-root m s2)
+    carried (resumed-more m s2 (s2 .root) ∙ deletion-root m s2)
     (record {
       path = frame τ black xp a ∷ (frame τ c i (fork β black b j d) ∷ C);
       height = z .0;

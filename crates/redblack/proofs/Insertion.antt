@@ -8,15 +8,16 @@ use Prim.Native.Nat.{ℕ, suc, zero, _<_}
 use native.Mathlib.Omega.{arith}
 use lib.ListN.{length}
 use borrow.Author.Tests.{eq-eqb, ne-eqb}
-use Rattle.slots.specs.Words.{null, parent, Colour, Side, other, toward, black, red, leftward, rightward}
-use Rattle.redblack.specs.Links.{Links, read, rooted, painted, isRed, done, more}
-use Rattle.redblack.specs.Sided.{Sided, Way, top, plug, around, slots, count, countWay, Site, bare, fork, frame}
+use Rattle.slots.specs.Words.{null, state, parent, Colour, code, Side, other, toward, black, red, leftward, rightward}
+use Rattle.slots.proofs.Laws.{length-write}
+use Rattle.redblack.specs.Links.{Links, read, rooted, painted, isRed, Turn, done, more}
+use Rattle.redblack.specs.Sided.{Sided, Way, top, plug, around, slots, count, countWay, Cap, Site, bare, fork, frame}
 use Rattle.redblack.specs.Balance.{RedBlack, Wants, Outcome, void, dark, rosy, atop, below, under}
 use Rattle.redblack.specs.Rotate.{rotated}
 use Rattle.redblack.specs.Insertion.{raised, straightened, lifted, insertionTurn, insertionTurns, balancedInsertion}
-use Rattle.redblack.proofs.Reading.{solid}
+use Rattle.redblack.proofs.Reading.{reads, roomy-cap, solid}
 use Rattle.redblack.proofs.Frames.{hit-same, apart, count-top, cell-of, way-cell, way-tree, way-on, outward, inward, turn, turn′, whole}
-use Rattle.redblack.proofs.Paint.{painting, painting-this, painting-that, turn-this, rooting}
+use Rattle.redblack.proofs.Paint.{Repaints, three-painted, painting, painting-this, painting-that, turn-this, rooting}
 use Rattle.redblack.proofs.Order.{slots-plug, around-turn, around-spin, slots-turn}
 use Rattle.redblack.proofs.Looks.{pick-side, red-top, dark-top}
 use Rattle.redblack.proofs.Parts.{crown-black, plug-any}
@@ -41,10 +42,38 @@ turn-up {s = s} {υ = υ} {u = u} {x = x} {xp = xp} {xpp = xpp} h =
     rw (cell-of (h .tree) .above, k .above, solid (k .inside) (h .cap .small), k .hued, solid (m .inside) (h .cap .small))
     (pick-side s υ xp xpp (λ (f g : ℕ). lifted f g s x xp xpp) (m .this) (λ e. ne (sym e ∙ m .that)))
 
+-- The links that a turn leaves.
+abbrev linksOf : Turn → Links
+linksOf (done t) = t
+linksOf (more t y) = t
+
+-- A red uncle u and the parent are black after, the grandparent is red, and no other word is written.
+record Flushes (s t : Links) (u xp xpp : ℕ) : Type 0 where
+  paints : Repaints s t u xp xpp
+  uncle : read t u state ≡ code black
+  lower : read t xp state ≡ code black
+  higher : read t xpp state ≡ code red
+
 -- The uncle is red, or it is not; x stands on the outer side of xp, or on the inner.
-lifted-red : (near far : ℕ) (s : Links) (x xp xpp u : ℕ) → read s xpp far ≡ u → isRed s u ≡ true → lifted near far s x xp xpp ≡ more (painted (painted (painted s u black) xp black) xpp red) xpp
+lifted-red : (near far : ℕ) (s : Links) (x xp xpp u : ℕ) → read s xpp far ≡ u → isRed s u ≡ true
+    → lifted near far s x xp xpp ≡ more (linksOf (lifted near far s x xp xpp)) xpp
 unfolding lifted
 lifted-red near far s x xp xpp u e f = rw (e, f)
+
+flushes : {n : ℕ} (near far : ℕ) (s : Links) (x xp xpp u : ℕ) → Cap n s → u < n → xp < n → xpp < n → u ≢ xp → u ≢ xpp → xp ≢ xpp
+    → read s xpp far ≡ u → isRed s u ≡ true → Flushes s (linksOf (lifted near far s x xp xpp)) u xp xpp
+unfolding lifted
+flushes near far s x xp xpp u k wu wp wg a b c e f =
+    let a′ : xp ≢ u = λ z. a (sym z) in
+    let b′ : xpp ≢ u = λ z. b (sym z) in
+    let c′ : xpp ≢ xp = λ z. c (sym z) in
+    rw (e, f)
+    (record {
+      paints = record { long = simp length-write; root = refl; links = λ l g m z. simp reads; states = λ l d d′ d″. simp reads };
+      uncle = simp (reads, roomy-cap u k wu);
+      lower = simp (reads, roomy-cap xp k wp);
+      higher = simp (reads, roomy-cap xpp k wg);
+    })
 
 lifted-dark : (near far : ℕ) (s : Links) (x xp xpp u : ℕ) → read s xpp far ≡ u → isRed s u ≡ false → lifted near far s x xp xpp ≡ straightened near far s x xp xpp
 unfolding lifted
@@ -152,12 +181,22 @@ dim leftward leftward rightward again w su sy sa sb h l = bent-other rightward a
 -- The uncle is red: the black comes down to xp and the uncle, and the loop goes on at xpp.
 flushed : {n m : ℕ} {s : Links} {σ τ υ ω : Side} {C : Way} {h : ℕ} {c : Colour} {a b y d e : Sided} {x xp xpp u : ℕ} → Mends m → Wants (suc h) c C → RedBlack black h d → RedBlack black h e → RedBlack black h y → RedBlack black h a → RedBlack black h b
     → Site n s (frame τ red xp y ∷ (frame υ black xpp (fork ω red d u e) ∷ C)) (fork σ red a x b) → length C < m → Outcome n (insertionTurns (suc m) s x) (slots (plug (frame τ red xp y ∷ (frame υ black xpp (fork ω red d u e) ∷ C)) (fork σ red a x b)))
-unfolding slots plug
+unfolding slots plug count countWay
 flushed {m = m} {s} {σ} {τ} {υ} {ω} {C} {a = a} {b} {y} {d} {e} {x} {xp} {xpp} {u} again w sd se sy sa sb h l =
+    let wp = way-cell (h .way) in
+    let wg = way-cell (way-on (h .way)) in
+    let z = way-tree (way-on (h .way)) in
+    let pu : u ≢ xp = apart (omega (arith, h .once u, hit-same u)) in
+    let gu : u ≢ xpp = apart (omega (arith, h .once u, hit-same u)) in
+    let gp : xp ≢ xpp = apart (omega (arith, h .once xp, hit-same xp)) in
+    let wu = cell-of z .inside in
+    let f = flushes (toward υ) (toward (other υ)) s x xp xpp u (h .cap) wu (wp .inside) (wg .inside) pu gu gp (wg .that) (red-top z) in
+    let p = painting red (painting-this black (painting-that black (outward (outward h)))) in
+    let v = three-painted black black red (h .cap) wu (wp .inside) (wg .inside) (f .paints) (f .uncle) (f .lower) (f .higher) p in
     renamed
-    (turns-more m s x (turn-up h ∙ lifted-red (toward υ) (toward (other υ)) s x xp xpp u (way-cell (way-on (h .way)) .that) (red-top (way-tree (way-on (h .way))))))
+    (turns-more m s x (turn-up h ∙ lifted-red (toward υ) (toward (other υ)) s x xp xpp u (wg .that) (red-top z)))
     (slots-plug C (fork υ red (fork τ black (fork σ red a x b) xp y) xpp (fork ω black d u e)) (fork υ black (fork τ red (fork σ red a x b) xp y) xpp (fork ω red d u e)) refl)
-    (again .mend w (dark (rosy sa sb) sy) (dark sd se) (painting red (painting-this black (painting-that black (outward (outward h))))) l)
+    (again .mend w (dark (rosy sa sb) sy) (dark sd se) v l)
 
 turns : (m : ℕ) → Mends m → Mends (suc m)
 unfolding slots plug

@@ -9,17 +9,17 @@ use native.Mathlib.Omega.{arith}
 use lib.ListN.{length}
 use lib.Dec.{eqb}
 use borrow.Author.Tests.{eq-eqb, ne-eqb}
-use Rattle.slots.specs.Words.{pick, null, parent, left, right, Colour, Side, other, toward, black, red, leftward, rightward}
+use Rattle.slots.specs.Words.{null, state, parent, left, right, code, Colour, Side, other, toward, black, red, leftward, rightward}
 use Rattle.slots.proofs.Laws.{length-write}
-use Rattle.redblack.specs.Links.{Links, read, stored, painted, isRed}
-use Rattle.redblack.specs.Sided.{Sided, Way, top, upper, plug, slots, count, Site, bare, fork, none, home}
+use Rattle.redblack.specs.Links.{Links, read, stored, isRed}
+use Rattle.redblack.specs.Sided.{Sided, Way, top, upper, plug, slots, count, Cap, Site, bare, fork, none, home}
 use Rattle.redblack.specs.Balance.{Wants, Part, Outcome, void, dark, rosy, blackPart, redPart}
 use Rattle.redblack.specs.Deletion.{balancedDeletion}
 use Rattle.redblack.specs.Removal.{replaced, replacement, spliced, detached, dropped}
 use Rattle.redblack.specs.Kept.{Agree, up}
 use Rattle.redblack.proofs.Reading.{reads, roomy-cap, recap, solid}
 use Rattle.redblack.proofs.Frames.{hit-same, apart, count-upper, upper-count, cell-of, this-of, agree-trans, Moved, whole, rehang, root-else, not-root}
-use Rattle.redblack.proofs.Paint.{painting}
+use Rattle.redblack.proofs.Paint.{Repaints, one-painted, painting}
 use Rattle.redblack.proofs.Order.{slots-plug}
 use Rattle.redblack.proofs.Depth.{depth}
 use Rattle.redblack.proofs.Looks.{red-top, dark-top}
@@ -88,33 +88,35 @@ unfolding replacement
 replacement-one s leftward p x e f z = rw (e, z)
 replacement-one s rightward p x e f z = rw (f, e, z)
 
--- `dropped` with the slot that stands in for p.
-droppedBy : ℕ → Links → ℕ → ℕ → Links
-droppedBy m s p x =
-    let s1 = pick (eqb x p) s (spliced s p x) in
-    let s2 = pick (isRed s p) s1 (balancedDeletion m s1 x) in
-    let s3 = pick (eqb x p) (detached s2 p) s2 in
-    pick (eqb (s3 .root) x) (painted s3 x black) s3
+-- A leaf is its own replacement and goes; a replacement that is not the root is as the loop leaves it.
+dropped-red : (m : ℕ) (s : Links) (p : ℕ) → replacement s p ≡ p → isRed s p ≡ true → (detached s p) .root ≢ p → dropped m s p ≡ detached s p
+unfolding dropped
+dropped-red m s p r f d = rw (r, eq-eqb p p refl, f, ne-eqb _ _ d)
 
-dropped-by : (m : ℕ) (s : Links) (p x : ℕ) → replacement s p ≡ x → dropped m s p ≡ droppedBy m s p x
-unfolding dropped droppedBy
-dropped-by m s p x e = ap (droppedBy m s p) e
+dropped-black : (m : ℕ) (s : Links) (p : ℕ) → replacement s p ≡ p → isRed s p ≡ false → (detached (balancedDeletion m s p) p) .root ≢ p
+    → dropped m s p ≡ detached (balancedDeletion m s p) p
+unfolding dropped
+dropped-black m s p r f d = rw (r, eq-eqb p p refl, f, ne-eqb _ _ d)
 
-dropped-red : (m : ℕ) (s : Links) (p : ℕ) → isRed s p ≡ true → (detached s p) .root ≢ p → droppedBy m s p p ≡ detached s p
-unfolding droppedBy
-dropped-red m s p f d = rw (eq-eqb p p refl, f, ne-eqb _ _ d)
+dropped-one : (m : ℕ) (s : Links) (p x : ℕ) {t : Links} → replacement s p ≡ x → x ≢ p → isRed s p ≡ false
+    → balancedDeletion m (spliced s p x) x ≡ t → t .root ≢ x → dropped m s p ≡ t
+unfolding dropped
+dropped-one m s p x {t} r d f e g = rw (r, ne-eqb x p d, f, e, ne-eqb _ _ g)
 
-dropped-black : (m : ℕ) (s : Links) (p : ℕ) → isRed s p ≡ false → (detached (balancedDeletion m s p) p) .root ≢ p → droppedBy m s p p ≡ detached (balancedDeletion m s p) p
-unfolding droppedBy
-dropped-black m s p f d = rw (eq-eqb p p refl, f, ne-eqb _ _ d)
+-- A replacement x that became the root is black, and no other word is written.
+record Crowns (t u : Links) (x : ℕ) : Type 0 where
+  crown : read u x state ≡ code black
+  paints : Repaints t u x x x
 
-dropped-one : (m : ℕ) (s : Links) (p x : ℕ) {t : Links} → x ≢ p → isRed s p ≡ false → balancedDeletion m (spliced s p x) x ≡ t → t .root ≢ x → droppedBy m s p x ≡ t
-unfolding droppedBy
-dropped-one m s p x {t} d f e g = rw (ne-eqb x p d, f, e, ne-eqb _ _ g)
-
-dropped-top : (m : ℕ) (s : Links) (p x : ℕ) {t : Links} → x ≢ p → isRed s p ≡ false → balancedDeletion m (spliced s p x) x ≡ t → t .root ≡ x → droppedBy m s p x ≡ painted t x black
-unfolding droppedBy
-dropped-top m s p x {t} d f e g = rw (ne-eqb x p d, f, e, eq-eqb _ _ g)
+dropped-top : {n : ℕ} (m : ℕ) (s : Links) (p x : ℕ) {t : Links} → Cap n t → x < n → replacement s p ≡ x → x ≢ p → isRed s p ≡ false
+    → balancedDeletion m (spliced s p x) x ≡ t → t .root ≡ x → Crowns t (dropped m s p) x
+unfolding dropped
+dropped-top m s p x {t} k w r d f e g =
+    rw (r, ne-eqb x p d, f, e, eq-eqb _ _ g)
+    (record {
+      crown = simp (reads, roomy-cap x k w);
+      paints = record { long = simp length-write; root = refl; links = λ l h i z. simp reads; states = λ l a b c. simp reads };
+    })
 
 -- What was detached is not the root.
 detached-root : {n : ℕ} {s : Links} {ρ : Side} {d : Colour} {p : ℕ} {C : Way} → Site n s C (fork ρ d bare p bare) → (detached s p) .root ≢ p
@@ -126,14 +128,15 @@ module _ {n : ℕ} {s : Links} {ρ : Side} {p : ℕ} {C : Way} (m : ℕ) (l : le
   bare-red w h =
       let k = cell-of (h .tree) in
       let z = plug-any w void in
-      let e = dropped-by m s p p (replacement-none s ρ p (k .this) (k .that)) ∙ dropped-red m s p (red-top (h .tree)) (detached-root h) in
+      let e = dropped-red m s p (replacement-none s ρ p (k .this) (k .that)) (red-top (h .tree)) (detached-root h) in
       record { tree = plug C bare; height = z .0; site = rw e (whole C (detached-site h)); sound = z .1; same = refl }
 
   bare-black : {e : Colour} → Wants 1 e C → Site n s C (fork ρ black bare p bare) → Outcome n (dropped m s p) (slots (plug C bare))
   bare-black w h =
       let k = cell-of (h .tree) in
       let o = deletion m w void h l in
-      let e = dropped-by m s p p (replacement-none s ρ p (k .this) (k .that)) ∙ dropped-black m s p (dark-top (h .cap) (dark {σ = ρ} {i = p} void void) (h .tree)) (detached-root (o .site)) in
+      let f = dark-top (h .cap) (dark {σ = ρ} {i = p} void void) (h .tree) in
+      let e = dropped-black m s p (replacement-none s ρ p (k .this) (k .that)) f (detached-root (o .site)) in
       record { tree = plug (o .path) bare; height = o .height; site = rw e (whole (o .path) (detached-site (o .site))); sound = o .sound; same = o .same bare }
 
 -- A red child takes the place and the black: by the loop's first turn, or as the root, where the loop does not look.
@@ -144,15 +147,17 @@ one-black {s = s} {ρ} {σ} {p} {x} [] m l h =
     let v = spliced-site h in
     let xp : x ≢ p = apart (omega (arith, h .once x, hit-same x)) in
     let top : (spliced s p x) .root ≡ x = elim (v .way) [ home e ↦ e ] in
-    let e = dropped-by m s p x (replacement-one s ρ p x (k .this) (k .that) (solid (cell-of (this-of (h .tree)) .inside) (h .cap .small)))
-    ∙ dropped-top m s p x xp (rw (k .hued)) (ap (balancedDeletion m (spliced s p x)) (sym top) ∙ deletion-root m (spliced s p x)) top in
-    rw e (painting black v)
+    let w = cell-of (v .tree) .inside in
+    let e = dropped-top m s p x (v .cap) w (replacement-one s ρ p x (k .this) (k .that) (solid w (h .cap .small)))
+    xp (rw (k .hued)) (ap (balancedDeletion m (spliced s p x)) (sym top) ∙ deletion-root m (spliced s p x)) top in
+    one-painted black (v .cap) w (e .paints) (e .crown) (painting black v)
 one-black {s = s} {ρ} {σ} {p} {x} (f ∷ C) m l h =
     let k = cell-of (h .tree) in
     let v = spliced-site h in
     let xp : x ≢ p = apart (omega (arith, h .once x, hit-same x)) in
-    let e = dropped-by m s p x (replacement-one s ρ p x (k .this) (k .that) (solid (cell-of (this-of (h .tree)) .inside) (h .cap .small)))
-    ∙ dropped-one m s p x xp (rw (k .hued)) (deletion-done m (spliced s p x) x l (turn-red v)) (λ z. not-root v (sym z)) in
+    let r = replacement-one s ρ p x (k .this) (k .that) (solid (cell-of (this-of (h .tree)) .inside) (h .cap .small)) in
+    let d = deletion-done m (spliced s p x) x l (turn-red v) in
+    let e = dropped-one m s p x r xp (rw (k .hued)) d (λ z. not-root v (sym z)) in
     rw e (painting black v)
 
 -- The cases are all that a red-black tree leaves.

@@ -112,7 +112,7 @@ pub record HangsSlot (n budget : ℕ) (names : List ℕ) (s : Links) (t : Tree) 
   -- place, prev and next of every slot are as they were, on any words
   pub keeps : (f : ℕ) → Aside f → Keeps f s (inserted budget s x (placed budget names s hash key))
 
--- "Traps in the text", of the models, on any words.
+-- The two traps in the text of the balancing, of the models, on any words.
 pub record Traps (s : Links) : Type 0 where
   -- "balance_deletion returns at x == root before looking at colour."
   pub at-root : deletionTurn s (s .root) ≡ done s

@@ -46,7 +46,7 @@ detached s p =
     stored (replaced s pp p null) p parent null
 
 -- p, with at most one child, goes. "If the removed slot is now black, balance_deletion starts at the replacement.
--- The slot is detached. A replacement that became the root is painted black."
+-- The slot is detached .. A replacement that became the root is painted black."
 unfoldable pub dropped : ℕ → Links → ℕ → Links
 dropped budget s p =
     let x = replacement s p in

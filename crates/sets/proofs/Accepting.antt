@@ -163,12 +163,12 @@ module _ {s : Set} (fit : Fit s) where
   unfolding accepted allHeld
   yes-accepted e =
       let a = both (slotsFine (slotsIn s) (slotsIn s) (slotted s)) _ e in
-      let b = both (headersFine (headersIn s) (s .heads) (s .bins)) _ (a .1) in
+      let b = both (headersFine (slotsIn s) (headersIn s) (s .heads) (s .bins)) _ (a .1) in
       let c = left-of (slotsIn s) (tally (slotsIn s) (used (s .cells))) _ (b .1) in
       let r = row-found fit (lengthAt s 0) (slotsIn s) (c .0) (c .1) in
       let row = r .1 in
       let fine = all-fine (slotted s) (slotsIn s) (slotsIn s) (a .0) in
-      let blank = headers-blank fit (b .0) in
+      let blank = headers-blank fit (heads-once row) (λ k i h p z. grown-at row k i h p z .1 .root) (b .0) in
       record {
         none-bad = none-bad row;
         words = record { states = λ x w. fine x w .states; links = λ x w. fine x w .links };
@@ -290,5 +290,10 @@ module _ {s : Set} (fit : Fit s) where
         let table : leaves (slotsIn s) (tally (slotsIn s) (used (s .cells))) (tableFine (lengthAt s 0) s (slotsIn s)) ≡ true =
         rw (row-run fit row (slotsIn s) most) (eq-eqb _ _ (all-but (slotsIn s) (length l) _ most count))
         in
+        let o = ok .headers in
+        let headers =
+        blank-headers fit (ok .heads) (o .roots)
+        (λ h b none. record { root = o .other-root h b none; first = o .other-first h b none; count = o .other-count h b none })
+        in
         and (fine-all (slotted s) (slotsIn s) (slotsIn s) (λ x b. record { links = ok .words .links x b; states = ok .words .states x b; cleared = ok .slots .cleared x b }))
-        (and (blank-headers fit (ok .headers)) table)
+        (and headers table)

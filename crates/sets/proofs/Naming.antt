@@ -1,8 +1,9 @@
--- What a bin's word says, range by range, and which headers the bins name: the words of all tables stand in a row, each at one place.
+-- What a bin's word says, range by range, and which headers the bins name: the words of all tables stand in a row, each at one place, so
+-- that counting the words that name a header tells whether any other header is left.
 use mathlib.Core.Path.{_≡_, refl, ap, sym, _∙_}
 use mathlib.Core.Logic.{_≢_, _⊎_, inl, inr}
-use mathlib.Core.Bool.{Bool, true, false, false≢true}
-use mathlib.Core.List.{List}
+use mathlib.Core.Bool.{Bool, true, false}
+use mathlib.Core.List.{List, [], _∷_}
 use Prim.Native.Nat.{ℕ, zero, suc, _+_, _-_, _<_, _≤_}
 use native.Mathlib.Decide.{ℕ-discrete, decLe}
 use native.Mathlib.Omega.{arith}
@@ -10,13 +11,14 @@ use lib.ListN.{length, getD}
 use lib.Dec.{eqb, leb, ltb}
 use borrow.Author.Tests.{eqb-true, eqb-false, leb-true, leb-false, ltb-true, ltb-false, eq-eqb, ne-eqb, le-leb, lt-leb, lt-ltb, le-ltb}
 use Rattle.slots.specs.Words.{null, pick}
+use Rattle.shape.specs.Tree.{times}
+use Rattle.shape.specs.Chain.{tally}
+use Rattle.shape.proofs.Counting.{times-head, times-else, times-rest, times-cases, exactly, exactly-length}
 use Rattle.demands.proofs.Fit.{both}
-use Rattle.demands.proofs.Rules.{and}
 use Rattle.sets.specs.Words.{Set, Fit, tablesOf, slotsIn, headersIn, begins, rootAt, firstAt, countAt, Bin, empty, moved, bad, list, tree, binOf, binAt}
-use Rattle.sets.specs.Accepted.{Place, Headers}
-use Rattle.sets.specs.Accepting.{anyWord, isBlank, headerFine, headersFine}
+use Rattle.sets.specs.Accepted.{Place, HeadsOnce}
+use Rattle.sets.specs.Accepting.{isBlank, filled, namesHeader, naming, headersFine}
 use Rattle.sets.specs.Claims.{Ranges}
-use Rattle.sets.proofs.Fit.{headers-are}
 
 module _ (n h w : ℕ) where
   -- The ranges, each with the bin that the word is there.
@@ -129,96 +131,184 @@ begins-place l (suc t) p b = go (decLe (begins l t) p) (λ c. begins-place l t p
     go (yes c) again = (t, p - begins l t, omega arith, omega arith, omega arith)
     go (no d) again = let r = again (omega arith) in (r .0, r .1, omega (arith, r .2), r .3, r .4)
 
-any-word : (q : ℕ) (l : List ℕ) (w : ℕ) → anyWord q l w ≡ true → (p : ℕ) × (p < q) × (getD l p 0 ≡ w)
-unfolding anyWord
-any-word zero l w e = absurd (false≢true e)
-any-word (suc q) l w e = go (eqb (getD l q 0) w) refl e (λ h. any-word q l w h)
+-- The bin that the word p of the row is.
+abbrev wordBin : Set → ℕ → Bin
+wordBin s p = binOf (slotsIn s) (headersIn s) (getD (s .bins) p 0)
+
+-- The headers that the first q words of the row name.
+abbrev put : Bin → List ℕ → List ℕ
+put empty l = l
+put moved l = l
+put bad l = l
+put (list a) l = l
+put (tree h) l = h ∷ l
+
+named : Set → ℕ → List ℕ
+named s zero = []
+named s (suc q) = put (wordBin s q) (named s q)
+
+put-length : (b : Bin) (l : List ℕ) → length (put b l) ≡ namesHeader b + length l
+put-length empty l = omega arith
+put-length moved l = omega arith
+put-length bad l = omega arith
+put-length (list a) l = omega arith
+put-length (tree h) l = omega arith
+
+named-length : (s : Set) (q : ℕ) → length (named s q) ≡ tally q (naming (slotsIn s) (headersIn s) (s .bins))
+unfolding tally named
+named-length s zero = refl
+named-length s (suc q) = omega (arith, put-length (wordBin s q) (named s q), named-length s q)
+
+-- A header stands among them exactly where a word names it.
+named-word : (s : Set) (q h : ℕ) → 1 ≤ times h (named s q) → (p : ℕ) × (p < q) × (wordBin s p ≡ tree h)
+unfolding times named
+named-word s zero h m = absurd (omega arith)
+named-word s (suc q) h m = go (wordBin s q) refl m (λ n. (let r = named-word s q h n in (r .0, omega (arith, r .1), r .2)))
   where
-    go : (b : Bool) → eqb (getD l q 0) w ≡ b → pick b true (anyWord q l w) ≡ true → (anyWord q l w ≡ true → (p : ℕ) × (p < q) × (getD l p 0 ≡ w))
-        → (p : ℕ) × (p < suc q) × (getD l p 0 ≡ w)
-    go true z e again = (q, omega arith, eqb-true _ _ z)
-    go false z e again = let r = again e in (r .0, omega (arith, r .1), r .2)
+    Found : Type 0
+    Found = (p : ℕ) × (p < suc q) × (wordBin s p ≡ tree h)
 
-word-any : (q : ℕ) (l : List ℕ) (w p : ℕ) → p < q → getD l p 0 ≡ w → anyWord q l w ≡ true
-unfolding anyWord
-word-any zero l w p b e = absurd (omega arith)
-word-any (suc q) l w p b e = go (eqb (getD l q 0) w) refl (ℕ-discrete p q) (λ d. word-any q l w p (omega arith) e)
+    go : (b : Bin) → wordBin s q ≡ b → 1 ≤ times h (put b (named s q)) → (1 ≤ times h (named s q) → Found) → Found
+    go empty e m again = again m
+    go moved e m again = again m
+    go bad e m again = again m
+    go (list a) e m again = again m
+    go (tree i) e m again = times-cases h i (named s q) m (λ z. (q, omega arith, e ∙ ap tree (sym z))) again
+
+word-named : (s : Set) (q h p : ℕ) → p < q → wordBin s p ≡ tree h → 1 ≤ times h (named s q)
+unfolding named
+word-named s zero h p b e = absurd (omega arith)
+word-named s (suc q) h p b e = go (ℕ-discrete p q) (λ d. word-named s q h p (omega arith) e)
   where
-    go : (c : Bool) → eqb (getD l q 0) w ≡ c → Dec (p ≡ q) → (p ≢ q → anyWord q l w ≡ true) → pick c true (anyWord q l w) ≡ true
-    go true z d rest = refl
-    go false z (yes d) rest = absurd (eqb-false _ _ z (ap (λ (j : ℕ). getD l j 0) (sym d) ∙ e))
-    go false z (no d) rest = rest d
+    more : (b : Bin) → 1 ≤ times h (named s q) → 1 ≤ times h (put b (named s q))
+    more empty m = m
+    more moved m = m
+    more bad m = m
+    more (list a) m = m
+    more (tree i) m = omega (arith, times-rest h i (named s q))
 
-module _ {s : Set} (fit : Fit s) where
-  -- A word of the row names header h exactly where a bin does.
-  any-names : (h : ℕ) → h < headersIn s → anyWord (length (s .bins)) (s .bins) (4098 + h) ≡ true → (k : ℕ) × (i : ℕ) × Place s k i × (binAt s k i ≡ tree h)
-  any-names h b e =
-      let r = any-word _ (s .bins) (4098 + h) e in
-      let q = begins-place (s .lengths) (tablesOf s) (r .0) (omega (arith, r .1, fit .all)) in
-      let w : getD (s .bins) (begins (s .lengths) (q .0) + q .1) 0 ≡ 4098 + h = ap (λ (j : ℕ). getD (s .bins) j 0) (q .4) ∙ r .2 in (
-        q .0,
-        q .1,
-        record { table = q .2; index = q .3 },
-        tree-is (slotsIn s) (headersIn s) _ h (omega (arith, w), omega (arith, w, headers-are fit, fit .headers-most), omega (arith, w), b),
-      )
+    go : Dec (p ≡ q) → (p ≢ q → 1 ≤ times h (named s q)) → 1 ≤ times h (put (wordBin s q) (named s q))
+    go (yes z) rest = let f : wordBin s q ≡ tree h = ap (wordBin s) (sym z) ∙ e in rw f (omega (arith, times-head h (named s q)))
+    go (no d) rest = more (wordBin s q) (rest d)
 
-  names-any : (h k i : ℕ) → Place s k i → binAt s k i ≡ tree h → anyWord (length (s .bins)) (s .bins) (4098 + h) ≡ true
-  names-any h k i p e =
-      let r = ranges (slotsIn s) (headersIn s) (getD (s .bins) (begins (s .lengths) k + i) 0) .trees h .0 e in
-      word-any _ (s .bins) (4098 + h) (begins (s .lengths) k + i)
-      (omega (arith, begins-more (s .lengths) (tablesOf s) k (p .table), p .index, fit .all)) (omega (arith, r .0, r .2))
+-- Where no header is named by two words, each stands there once at most.
+abbrev Once : Set → Type 0
+Once s = (p q h : ℕ) → p < length (s .bins) → q < length (s .bins) → wordBin s p ≡ tree h → wordBin s q ≡ tree h → p ≡ q
 
-  each-header : (m : ℕ) → headersFine m (s .heads) (s .bins) ≡ true → (h : ℕ) → h < m → headerFine (s .heads) (s .bins) h ≡ true
-  unfolding headersFine
-  each-header zero e h b = absurd (omega arith)
-  each-header (suc m) e h b = let r = both (headerFine (s .heads) (s .bins) m) _ e in go (ℕ-discrete h m) (r .0) (λ d. each-header m (r .1) h (omega arith))
+module _ (s : Set) (once : Once s) where
+  named-once : (q : ℕ) → q ≤ length (s .bins) → (h : ℕ) → times h (named s q) ≤ 1
+  unfolding times named
+  named-once zero b h = omega arith
+  named-once (suc q) b h = go (wordBin s q) refl (named-once q (omega arith) h)
     where
-      go : Dec (h ≡ m) → headerFine (s .heads) (s .bins) m ≡ true → (h ≢ m → headerFine (s .heads) (s .bins) h ≡ true) → headerFine (s .heads) (s .bins) h ≡ true
-      go (yes z) f rest = rw z f
-      go (no z) f rest = rest z
-
-  all-headers : (m : ℕ) → ((h : ℕ) → h < m → headerFine (s .heads) (s .bins) h ≡ true) → headersFine m (s .heads) (s .bins) ≡ true
-  unfolding headersFine
-  all-headers zero f = refl
-  all-headers (suc m) f = and (f m (omega arith)) (all-headers m (λ h b. f h (omega arith)))
-
-  -- "other headers are null with count 0"
-  pub record Blank (h : ℕ) : Type 0 where
-    pub root : rootAt s h ≡ null
-    pub first : firstAt s h ≡ null
-    pub count : countAt s h ≡ 0
-
-  is-blank : (h : ℕ) → isBlank (rootAt s h) (firstAt s h) (countAt s h) ≡ true → Blank h
-  unfolding isBlank
-  is-blank h e =
-      let a = both (eqb (rootAt s h) null) _ e in
-      let b = both (eqb (firstAt s h) null) _ (a .1) in
-      record { root = eqb-true _ _ (a .0); first = eqb-true _ _ (b .0); count = eqb-true _ _ (b .1) }
-
-  blank-is : (h : ℕ) → Blank h → isBlank (rootAt s h) (firstAt s h) (countAt s h) ≡ true
-  unfolding isBlank
-  blank-is h b = and (eq-eqb _ _ (b .root)) (and (eq-eqb _ _ (b .first)) (eq-eqb _ _ (b .count)))
-
-  pub headers-blank : headersFine (headersIn s) (s .heads) (s .bins) ≡ true → (h : ℕ) → h < headersIn s → ((k i : ℕ) → Place s k i → binAt s k i ≢ tree h) → Blank h
-  unfolding headerFine
-  headers-blank e h b none = go (isBlank (rootAt s h) (firstAt s h) (countAt s h)) refl (each-header (headersIn s) e h b)
-    where
-      go : (c : Bool) → isBlank (rootAt s h) (firstAt s h) (countAt s h) ≡ c → pick c true (anyWord (length (s .bins)) (s .bins) (4098 + h)) ≡ true → Blank h
-      go true z f = is-blank h z
-      go false z f = let r = any-names h b f in absurd (none (r .0) (r .1) (r .2) (r .3))
-
-  pub blank-headers : Headers s → headersFine (headersIn s) (s .heads) (s .bins) ≡ true
-  unfolding headerFine
-  blank-headers o = all-headers (headersIn s) (λ h b. go h b (anyWord (length (s .bins)) (s .bins) (4098 + h)) refl)
-    where
-      go : (h : ℕ) → h < headersIn s → (c : Bool) → anyWord (length (s .bins)) (s .bins) (4098 + h) ≡ c → pick (isBlank (rootAt s h) (firstAt s h) (countAt s h)) true (anyWord (length (s .bins)) (s .bins) (4098 + h)) ≡ true
-      go h b true z = rw z (either (isBlank (rootAt s h) (firstAt s h) (countAt s h)))
+      first : wordBin s q ≡ tree h → times h (named s q) ≡ 0
+      first e = decide (decLe 1 (times h (named s q)))
         where
-          either : (a : Bool) → pick a true true ≡ true
-          either true = refl
-          either false = refl
-      go h b false z =
-          rw (blank-is h (record { root = o .other-root h b unnamed; first = o .other-first h b unnamed; count = o .other-count h b unnamed }))
+          decide : Dec (1 ≤ times h (named s q)) → times h (named s q) ≡ 0
+          decide (yes m) =
+              let r = named-word s q h m in
+              let z : r .0 ≡ q = once (r .0) q h (omega (arith, r .1)) (omega arith) (r .2) e in
+              absurd (omega (arith, r .1))
+          decide (no d) = omega arith
+
+      go : (c : Bin) → wordBin s q ≡ c → times h (named s q) ≤ 1 → times h (put c (named s q)) ≤ 1
+      go empty e m = m
+      go moved e m = m
+      go bad e m = m
+      go (list a) e m = m
+      go (tree i) e m = same (ℕ-discrete h i)
         where
-          unnamed : (k i : ℕ) → Place s k i → binAt s k i ≢ tree h
-          unnamed k i p e = false≢true (sym z ∙ names-any h k i p e)
+          same : Dec (h ≡ i) → times h (i ∷ named s q) ≤ 1
+          same (yes z) = rw (← z) (omega (arith, times-head h (named s q), first (e ∙ ap tree (sym z))))
+          same (no d) = omega (arith, times-else h i (named s q) d)
+
+-- "other headers are null with count 0"
+pub record Blank (s : Set) (h : ℕ) : Type 0 where
+  pub root : rootAt s h ≡ null
+  pub first : firstAt s h ≡ null
+  pub count : countAt s h ≡ 0
+
+is-blank : (s : Set) (h : ℕ) → filled (s .heads) h ≡ 0 → Blank s h
+unfolding isBlank
+is-blank s h e = go (isBlank (rootAt s h) (firstAt s h) (countAt s h)) refl e
+  where
+    go : (b : Bool) → isBlank (rootAt s h) (firstAt s h) (countAt s h) ≡ b → _≡_ {A = ℕ} (pick b 0 1) 0 → Blank s h
+    go true z e =
+        let a = both (eqb (rootAt s h) null) _ z in
+        let b = both (eqb (firstAt s h) null) _ (a .1) in
+        record { root = eqb-true _ _ (a .0); first = eqb-true _ _ (b .0); count = eqb-true _ _ (b .1) }
+    go false z e = absurd (omega arith)
+
+blank-is : (s : Set) (h : ℕ) → Blank s h → filled (s .heads) h ≡ 0
+unfolding isBlank
+blank-is s h b = rw (eq-eqb _ _ (b .root), eq-eqb _ _ (b .first), eq-eqb _ _ (b .count))
+
+rooted-filled : (s : Set) (h : ℕ) → rootAt s h ≢ null → filled (s .heads) h ≡ 1
+unfolding isBlank
+rooted-filled s h d = rw (ne-eqb _ _ d)
+
+-- Where no two bins name one header and each named header has a root, the counts agree exactly if the other headers are null with count 0.
+module _ {s : Set} (fit : Fit s) (heads : HeadsOnce s) (roots : (k i h : ℕ) → Place s k i → binAt s k i ≡ tree h → rootAt s h ≢ null) where
+  abbrev Bins : ℕ → Type 0
+  Bins h = (k : ℕ) × (i : ℕ) × Place s k i × (binAt s k i ≡ tree h)
+
+  -- A word of the row is a bin's, and a bin's word stands in the row.
+  word-place : (p h : ℕ) → p < length (s .bins) → wordBin s p ≡ tree h
+      → (k : ℕ) × (i : ℕ) × Place s k i × (binAt s k i ≡ tree h) × (begins (s .lengths) k + i ≡ p)
+  word-place p h b e =
+      let q = begins-place (s .lengths) (tablesOf s) p (omega (arith, fit .all)) in
+      (q .0, q .1, record { table = q .2; index = q .3 }, ap (wordBin s) (q .4) ∙ e, q .4)
+
+  once : Once s
+  once p q h b c e f =
+      let u = word-place p h b e in
+      let v = word-place q h c f in
+      let r = heads .trees (u .0) (u .1) (v .0) (v .1) h (u .2) (v .2) (u .3) (v .3) in
+      cc (r .0, r .1, u .4, v .4)
+
+  abbrev all : List ℕ
+  all = named s (length (s .bins))
+
+  named-bin : (h : ℕ) → 1 ≤ times h all → Bins h
+  named-bin h m =
+      let r = named-word s (length (s .bins)) h m in
+      let u = word-place (r .0) h (r .1) (r .2) in
+      (u .0, u .1, u .2, u .3)
+
+  bin-named : (k i h : ℕ) → Place s k i → binAt s k i ≡ tree h → 1 ≤ times h all
+  bin-named k i h p e =
+      let l = begins-more (s .lengths) (tablesOf s) k (p .table) in
+      word-named s (length (s .bins)) h (begins (s .lengths) k + i) (omega (arith, p .index, fit .all)) e
+
+  inside : (h : ℕ) → 1 ≤ times h all → h < headersIn s
+  inside h m = let r = named-bin h m in ranges (slotsIn s) (headersIn s) _ .trees h .0 (r .3) .3
+
+  marked : (h : ℕ) → 1 ≤ times h all → filled (s .heads) h ≡ 1
+  marked h m = let r = named-bin h m in rooted-filled s h (roots (r .0) (r .1) h (r .2) (r .3))
+
+  abbrev Counted : Type 0
+  Counted = headersFine (slotsIn s) (headersIn s) (s .heads) (s .bins) ≡ true
+
+  pub headers-blank : Counted → (h : ℕ) → h < headersIn s → ((k i : ℕ) → Place s k i → binAt s k i ≢ tree h) → Blank s h
+  unfolding headersFine
+  headers-blank e h b none = is-blank s h (go (decLe 1 (times h all)))
+    where
+      same : filled (s .heads) h ≡ times h all
+      same =
+          exactly (headersIn s) all inside (filled (s .heads)) (named-once s once _ (omega arith)) marked
+          (named-length s _ ∙ sym (eqb-true _ _ e)) h b
+
+      go : Dec (1 ≤ times h all) → filled (s .heads) h ≡ 0
+      go (yes m) = let r = named-bin h m in absurd (none (r .0) (r .1) (r .2) (r .3))
+      go (no d) = omega (arith, same)
+
+  pub blank-headers : ((h : ℕ) → h < headersIn s → ((k i : ℕ) → Place s k i → binAt s k i ≢ tree h) → Blank s h) → Counted
+  unfolding headersFine
+  blank-headers blank = eq-eqb _ _ (sym (exactly-length (headersIn s) all inside (filled (s .heads)) same) ∙ named-length s _)
+    where
+      same : (h : ℕ) → h < headersIn s → filled (s .heads) h ≡ times h all
+      same h b = go (decLe 1 (times h all))
+        where
+          go : Dec (1 ≤ times h all) → filled (s .heads) h ≡ times h all
+          go (yes m) = omega (arith, marked h m, named-once s once (length (s .bins)) (omega arith) h)
+          go (no d) = omega (arith, blank-is s h (blank h b (λ k i p e. d (bin-named k i h p e))))

@@ -11,7 +11,8 @@ use Rattle.shape.specs.Find.{slotsOf}
 use Rattle.shape.specs.Rules.{then, obeyed}
 use Rattle.shape.specs.Chain.{chained, tally}
 use Rattle.demands.specs.Sound.{used, slotsFine, leaves}
-use Rattle.sets.specs.Words.{Set, tablesOf, lengthAt, slotsIn, headersIn, rootAt, firstAt, countAt, fits, Bin, empty, moved, bad, list, tree, binAt, bini}
+use Rattle.sets.specs.Words.{Set, tablesOf, lengthAt, slotsIn, headersIn, rootAt, firstAt, countAt, fits}
+use Rattle.sets.specs.Words.{Bin, empty, moved, bad, list, tree, binOf, binAt, bini}
 use Rattle.sets.specs.Accepted.{slotted}
 
 -- The hash of slot x names bin i of a table of so many bins.
@@ -116,23 +117,29 @@ unfoldable pub tableFine : ℕ → Set → ℕ → Value
 tableFine zero s v = some v
 tableFine (suc i) s v = then (binFine (tablesOf s - 1) s 0 i true v) (λ w. tableFine i s w)
 
--- One of the first p bin words is w.
-unfoldable pub anyWord : ℕ → List ℕ → ℕ → Bool
-anyWord zero bins w = false
-anyWord (suc p) bins w = pick (eqb (getD bins p 0) w) true (anyWord p bins w)
-
 -- A header is null with count 0.
 unfoldable pub isBlank : ℕ → ℕ → ℕ → Bool
 isBlank root first count = pick (eqb root null) (pick (eqb first null) (eqb count 0) false) false
 
--- Header h, and each of the first h headers: null with count 0, or named by a bin.
-unfoldable pub headerFine : List ℕ → List ℕ → ℕ → Bool
-headerFine heads bins h =
-    pick (isBlank (getD heads (3 * h) null) (getD heads (3 * h + 1) null) (getD heads (3 * h + 2) null)) true (anyWord (length bins) bins (4098 + h))
+-- 1 for a header that is not null with count 0, 0 for one that is.
+abbrev pub filled : List ℕ → ℕ → ℕ
+filled heads h = pick (isBlank (getD heads (3 * h) null) (getD heads (3 * h + 1) null) (getD heads (3 * h + 2) null)) 0 1
 
-unfoldable pub headersFine : ℕ → List ℕ → List ℕ → Bool
-headersFine zero heads bins = true
-headersFine (suc h) heads bins = pick (headerFine heads bins h) (headersFine h heads bins) false
+-- 1 for a bin that names a header, 0 for any other; and so for the word p of the row of all bins, in a set of n slots and h headers.
+abbrev pub namesHeader : Bin → ℕ
+namesHeader empty = 0
+namesHeader moved = 0
+namesHeader (list a) = 0
+namesHeader (tree h) = 1
+namesHeader bad = 0
+
+abbrev pub naming : ℕ → ℕ → List ℕ → ℕ → ℕ
+naming n h bins p = namesHeader (binOf n h (getD bins p 0))
+
+-- As many of the h headers are not null with count 0 as bins name one. On a set that passes the other tests no two bins name one header,
+-- and a named one has a root; so those are the named ones, and the others are null with count 0.
+unfoldable pub headersFine : ℕ → ℕ → List ℕ → List ℕ → Bool
+headersFine n h heads bins = eqb (tally h (filled heads)) (tally (length bins) (naming n h bins))
 
 -- The bins hold as many slots as are not free: the visits used are as many.
 unfoldable pub allHeld : Set → Bool
@@ -140,8 +147,11 @@ allHeld s = leaves (slotsIn s) (tally (slotsIn s) (used (s .cells))) (tableFine 
 
 -- The whole check.
 unfoldable pub accepted : Set → Bool
-accepted s = pick (slotsFine (slotsIn s) (slotsIn s) (slotted s)) (pick (headersFine (headersIn s) (s .heads) (s .bins)) (allHeld s) false) false
+accepted s =
+    pick (slotsFine (slotsIn s) (slotsIn s) (slotted s))
+    (pick (headersFine (slotsIn s) (headersIn s) (s .heads) (s .bins)) (allHeld s) false)
+    false
 
--- "acceptance give[s] 1, or else yes or no": yes is 1, no is 0.
+-- "The full check and acceptance give 1, or else yes or no": yes is 1, no is 0.
 unfoldable pub accepts : Set → Answer
 accepts s = pick (fits s) (pick (accepted s) (given 1) (given 0)) (refused 1)

@@ -85,8 +85,8 @@ onward (passed v) rest = rest v
 onward (failed t i) rest = failed t i
 onward strayed rest = strayed
 
--- "At a node the eight come first; then it visits the left subtree whole, then the right. One of a node's own five links out of
--- range, tested before the eight, or more visits than slots, answers 9." At most fuel deep; v visits are left.
+-- "At a node the eight come first; then it visits the left subtree whole, then the right." "The root, or one of a node's own five links,
+-- out of range, tested before the eight, or more visits than slots, answers 9." At most fuel deep; v visits are left.
 unfoldable pub walked : ℕ → List ℕ → List ℕ → ℕ → ℕ → Walk
 walked zero names cells i v = pick (eqb i null) (passed v) strayed
 walked (suc fuel) names cells i v =

@@ -64,7 +64,7 @@ pub data Follows (names cells : List ℕ) (root hash key : ℕ) : ℕ → ℕ �
       → looked names cells p hash key ≡ on q
       → Follows names cells root hash key (suc k) q
 
--- "9 Lost: a read follows a link neither null nor a slot, or would visit one slot more than there are slots."
+-- 9 Lost, "a read follows a link neither null nor a slot .., or would visit one slot more than there are slots".
 pub record Lost (names cells : List ℕ) (root hash key : ℕ) : Type 0 where
   pub visited : ℕ
   pub link : ℕ

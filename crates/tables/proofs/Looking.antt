@@ -1,23 +1,19 @@
 -- What each way out of the list's loop and of the loop over tables says of the answer, from the law of one turn.
-use mathlib.Core.Path.{_≡_, refl, ap, sym, _∙_}
+use mathlib.Core.Path.{_≡_, refl, sym, _∙_}
 use mathlib.Core.Logic.{_≢_}
 use mathlib.Core.Bool.{Bool, true, false}
 use mathlib.Core.List.{List}
 use Prim.Native.Nat.{ℕ, zero, suc, _+_, _-_, _*_, _<_, _≤_}
 use native.Mathlib.Numerals.{sub-one, add-one}
 use native.Mathlib.Nat.{add-zero}
-use native.Mathlib.Decide.{ℕ-discrete}
 use native.Mathlib.Omega.{arith}
 use borrow.Author.Tests.{ne-eqb, eq-eqb, lt-ltb, le-ltb}
-use lib.Bits.{and-zero-r}
 use lib.Dec.{eqb}
 use lib.ListN.{getD}
 use Rattle.slots.specs.Words.{null, pick, next, cell, nameOf, hashPart, keyPart}
-use Rattle.slots.specs.Answers.{Answer, some, given, nothing, refused}
+use Rattle.slots.specs.Answers.{Answer, given, nothing, refused}
 use Rattle.shape.specs.Find.{slotsOf, found}
-use Rattle.sets.specs.Words.{Set, tablesOf, fits, empty, moved, bad, list, tree, bini}
-use Rattle.bins.specs.Answers.{binis}
-use Rattle.bins.proofs.Claims.{claims}
+use Rattle.sets.specs.Words.{Set, tablesOf, fits, empty, moved, bad, list, tree}
 use Rattle.walks.specs.Lookup.{hasPair, listed, homeBin, forwarded, lookups}
 use Rattle.walks.proofs.Reading.{at-null, out-of-range, visits-spent, at-slot}
 use Rattle.walks.proofs.Forwarding.{turn, past-last}
@@ -55,23 +51,6 @@ module _ (names cells : List ℕ) (hash key p visits : ℕ) {r : Answer} (i : li
 
     pub onward : b ≡ false → {q : ℕ} → q ≡ cell cells p next → listed names cells (visits - 1) q hash key ≡ r
     onward t f = rw f (rw t at (seen names cells hash key p visits i n h v e))
-
--- The index of a bin, from what `bini` answers.
-some-same : {u v : ℕ} → some u ≡ some v → u ≡ v
-some-same e = cc
-
-pub index-some : (len hash i : ℕ) → given i ≡ binis len hash → i ≡ bini len hash
-index-some len hash i e = go (ℕ-discrete len 0)
-  where
-    go : Dec (len ≡ 0) → i ≡ bini len hash
-    go (yes z) = absurd (omega (arith, ap (λ (a : Answer). a .number) (e ∙ claims .length-zero len hash .1 z)))
-    go (no n) = some-same (ap (λ (a : Answer). a .value) (e ∙ claims .length-more len hash n))
-
-pub index-none : (len hash : ℕ) → refused 1 ≡ binis len hash → 0 ≡ bini len hash
-unfolding bini
-index-none len hash e =
-    let z : len - 1 ≡ 0 = omega (arith, claims .length-zero len hash .0 (sym e)) in
-    rw z (sym (and-zero-r hash))
 
 -- The loop over tables: what is known at table k, and the ways out.
 module _ (s : Set) (hash key k : ℕ) {r : Answer} (i : forwarded (tablesOf s - k) s k hash key ≡ r) (l : k < tablesOf s) where

@@ -1,11 +1,10 @@
 // lookup: the slot that has a pair, from a table down the forwarded ones.
 use bins::bin::Bin;
-use bins::bin::Home;
 use bins::bin::ROOT;
 use bins::bin::bin_of;
 use bins::bin::bin_word;
-use bins::bin::bini;
 use bins::bin::header;
+use bins::bin::index;
 use bins::fit::fit_set;
 use bins::fit::length_at;
 use slots::HASH;
@@ -61,17 +60,6 @@ fn find_in_list(names: &[u64], cells: &[u32], first: u32, hash: u64, key: u64) -
         p = get(cells, p, NEXT);
     }
     Found::Nothing
-}
-
-// The index of the bin for a hash, in a table of so many bins. A fit set has no table of none, and there the mask is 0.
-fn index(length: u32, hash: u64) -> u32
-    ensures { λ r. ⌜ r ≡ home length hash ⌝ }
-{
-    let home = bini(length, hash);
-    let Home::Bin(i) = home else {
-        return 0;
-    };
-    i
 }
 
 // The bin of table k for a hash, in a set of n slots and h headers.

@@ -20,6 +20,8 @@ use Rattle.demands.specs.Remove.{shrunk}
 use Rattle.demands.specs.Rollback.{Undo, stays, misfit, takenBack, putBack, undone, unrolled}
 use Rattle.drivers.specs.Answers.{slotOf}
 use Rattle.undo.specs.Answers.{undoOf}
+use Rattle.undo.specs.declared.lines.Undoing.{Undoing}
+use Rattle.undo.specs.declared.lines.Undoing.the-variants.{Done, Misfit}
 use Rattle.drivers.proofs.Slots.{slot-some, slot-none}
 
 -- An insert line: its pair is not there, has another place, or goes.
@@ -154,11 +156,11 @@ module _ (lines : List ℕ) (m : ℕ) (t : Live) where
   unroll-end (suc c) h = absurd (omega arith)
 
 module _ {t₀ : Live} {lines : List ℕ} {m count : ℕ} {t : Live} {c : ℕ} (turn : Turn t₀ lines m count t c) where
-  pub turn-on : {r : Bool} {u : Live} → 0 < c → undoOf r u ≡ undone t lines (m + (c - 1)) → r ≡ true
+  pub turn-on : {r : Undoing} {u : Live} → 0 < c → undoOf r u ≡ undone t lines (m + (c - 1)) → r ≡ Done
       → length (u .names) ≡ length (t .names) → length (u .cells) ≡ length (t .cells) → length (u .head) ≡ length (t .head)
       → Turn t₀ lines m count u (c - 1)
   turn-on {r} {u} h e f n1 n2 n3 =
-      let g : stays u ≡ undone t lines (m + (c - 1)) = ap (λ (b : Bool). undoOf b u) (sym f) ∙ e in
+      let g : stays u ≡ undone t lines (m + (c - 1)) = ap (λ (b : Undoing). undoOf b u) (sym f) ∙ e in
       let l : countOf t < null = omega (arith, turn .small) in
       record {
         same = unroll-on lines m t c h g ∙ turn .same;
@@ -168,8 +170,9 @@ module _ {t₀ : Live} {lines : List ℕ} {m count : ℕ} {t : Live} {c : ℕ} (
         head = n3 ∙ turn .head;
       }
 
-  pub turn-not : {r : Bool} (u : Live) → 0 < c → undoOf r u ≡ undone t lines (m + (c - 1)) → r ≡ false → misfit ≡ unrolled count t₀ lines m
-  turn-not {r} u h e f = unroll-not lines m t c h (ap (λ (b : Bool). undoOf b u) (sym f) ∙ e) ∙ turn .same
+  pub turn-not : {r : Undoing} (u : Live) → 0 < c → undoOf r u ≡ undone t lines (m + (c - 1)) → r ≡ Misfit
+      → misfit ≡ unrolled count t₀ lines m
+  turn-not {r} u h e f = unroll-not lines m t c h (ap (λ (b : Undoing). undoOf b u) (sym f) ∙ e) ∙ turn .same
 
   pub turn-end : c ≤ 0 → stays t ≡ unrolled count t₀ lines m
   turn-end h = unroll-end lines m t c h ∙ turn .same
@@ -180,11 +183,14 @@ copy-on src dst i a b e =
     rw (add-one) (take-suc-set dst i (getD src i 0) b ∙ ap (λ (l : List ℕ). l ++ (getD src i 0 ∷ [])) e ∙ sym (take-suc src i 0 a))
 
 -- Lines were undone, or they do not fit.
-pub undo-done : {r : Bool} (u : Live) {o : Undo} → undoOf r u ≡ o → r ≡ true → stays u ≡ o
-undo-done u e f = ap (λ (b : Bool). undoOf b u) (sym f) ∙ e
+pub undo-done : {r : Undoing} (u : Live) {o : Undo} → undoOf r u ≡ o → r ≡ Done → stays u ≡ o
+undo-done u e f = ap (λ (b : Undoing). undoOf b u) (sym f) ∙ e
 
-pub undo-not : {r : Bool} (u : Live) {o : Undo} → undoOf r u ≡ o → r ≡ false → misfit ≡ o
-undo-not u e f = ap (λ (b : Bool). undoOf b u) (sym f) ∙ e
+pub undo-not : {r : Undoing} (u : Live) {o : Undo} → undoOf r u ≡ o → r ≡ Misfit → misfit ≡ o
+undo-not u e f = ap (λ (b : Undoing). undoOf b u) (sym f) ∙ e
+
+pub done-not : Done ≡ Misfit → ⊥
+done-not e = let z : _≡_ {A = ℕ} 0 1 = cc in omega arith
 
 -- Words that were kept aside come back.
 pub words-back : {words after : List ℕ} (copy now : List ℕ)

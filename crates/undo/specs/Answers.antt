@@ -1,5 +1,4 @@
 -- 01's number and value of each answer of rollback, and what its steps answer.
-use mathlib.Core.Bool.{Bool, true, false}
 use Prim.Native.Nat.{ℕ, _-_}
 use lib.Dec.{ltb}
 use Rattle.slots.specs.Words.{pick}
@@ -10,6 +9,8 @@ use Rattle.demands.specs.Index.{Index, fitsIndex, lengthOf}
 use Rattle.demands.specs.Rollback.{Undo, stays, misfit}
 use Rattle.undo.specs.declared.rollback.RolledBack.{RolledBack}
 use Rattle.undo.specs.declared.rollback.RolledBack.the-variants.{Lines, Unfit, Damaged, BadMark, Misfit}
+use Rattle.undo.specs.declared.lines.Undoing.{Undoing}
+use Rattle.undo.specs.declared.lines.Undoing.the-variants.{Done, Misfit as LineMisfit}
 
 abbrev pub rolledOf : RolledBack → Answer
 rolledOf (Lines count) = given count
@@ -25,7 +26,7 @@ opened ix m =
     (pick (sound (ix .live)) (pick (ltb (lengthOf (ix .lines)) m) (refused 7) (given (lengthOf (ix .lines) - m))) (refused 2))
     (refused 1)
 
--- Whether lines were undone, with the tree that is left: where they were not, nothing is said of it.
-abbrev pub undoOf : Bool → Live → Undo
-undoOf true t = stays t
-undoOf false t = misfit
+-- What came of undoing, with the tree that is left: where a line does not fit, nothing is said of it.
+abbrev pub undoOf : Undoing → Live → Undo
+undoOf Done t = stays t
+undoOf LineMisfit t = misfit

@@ -24,7 +24,13 @@ ghost use Rattle.demands.specs.Insert.{soughtIn};
 ghost use Rattle.demands.specs.Rollback.{takenBack, putBack, undone, unrolled};
 ghost use Rattle.undo.specs.Answers.{undoOf};
 
-// An insert line is undone by a removal: its pair is there with its place. False where it is not.
+// What comes of undoing: it is done, or a line does not fit.
+pub(crate) enum Undoing {
+    Done,
+    Misfit,
+}
+
+// An insert line is undone by a removal: its pair is there with its place. Misfit where it is not.
 fn take_back(
     names: &mut [u64],
     cells: &mut [u32],
@@ -32,24 +38,24 @@ fn take_back(
     hash: u64,
     key: u64,
     place: u64,
-) -> bool
+) -> Undoing
     requires { ⌜ length (now names) ≤ 8192 ⌝ }
     ensures { λ r. ⌜ undoOf r (record { names = now (names .exit); cells = now (cells .exit); head = now (head .exit) }) ≡ takenBack (record { names = now (names .entry); cells = now (cells .entry); head = now (head .entry) }) (soughtIn (record { names = now (names .entry); cells = now (cells .entry); head = now (head .entry) }) hash key) place ⌝ }
 {
     let root = word(head, ROOT);
     let found = find_tree_node(names, cells, root, hash, key);
     let Found::At(x) = found else {
-        return false;
+        return Undoing::Misfit;
     };
     let own = get(cells, x, slots::PLACE);
     if own as u64 != place {
-        return false;
+        return Undoing::Misfit;
     }
     shrink(names, cells, head, x);
-    true
+    Undoing::Done
 }
 
-// A remove line is undone by an insert: its pair is not there, and there is a free slot. False where that is not so, or where
+// A remove line is undone by an insert: its pair is not there, and there is a free slot. Misfit where that is not so, or where
 // the place is wider than 32 bits.
 fn put_back(
     names: &mut [u64],
@@ -58,7 +64,7 @@ fn put_back(
     hash: u64,
     key: u64,
     place: u64,
-) -> bool
+) -> Undoing
     requires { ⌜ length (now names) ≤ 8192 ⌝ }
     requires { ⌜ getD (now head) 2 null < null ⌝ }
     ensures { λ r. ⌜ undoOf r (record { names = now (names .exit); cells = now (cells .exit); head = now (head .exit) }) ≡ putBack (record { names = now (names .entry); cells = now (cells .entry); head = now (head .entry) }) (soughtIn (record { names = now (names .entry); cells = now (cells .entry); head = now (head .entry) }) hash key) hash key place ⌝ }
@@ -68,25 +74,25 @@ fn put_back(
     let Found::At(_) = found else {
         let free = lowest_free(cells, (names.len() / 2) as u32);
         let Free::At(x) = free else {
-            return false;
+            return Undoing::Misfit;
         };
         if 4294967296 <= place {
-            return false;
+            return Undoing::Misfit;
         }
         grow(names, cells, head, x, hash, key, place as u32);
-        return true;
+        return Undoing::Done;
     };
-    false
+    Undoing::Misfit
 }
 
-// Line k is undone. False where it does not fit; the slices are then left anyhow.
+// Line k is undone. Misfit where it does not fit; the slices are then left anyhow.
 fn undo_line(
     names: &mut [u64],
     cells: &mut [u32],
     head: &mut [u32],
     lines: &[u64],
     k: usize,
-) -> bool
+) -> Undoing
     requires { ⌜ length (now names) ≤ 8192 ⌝ }
     requires { ⌜ getD (now head) 2 null < null ⌝ }
     ensures { λ r. ⌜ undoOf r (record { names = now (names .exit); cells = now (cells .exit); head = now (head .exit) }) ≡ undone (record { names = now (names .entry); cells = now (cells .entry); head = now (head .entry) }) (now (lines .entry)) k ⌝ }
@@ -101,10 +107,10 @@ fn undo_line(
     if kind == REMOVE {
         return put_back(names, cells, head, hash, key, place);
     }
-    false
+    Undoing::Misfit
 }
 
-// So many lines from m on are undone, from the last down. False where one does not fit; the slices are then left anyhow.
+// So many lines from m on are undone, from the last down. Misfit where one does not fit; the slices are then left anyhow.
 pub(crate) fn unroll(
     names: &mut [u64],
     cells: &mut [u32],
@@ -112,7 +118,7 @@ pub(crate) fn unroll(
     lines: &[u64],
     m: u32,
     count: u32,
-) -> bool
+) -> Undoing
     requires { ⌜ length (now names) ≤ 8192 ⌝ }
     requires { ⌜ getD (now head) 2 null + count < null ⌝ }
     ensures { λ r. ⌜ undoOf r (record { names = now (names .exit); cells = now (cells .exit); head = now (head .exit) }) ≡ unrolled count (record { names = now (names .entry); cells = now (cells .entry); head = now (head .entry) }) (now (lines .entry)) m ⌝ }
@@ -120,10 +126,10 @@ pub(crate) fn unroll(
     let mut c = count;
     while 0 < c {
         c -= 1;
-        let fits = undo_line(names, cells, head, lines, m as usize + c as usize);
-        if !fits {
-            return false;
-        }
+        let undone = undo_line(names, cells, head, lines, m as usize + c as usize);
+        let Undoing::Done = undone else {
+            return Undoing::Misfit;
+        };
     }
-    true
+    Undoing::Done
 }

@@ -1,10 +1,12 @@
 // rollback: the lines above a mark are undone, from the last down, and cleared.
 use crate::backup::copy_cells;
 use crate::backup::copy_names;
+use crate::lines::Undoing;
 use crate::lines::unroll;
 use drivers::grow::head_put;
 use drivers::journal::cut;
 use drivers::journal::word as journal_word;
+use index::fit::Fitness;
 use index::fit::fit_index;
 use live::fit::COUNT;
 use live::fit::FIRST;
@@ -13,7 +15,6 @@ use live::fit::word;
 use live::sound::Soundness;
 use live::sound::sound;
 ghost use mathlib.Core.Path.{_≡_};
-ghost use mathlib.Core.Bool.{false};
 ghost use Prim.Native.Nat.{_+_, _≤_, _<_};
 ghost use lib.ListN.{length, getD};
 ghost use Rattle.slots.specs.Words.{null};
@@ -21,6 +22,7 @@ ghost use Rattle.demands.specs.Live.{Live};
 ghost use Rattle.demands.specs.Index.{Index};
 ghost use Rattle.demands.specs.Rollback.{unrolled, rolls};
 ghost use Rattle.undo.specs.Answers.{undoOf, opened, rolledOf};
+ghost use Rattle.undo.specs.declared.lines.Undoing.the-variants.{Misfit};
 
 pub enum RolledBack {
     Lines(u32),
@@ -34,10 +36,10 @@ pub enum RolledBack {
 fn ask(names: &[u64], cells: &[u32], head: &[u32], lines: &[u64], mark: u32) -> RolledBack
     ensures { λ r. ⌜ rolledOf r ≡ opened (record { live = record { names = now (names .entry); cells = now (cells .entry); head = now (head .entry) }; lines = now (lines .entry) }) mark ⌝ }
 {
-    let fits = fit_index(names, cells, head, lines);
-    if !fits {
+    let fitness = fit_index(names, cells, head, lines);
+    let Fitness::Fit = fitness else {
         return RolledBack::Unfit;
-    }
+    };
     let verdict = sound(names, cells, head);
     let Soundness::Yes = verdict else {
         return RolledBack::Damaged;
@@ -57,13 +59,13 @@ fn undo(
     lines: &[u64],
     m: u32,
     count: u32,
-) -> bool
+) -> Undoing
     requires { ⌜ length (now names) ≤ 8192 ⌝ }
     requires { ⌜ length (now cells) ≤ 28672 ⌝ }
     requires { ⌜ length (now head) ≡ 3 ⌝ }
     requires { ⌜ getD (now head) 2 null + count < null ⌝ }
     ensures { λ r. ⌜ undoOf r (record { names = now (names .exit); cells = now (cells .exit); head = now (head .exit) }) ≡ unrolled count (record { names = now (names .entry); cells = now (cells .entry); head = now (head .entry) }) (now (lines .entry)) m ⌝ }
-    ensures { λ r. ⌜ (r ≡ false → _≡_ {A = Live} (record { names = now (names .exit); cells = now (cells .exit); head = now (head .exit) }) (record { names = now (names .entry); cells = now (cells .entry); head = now (head .entry) })) ⌝ }
+    ensures { λ r. ⌜ (r ≡ Misfit → _≡_ {A = Live} (record { names = now (names .exit); cells = now (cells .exit); head = now (head .exit) }) (record { names = now (names .entry); cells = now (cells .entry); head = now (head .entry) })) ⌝ }
 {
     let mut old_names = [0u64; 8192];
     let mut old_cells = [0u32; 28672];
@@ -72,16 +74,16 @@ fn undo(
     let root = word(head, ROOT);
     let first = word(head, FIRST);
     let entries = word(head, COUNT);
-    let fits = unroll(names, cells, head, lines, m, count);
-    if !fits {
+    let unrolled = unroll(names, cells, head, lines, m, count);
+    let Undoing::Done = unrolled else {
         let n = names.len();
         let k = cells.len();
         copy_names(&old_names, names, n);
         copy_cells(&old_cells, cells, k);
         head_put(head, root, first, entries);
-        return false;
-    }
-    true
+        return Undoing::Misfit;
+    };
+    Undoing::Done
 }
 
 // A refusal writes nothing.
@@ -98,10 +100,10 @@ pub fn rollback(
     let RolledBack::Lines(count) = asked else {
         return asked;
     };
-    let fits = undo(names, cells, head, lines, mark, count);
-    if !fits {
+    let undone = undo(names, cells, head, lines, mark, count);
+    let Undoing::Done = undone else {
         return RolledBack::Misfit;
-    }
+    };
     cut(lines, mark, count);
     RolledBack::Lines(count)
 }

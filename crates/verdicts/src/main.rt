@@ -230,8 +230,31 @@ fn trees() {
     ask_tree(b"a chain of two for three slots", &names, &short);
 }
 
-// Two trees of one slot: each header's first is a chain of one slot, and nothing asks whose.
+// The header (0, 1, 1) over two slots, of which slot 1 is none of the tree's: its chain is as long as the tree.
+fn ask_other_chain(label: &[u8], lengths: &[u32], bins: &[u32], names: &[u64], other: u32) {
+    let mut cells = [NULL; 14];
+    clear(&mut cells, 2);
+    put(&mut cells, 0, STATE, BLACK);
+    put(&mut cells, 1, STATE, other);
+    ask(label, lengths, bins, &[0u32, 1, 1], names, &cells);
+}
+
+// Chains of as many slots as the tree, whosever they are: a free slot's, a list's, and another tree's.
 fn chains() {
+    ask_other_chain(
+        b"a tree whose first is a free slot",
+        &[1u32],
+        &[4098u32],
+        &[0u64, 5, 0, 0],
+        0,
+    );
+    ask_other_chain(
+        b"a tree whose first is a list's slot",
+        &[2u32],
+        &[4098u32, 3],
+        &[0u64, 0, 1, 0],
+        BLACK,
+    );
     let mut cells = [NULL; 14];
     clear(&mut cells, 2);
     put(&mut cells, 0, STATE, BLACK);

@@ -78,6 +78,11 @@ levels-under (suc d) lengths base x h j l = go (ℕ-discrete j d) (λ k. levels-
     go (yes e) again = rw e (level-under _ _ _ _ (parts .0))
     go (no n) again = again (omega arith)
 
+right-base : (len depth i : ℕ) → (i < len) ⊎ ((depth ≡ 0) × (i ≡ len)) → baseFine len depth i ≡ true
+unfolding baseFine
+right-base len depth i (inl l) = simp (lt-ltb _ _ l)
+right-base len depth i (inr e) = simp (le-ltb i len (omega arith), eq-eqb _ _ (e .0), eq-eqb _ _ (e .1))
+
 base-right : (len depth i : ℕ) → baseFine len depth i ≡ true → (i < len) ⊎ ((depth ≡ 0) × (i ≡ len))
 unfolding baseFine
 base-right len depth i h = go (either h)
@@ -85,11 +90,6 @@ base-right len depth i h = go (either h)
     go : (ltb i len ≡ true) ⊎ (pick (eqb depth 0) (eqb i len) false ≡ true) → (i < len) ⊎ ((depth ≡ 0) × (i ≡ len))
     go (inl e) = inl (ltb-true i len e)
     go (inr e) = let b = both e in inr (eqb-true depth 0 (b .0), eqb-true i len (b .1))
-
-right-base : (len depth i : ℕ) → (i < len) ⊎ ((depth ≡ 0) × (i ≡ len)) → baseFine len depth i ≡ true
-unfolding baseFine
-right-base len depth i (inl l) = simp (lt-ltb _ _ l)
-right-base len depth i (inr e) = simp (le-ltb i len (omega arith), eq-eqb _ _ (e .0), eq-eqb _ _ (e .1))
 
 range-known : (n l : ℕ) → inRange n l ≡ true → (l ≡ null) ⊎ (l < n)
 range-known n l h = go (either h)

@@ -15,9 +15,14 @@ use Rattle.slots.specs.Answers.{Answer, given, nothing, refused}
 use Rattle.shape.specs.Find.{slotsOf}
 use Rattle.walks.specs.Lookup.{hasPair, listed, Follows, start, step, ListLost, ListHere, ListMissed}
 use Rattle.walks.proofs.Reading.{at-null, out-of-range, visits-spent, at-slot}
-use Rattle.walks.proofs.Cursors.{both, and}
+use Rattle.walks.proofs.Cursors.{both}
 
 -- The test of a pair is the equality of pairs.
+pub same-has : (names : List ℕ) (p hash key : ℕ) → pairOf names p ≡ pair hash key → hasPair names p hash key ≡ true
+unfolding hasPair
+same-has names p hash key e =
+    simp (eq-eqb (nameOf names p hashPart) hash (ap (λ (q : Pair). q .hash) e), eq-eqb (nameOf names p keyPart) key (ap (λ (q : Pair). q .key) e))
+
 pub has-same : (names : List ℕ) (p hash key : ℕ) → hasPair names p hash key ≡ true → pairOf names p ≡ pair hash key
 unfolding hasPair
 has-same names p hash key h =
@@ -25,11 +30,6 @@ has-same names p hash key h =
     let e = eqb-true (nameOf names p hashPart) hash (b .0) in
     let f = eqb-true (nameOf names p keyPart) key (b .1) in
     λ i. record { hash = e i; key = f i }
-
-pub same-has : (names : List ℕ) (p hash key : ℕ) → pairOf names p ≡ pair hash key → hasPair names p hash key ≡ true
-unfolding hasPair
-same-has names p hash key e =
-    and (eq-eqb (nameOf names p hashPart) hash (ap (λ (q : Pair). q .hash) e)) (eq-eqb (nameOf names p keyPart) key (ap (λ (q : Pair). q .key) e))
 
 pub decided : (names : List ℕ) (p hash key : ℕ) → Dec (pairOf names p ≡ pair hash key)
 decided names p hash key = go (hasPair names p hash key) refl

@@ -5,9 +5,8 @@ use mathlib.Core.List.{List}
 use Prim.Native.Nat.{ℕ, zero, suc, _+_, _-_, _<_, _≤_}
 use native.Mathlib.Decide.{decLt, ℕ-discrete}
 use native.Mathlib.Omega.{arith}
-use lib.ListN.{length, getD, set, length-set, List·getD-eq-default}
+use lib.ListN.{length, getD, set, length-set}
 use lib.Seq.{getD-set-same, getD-set-other}
-use borrow.Author.Tests.{lt-leb}
 use Rattle.slots.specs.Words.{null, next}
 use Rattle.slots.specs.Answers.{Answer, given, nothing, refused}
 use Rattle.slots.proofs.Laws.{cell-null, nothing-given}
@@ -18,7 +17,8 @@ use Rattle.walks.specs.Walk.{Place, place, deepest, advanced, kept, trim
 use Rattle.walks.specs.Ways.{After, Comes, Strays, Steps}
 use Rattle.walks.specs.Claims.{Nexts}
 use Rattle.walks.proofs.Turns.{on, advanced-lt, advanced-ge}
-use Rattle.walks.proofs.Cursors.{right-not-bad, trimmed-kept}
+use Rattle.walks.proofs.Cursors.{right-not-bad}
+use Rattle.walks.proofs.Beginning.{trimmed-past, standing-begins, read-comes}
 use Rattle.walks.proofs.Stepping.{onward-after, comes-good, steps-walked, walked-steps}
 use Rattle.walks.proofs.Gates.{next-unfit, next-bad, next-walked, next-stands, Turn, turn}
 
@@ -30,12 +30,8 @@ Zeroed : Place → Type 0
 Zeroed p = (j : ℕ) → p .depth < j → getD (p .indexes) j 0 ≡ 0
 
 zeroed-trimmed : (d : ℕ) (x : List ℕ) → Zeroed (place d (trimmed d x))
-unfolding Zeroed kept
-zeroed-trimmed d x j l = go (decLt j 8)
-  where
-    go : Dec (j < 8) → getD (trimmed d x) j 0 ≡ 0
-    go (yes k) = trimmed-kept d x j k ∙ simp (lt-leb j d l)
-    go (no n) = let m : 8 ≤ j = omega arith in List·getD-eq-default (trimmed d x) 0 m
+unfolding Zeroed
+zeroed-trimmed d x = trimmed-past d x
 
 zeroed-advanced : (lengths : List ℕ) (base d : ℕ) (x : List ℕ) → length x ≡ 8 → d < 8 → Zeroed (place d x) → Zeroed (advanced d lengths base x)
 unfolding Zeroed advanced
@@ -69,16 +65,16 @@ module _ (s : Set) (base : ℕ) (from : Place) (good : Stands (s .lengths) base 
 module _ (s : Set) (c : Cursor) where
   zeroed-step : Fit s → (BadCursor s c → ⊥) → {r : Step} → Steps s c r → (x : ℕ) → r .answer ≡ given x → (j : ℕ) → r .cursor .depth < j → indexAt (r .cursor) j ≡ 0
   unfolding Zeroed
-  zeroed-step fit n (Steps.by-next e m l) x f j k = zeroed-trimmed (c .depth) (c .indexes) j k
+  zeroed-step fit n (Steps.by-next b e m l) x f j k = b .past j (omega (arith, b .depth))
   zeroed-step fit n (Steps.by-list r a) x f j k =
       let g = next-stands s c fit n in
-      zeroed-after s (c .base) (standing c) g (zeroed-trimmed (c .depth) (c .indexes)) (comes-good s (c .base) (standing c) g (r .comes))
-      (zeroed-comes s (c .base) (standing c) g (zeroed-trimmed (c .depth) (c .indexes)) (r .comes)) a j k
+      zeroed-after s (c .base) (standing c) g (zeroed-trimmed (c .depth) (c .indexes)) (comes-good s (c .base) (standing c) g (read-comes c r))
+      (zeroed-comes s (c .base) (standing c) g (zeroed-trimmed (c .depth) (c .indexes)) (read-comes c r)) a j k
   zeroed-step fit n (Steps.by-tree r m a) x f j k =
       let g = next-stands s c fit n in
-      zeroed-after s (c .base) (standing c) g (zeroed-trimmed (c .depth) (c .indexes)) (comes-good s (c .base) (standing c) g (r .comes))
-      (zeroed-comes s (c .base) (standing c) g (zeroed-trimmed (c .depth) (c .indexes)) (r .comes)) a j k
-  zeroed-step fit n (Steps.by-end e k d f) x g j l = absurd (nothing-given g)
+      zeroed-after s (c .base) (standing c) g (zeroed-trimmed (c .depth) (c .indexes)) (comes-good s (c .base) (standing c) g (read-comes c r))
+      (zeroed-comes s (c .base) (standing c) g (zeroed-trimmed (c .depth) (c .indexes)) (read-comes c r)) a j k
+  zeroed-step fit n (Steps.by-end b e k d f) x g j l = absurd (nothing-given g)
   zeroed-step fit n (Steps.lost h) x g j l = absurd (omega (arith, ap (λ (a : Answer). a .number) g))
 
   past-depth : {r : Step} → Turn s c r → (x : ℕ) → r .answer ≡ given x → (j : ℕ) → r .cursor .depth < j → indexAt (r .cursor) j ≡ 0
@@ -96,10 +92,10 @@ module _ (s : Set) (c : Cursor) where
   unfolding refusal
   refuses (Turn.unfit h) n l e = again 1 n (ap (λ (a : Answer). a .number) e)
   refuses (Turn.wrong fit b) n l e = again 11 n (ap (λ (a : Answer). a .number) e)
-  refuses (Turn.takes fit h (Steps.by-next f m k)) n l e = absurd (omega (arith, ap (λ (a : Answer). a .number) e))
+  refuses (Turn.takes fit h (Steps.by-next b f m k)) n l e = absurd (omega (arith, ap (λ (a : Answer). a .number) e))
   refuses (Turn.takes fit h (Steps.by-list r a)) n l e = absurd (omega (arith, ap (λ (a : Answer). a .number) e))
   refuses (Turn.takes fit h (Steps.by-tree r m a)) n l e = absurd (omega (arith, ap (λ (a : Answer). a .number) e))
-  refuses (Turn.takes fit h (Steps.by-end f k d g)) n l e = absurd (omega (arith, ap (λ (a : Answer). a .number) e))
+  refuses (Turn.takes fit h (Steps.by-end b f k d g)) n l e = absurd (omega (arith, ap (λ (a : Answer). a .number) e))
   refuses (Turn.takes fit h (Steps.lost g)) n l e = again 9 n (ap (λ (a : Answer). a .number) e)
 
   -- The end, with no slot last given, is Done, and what comes back is the end.
@@ -115,43 +111,43 @@ module _ (s : Set) (c : Cursor) where
     unfolding kept
     over-again =
         next-walked s over fit over-good
-        ∙ walked-steps s fit over (next-stands s over fit over-good) (Steps.by-end (cell-null (s .cells) next (ends fit)) Comes.start refl refl)
+        ∙ walked-steps s fit over (next-stands s over fit over-good) (Steps.by-end (standing-begins over (omega arith)) (cell-null (s .cells) next (ends fit)) Comes.start refl refl)
 
   stays : {r : Step} → Turn s c r → r .answer ≡ nothing → nexts s (r .cursor) ≡ r
   stays (Turn.unfit n) e = absurd (omega (arith, ap (λ (a : Answer). a .number) e))
   stays (Turn.wrong fit b) e = absurd (omega (arith, ap (λ (a : Answer). a .number) e))
-  stays (Turn.takes fit n (Steps.by-next f m k)) e = absurd (nothing-given (sym e))
+  stays (Turn.takes fit n (Steps.by-next b f m k)) e = absurd (nothing-given (sym e))
   stays (Turn.takes fit n (Steps.by-list r a)) e = absurd (nothing-given (sym e))
   stays (Turn.takes fit n (Steps.by-tree r m a)) e = absurd (nothing-given (sym e))
-  stays (Turn.takes fit n (Steps.by-end f k d g)) e = over-again fit (omega (arith, next-stands s c fit n .deep))
+  stays (Turn.takes fit n (Steps.by-end b f k d g)) e = over-again fit (omega (arith, next-stands s c fit n .deep))
   stays (Turn.takes fit n (Steps.lost h)) e = absurd (omega (arith, ap (λ (a : Answer). a .number) e))
 
   -- Which number says what.
   is-one : {r : Step} → Turn s c r → r .answer .number ≡ 1 → Fit s → ⊥
   is-one (Turn.unfit n) e = n
   is-one (Turn.wrong fit b) e = absurd (omega arith)
-  is-one (Turn.takes fit n (Steps.by-next f m k)) e = absurd (omega arith)
+  is-one (Turn.takes fit n (Steps.by-next b f m k)) e = absurd (omega arith)
   is-one (Turn.takes fit n (Steps.by-list r a)) e = absurd (omega arith)
   is-one (Turn.takes fit n (Steps.by-tree r m a)) e = absurd (omega arith)
-  is-one (Turn.takes fit n (Steps.by-end f k d g)) e = absurd (omega arith)
+  is-one (Turn.takes fit n (Steps.by-end b f k d g)) e = absurd (omega arith)
   is-one (Turn.takes fit n (Steps.lost h)) e = absurd (omega arith)
 
   is-eleven : {r : Step} → Turn s c r → r .answer .number ≡ 11 → Fit s × BadCursor s c
   is-eleven (Turn.unfit n) e = absurd (omega arith)
   is-eleven (Turn.wrong fit b) e = (fit, b)
-  is-eleven (Turn.takes fit n (Steps.by-next f m k)) e = absurd (omega arith)
+  is-eleven (Turn.takes fit n (Steps.by-next b f m k)) e = absurd (omega arith)
   is-eleven (Turn.takes fit n (Steps.by-list r a)) e = absurd (omega arith)
   is-eleven (Turn.takes fit n (Steps.by-tree r m a)) e = absurd (omega arith)
-  is-eleven (Turn.takes fit n (Steps.by-end f k d g)) e = absurd (omega arith)
+  is-eleven (Turn.takes fit n (Steps.by-end b f k d g)) e = absurd (omega arith)
   is-eleven (Turn.takes fit n (Steps.lost h)) e = absurd (omega arith)
 
   is-nine : {r : Step} → Turn s c r → r .answer .number ≡ 9 → Fit s × (BadCursor s c → ⊥) × Strays s c
   is-nine (Turn.unfit n) e = absurd (omega arith)
   is-nine (Turn.wrong fit b) e = absurd (omega arith)
-  is-nine (Turn.takes fit n (Steps.by-next f m k)) e = absurd (omega arith)
+  is-nine (Turn.takes fit n (Steps.by-next b f m k)) e = absurd (omega arith)
   is-nine (Turn.takes fit n (Steps.by-list r a)) e = absurd (omega arith)
   is-nine (Turn.takes fit n (Steps.by-tree r m a)) e = absurd (omega arith)
-  is-nine (Turn.takes fit n (Steps.by-end f k d g)) e = absurd (omega arith)
+  is-nine (Turn.takes fit n (Steps.by-end b f k d g)) e = absurd (omega arith)
   is-nine (Turn.takes fit n (Steps.lost h)) e = (fit, n, h)
 
   pub nexts-claims : Nexts s c

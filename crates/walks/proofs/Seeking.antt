@@ -9,9 +9,9 @@ use lib.Dec.{leb}
 use borrow.Author.Tests.{le-leb, lt-leb, lt-ltb, le-ltb}
 use Rattle.slots.specs.Words.{pick}
 use Rattle.sets.specs.Words.{Set, tablesOf, lengthAt, slotsIn, firstAt, Bin, empty, moved, bad, list, tree}
-use Rattle.walks.specs.Walk.{Place, deepest, binHere, below, onward, Stands, Sought, at, ended, lost, turned, sought, turnsIn}
-use Rattle.walks.proofs.Turns.{left, left-advanced, left-within, left-below, under-some}
-use Rattle.walks.proofs.Standing.{Within, within-or-end, stands-advanced, stands-below, left-some, left-all}
+use Rattle.walks.specs.Walk.{Place, deepest, binHere, below, onward, Stands, Sought, ended, lost, taken, turned, sought, turnsIn}
+use Rattle.walks.proofs.Turns.{left, left-advanced, left-within, left-down, twice-at, under-some}
+use Rattle.walks.proofs.Standing.{Within, within-or-end, stands-advanced, stands-down, left-some, left-all}
 
 module _ (s : Set) (base : ℕ) where
   abbrev pub Good : Place → Type 0
@@ -42,20 +42,18 @@ module _ (s : Set) (base : ℕ) where
       let u = under-some (tablesOf s - (base + d)) (omega (arith, h .deep)) in
       omega (arith, a, b, u)
 
-  pub falls-below : (p : Place) → Good p → Here p → base + suc (p .depth) < tablesOf s → leftAt (below p) < leftAt p
-  falls-below p h w l =
-      let b = left-below (s .lengths) base (h .twice) (p .depth) (p .indexes) (h .eight) (omega (arith, h .few)) w l in
-      omega (arith, b)
+  pub falls-below : (p : Place) → Good p → Here p → base + suc (p .depth) < tablesOf s → leftAt (below s base p) < leftAt p
+  falls-below p h w l = left-down (s .lengths) base (h .twice) (p .depth) _ (p .indexes) w l
 
   pub good-onward : (p : Place) → Good p → Here p → Good (onward s base p)
   good-onward p h w = stands-advanced (s .lengths) base (p .depth) (p .indexes) h w
 
-  pub good-below : (p : Place) → Good p → Here p → base + suc (p .depth) < tablesOf s → Good (below p)
-  good-below p h w l = stands-below (s .lengths) base p h w l
+  pub good-below : (p : Place) → Good p → Here p → base + suc (p .depth) < tablesOf s → Good (below s base p)
+  good-below p h w l = stands-down (s .lengths) base p _ h w l (omega (arith, twice-at (s .lengths) base (h .twice) (p .depth) l))
 
   -- A turn's outcome depends on what follows the places that it may go to.
   same-turn : (p : Place) (b : Bin) (f g : Place → Sought) → f (onward s base p) ≡ g (onward s base p)
-      → (base + suc (p .depth) < tablesOf s → f (below p) ≡ g (below p))
+      → (base + suc (p .depth) < tablesOf s → f (below s base p) ≡ g (below s base p))
       → turned s base p b f ≡ turned s base p b g
   same-turn p empty f g a b = a
   same-turn p bad f g a b = refl
@@ -88,7 +86,7 @@ module _ (s : Set) (base : ℕ) where
           sought-turn t p w refl
           ∙ same-turn p (binHere s base p) (λ q. sought t s base q) (λ q. sought u s base q)
           (again (onward s base p) (good-onward p h w) (omega (arith, i)) (omega (arith, i)))
-          (λ l. again (below p) (good-below p h w l) (omega (arith, falls-below p h w l)) (omega (arith, falls-below p h w l)))
+          (λ l. again (below s base p) (good-below p h w l) (omega (arith, falls-below p h w l)) (omega (arith, falls-below p h w l)))
           ∙ sym (sought-turn u p w refl)
 
   -- The loop with all its turns: what it comes to from a place, by the bin there.
@@ -108,7 +106,7 @@ module _ (s : Set) (base : ℕ) where
         ap (λ (t : ℕ). sought t s base p) (m .1) ∙ sought-turn (m .0) p w e
         ∙ same-turn p b (λ q. sought (m .0) s base q) seeks
         (enough (m .0) (turnsIn s base) (onward s base p) (good-onward p h w) (omega (arith, i, all, m .1)) (omega (arith, i, all)))
-        (λ l. enough (m .0) (turnsIn s base) (below p) (good-below p h w l) (omega (arith, falls-below p h w l, all, m .1)) (omega (arith, falls-below p h w l, all)))
+        (λ l. enough (m .0) (turnsIn s base) (below s base p) (good-below p h w l) (omega (arith, falls-below p h w l, all, m .1)) (omega (arith, falls-below p h w l, all)))
 
     pub at-empty : binHere s base p ≡ empty → seeks p ≡ seeks (onward s base p)
     at-empty e = at-turn e
@@ -116,10 +114,10 @@ module _ (s : Set) (base : ℕ) where
     pub at-bad : binHere s base p ≡ bad → seeks p ≡ lost
     at-bad e = at-turn e
 
-    pub at-list : {x : ℕ} → binHere s base p ≡ list x → seeks p ≡ at x (onward s base p)
+    pub at-list : {x : ℕ} → binHere s base p ≡ list x → seeks p ≡ taken s base p x
     at-list e = at-turn e
 
-    pub at-moved : binHere s base p ≡ moved → base + suc (p .depth) < tablesOf s → seeks p ≡ seeks (below p)
+    pub at-moved : binHere s base p ≡ moved → base + suc (p .depth) < tablesOf s → seeks p ≡ seeks (below s base p)
     at-moved e l = at-turn e ∙ simp (lt-ltb (base + p .depth + 1) (tablesOf s) (omega arith))
 
     pub at-last : binHere s base p ≡ moved → tablesOf s ≤ base + suc (p .depth) → seeks p ≡ lost
@@ -128,7 +126,7 @@ module _ (s : Set) (base : ℕ) where
     pub at-stray : {k : ℕ} → binHere s base p ≡ tree k → slotsIn s ≤ firstAt s k → seeks p ≡ lost
     at-stray {k} e l = at-turn e ∙ simp (le-ltb (firstAt s k) (slotsIn s) l)
 
-    pub at-tree : {k : ℕ} → binHere s base p ≡ tree k → firstAt s k < slotsIn s → seeks p ≡ at (firstAt s k) (onward s base p)
+    pub at-tree : {k : ℕ} → binHere s base p ≡ tree k → firstAt s k < slotsIn s → seeks p ≡ taken s base p (firstAt s k)
     at-tree {k} e l = at-turn e ∙ simp (lt-ltb (firstAt s k) (slotsIn s) l)
 
   pub at-end : (p : Place) → lengthAt s (base + p .depth) ≤ deepest p → seeks p ≡ ended
@@ -151,4 +149,4 @@ no-cells s base zero p = refl
 no-cells s base (suc t) p =
     ap (λ (o : Sought). pick (leb (lengthAt s (base + p .depth)) (deepest p)) ended o)
     (bare-turn s base p (binHere s base p) (λ q. sought t (bare s) base q)
-    ∙ same-turn s base p (binHere s base p) (λ q. sought t (bare s) base q) (λ q. sought t s base q) (no-cells s base t (onward s base p)) (λ l. no-cells s base t (below p)))
+    ∙ same-turn s base p (binHere s base p) (λ q. sought t (bare s) base q) (λ q. sought t s base q) (no-cells s base t (onward s base p)) (λ l. no-cells s base t (below s base p)))

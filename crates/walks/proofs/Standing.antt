@@ -1,4 +1,4 @@
--- The place after one where a step may stand, and the one below it, are such places too.
+-- The place after one where a step may stand, and those below it, are such places too.
 use mathlib.Core.Path.{_≡_, refl, ap, _∙_}
 use mathlib.Core.Logic.{_⊎_, inl, inr}
 use mathlib.Core.List.{List}
@@ -8,7 +8,7 @@ use native.Mathlib.Decide.{decLt, ℕ-discrete}
 use native.Mathlib.Omega.{arith}
 use lib.ListN.{length, getD, set, length-set}
 use lib.Seq.{getD-set-same, getD-set-other}
-use Rattle.walks.specs.Walk.{Place, place, deepest, below, advanced, Stands, under}
+use Rattle.walks.specs.Walk.{Place, place, deepest, advanced, Stands, under}
 use Rattle.walks.proofs.Turns.{on, advanced-lt, advanced-ge, twice-at, left, left-within, left-most, left-top, under-some}
 
 module _ (lengths : List ℕ) (base : ℕ) where
@@ -99,17 +99,19 @@ module _ (lengths : List ℕ) (base : ℕ) where
       go (yes e) = rw e w
       go (no n) = h .within j (omega arith)
 
-  pub stands-below : (p : Place) → Stands lengths base p → Within p → base + suc (p .depth) < length lengths → Stands lengths base (below p)
-  stands-below p h w l =
+  -- A bin of the table below is such a place.
+  pub stands-down : (p : Place) (v : ℕ) → Stands lengths base p → Within p → base + suc (p .depth) < length lengths → v < getD lengths (base + suc (p .depth)) 0
+      → Stands lengths base (place (suc (p .depth)) (set (p .indexes) (suc (p .depth)) v))
+  stands-down p v h w l b =
       let d = p .depth in
       let x = p .indexes in
       record {
-        eight = length-set x (suc d) (deepest p) ∙ h .eight;
+        eight = length-set x (suc d) v ∙ h .eight;
         few = h .few;
         twice = h .twice;
         deep = l;
-        within = λ j k. rw (getD-set-other x (suc d) j (deepest p) 0 (omega arith)) (inside p h w j (omega arith));
-        last = inl (rw (getD-set-same x (suc d) (deepest p) 0 (omega (arith, h .eight, h .few))) (omega (arith, twice-at lengths base (h .twice) d l)));
+        within = λ j k. rw (getD-set-other x (suc d) j v 0 (omega arith)) (inside p h w j (omega arith));
+        last = inl (rw (getD-set-same x (suc d) v 0 (omega (arith, h .eight, h .few))) b);
       }
 
   -- What is left at a place: something where its bin is there, and never more than there is.

@@ -14,9 +14,10 @@ use Rattle.sets.specs.Words.{Set, tablesOf, lengthAt, slotsIn, firstAt, Fit, Bi
 use Rattle.sets.proofs.Fit.{small}
 use Rattle.walks.specs.Cursor.{Cursor, Step}
 use Rattle.walks.specs.Walk.{Place, place, deepest, binHere, below, advanced, onward, Stands, Sought, at, ended, lost, standing, stepped, walked}
-use Rattle.walks.specs.Ways.{After, Comes, Reads, Strays, Steps}
+use Rattle.walks.specs.Ways.{Begins, After, Comes, Reads, Strays, Steps}
 use Rattle.walks.proofs.Turns.{on, advanced-lt, advanced-ge}
 use Rattle.walks.proofs.Standing.{left-some}
+use Rattle.walks.proofs.Beginning.{standing-begins, begins-is, read-comes}
 use Rattle.walks.proofs.Seeking.{leftAt, seeks, at-end, at-empty, at-bad, at-list, at-moved, at-last, at-tree, at-stray, falls-onward, falls-below, good-onward, good-below}
 
 module _ (s : Set) (base : ℕ) where
@@ -56,6 +57,9 @@ module _ (s : Set) (fit : Fit s) (c : Cursor) (good : Stands (s .lengths) (c .ba
   abbrev sound : Sought
   sound = seeks s (c .base) (standing c)
 
+  begins : Begins c (standing c)
+  begins = standing-begins c (omega (arith, good .deep, good .few))
+
   -- What is said of the loop's end.
   data Ends : Sought → Type 0 where
     list-end : {p q : Place} {x : ℕ} → Reads s c (list x) p → After s (c .base) p q → Ends (at x q)
@@ -86,20 +90,20 @@ module _ (s : Set) (fit : Fit s) (c : Cursor) (good : Stands (s .lengths) (c .ba
         read w empty e again =
             rw (at-empty s (c .base) p h w e)
             (again (onward s (c .base) p) (Comes.past k w e (after-onward s (c .base) (p .depth) (p .indexes))) (omega (arith, falls-onward s (c .base) p h w)))
-        read w bad e again = rw (at-bad s (c .base) p h w e) (stray-end (Strays.bad-bin (record { no-next = none; comes = k; there = w; bin = e })))
+        read w bad e again = rw (at-bad s (c .base) p h w e) (stray-end (Strays.bad-bin (record { from = standing c; begins = begins; no-next = none; comes = k; there = w; bin = e })))
         read w (list x) e again =
-            rw (at-list s (c .base) p h w e) (list-end (record { no-next = none; comes = k; there = w; bin = e }) (after-onward s (c .base) (p .depth) (p .indexes)))
+            rw (at-list s (c .base) p h w e) (list-end (record { from = standing c; begins = begins; no-next = none; comes = k; there = w; bin = e }) (after-onward s (c .base) (p .depth) (p .indexes)))
         read w moved e again = turn (decLt (c .base + suc (p .depth)) (tablesOf s))
           where
             turn : Dec (c .base + suc (p .depth) < tablesOf s) → Ends (seeks s (c .base) p)
-            turn (yes m) = rw (at-moved s (c .base) p h w e m) (again (below p) (Comes.down k w e m) (omega (arith, falls-below s (c .base) p h w m)))
+            turn (yes m) = rw (at-moved s (c .base) p h w e m) (again (below s (c .base) p) (Comes.down k w e m) (omega (arith, falls-below s (c .base) p h w m)))
             turn (no n) =
                 let m : tablesOf s ≤ c .base + suc (p .depth) = omega arith in
-                rw (at-last s (c .base) p h w e m) (stray-end (Strays.moved-last (record { no-next = none; comes = k; there = w; bin = e }) m))
+                rw (at-last s (c .base) p h w e m) (stray-end (Strays.moved-last (record { from = standing c; begins = begins; no-next = none; comes = k; there = w; bin = e }) m))
         read w (tree a) e again = turn (decLt (firstAt s a) (slotsIn s)) (ℕ-discrete (firstAt s a) null)
           where
             r : Reads s c (tree a) p
-            r = record { no-next = none; comes = k; there = w; bin = e }
+            r = record { from = standing c; begins = begins; no-next = none; comes = k; there = w; bin = e }
 
             turn : Dec (firstAt s a < slotsIn s) → Dec (firstAt s a ≡ null) → Ends (seeks s (c .base) p)
             turn (yes m) d = rw (at-tree s (c .base) p h w e m) (tree-end r m (after-onward s (c .base) (p .depth) (p .indexes)))
@@ -118,7 +122,7 @@ module _ (s : Set) (fit : Fit s) (c : Cursor) (good : Stands (s .lengths) (c .ba
     ends-steps : {o : Sought} → Ends o → Steps s c (stepped s c o)
     ends-steps (list-end r a) = Steps.by-list r a
     ends-steps (tree-end r m a) = Steps.by-tree r m a
-    ends-steps (base-end k d e) = Steps.by-end none k d e
+    ends-steps (base-end k d e) = Steps.by-end begins none k d e
     ends-steps (stray-end h) = Steps.lost h
 
   pub steps-walked : Steps s c (walked s c)
@@ -127,7 +131,7 @@ module _ (s : Set) (fit : Fit s) (c : Cursor) (good : Stands (s .lengths) (c .ba
     where
       go : Dec (cell (s .cells) (c .last) next ≡ null) → Dec (cell (s .cells) (c .last) next < slotsIn s) → Steps s c (walked s c)
       go (yes e) d = rw (eq-eqb (cell (s .cells) (c .last) next) null e) (ends-steps e (ends-all e))
-      go (no n) (yes l) = rw (ne-eqb (cell (s .cells) (c .last) next) null n, lt-ltb (cell (s .cells) (c .last) next) (slotsIn s) l) (Steps.by-next refl n l)
+      go (no n) (yes l) = rw (ne-eqb (cell (s .cells) (c .last) next) null n, lt-ltb (cell (s .cells) (c .last) next) (slotsIn s) l) (Steps.by-next begins refl n l)
       go (no n) (no l) =
           let m : slotsIn s ≤ cell (s .cells) (c .last) next = omega arith in
           rw (ne-eqb (cell (s .cells) (c .last) next) null n, le-ltb (cell (s .cells) (c .last) next) (slotsIn s) m) (Steps.lost (Strays.stray-next n m))
@@ -146,10 +150,10 @@ module _ (s : Set) (fit : Fit s) (c : Cursor) (good : Stands (s .lengths) (c .ba
 
   -- A bin read is what the loop comes to.
   reads-good : {b : Bin} {p : Place} → Reads s c b p → Stands (s .lengths) (c .base) p
-  reads-good r = comes-good s (c .base) (standing c) good (r .comes)
+  reads-good r = comes-good s (c .base) (standing c) good (read-comes c r)
 
   reads-same : {b : Bin} {p : Place} → Reads s c b p → sound ≡ seeks s (c .base) p
-  reads-same r = comes-same s (c .base) (standing c) good (r .comes)
+  reads-same r = comes-same s (c .base) (standing c) good (read-comes c r)
 
   strays-lost : Strays s c → walked s c ≡ stepped s c lost
   strays-lost (Strays.stray-next n l) = stray-walked n l
@@ -160,12 +164,12 @@ module _ (s : Set) (fit : Fit s) (c : Cursor) (good : Stands (s .lengths) (c .ba
   strays-lost (Strays.stray-first {p} r n l) = loop-walked (r .no-next) (reads-same r ∙ at-stray s (c .base) p (reads-good r) (r .there) (r .bin) l)
 
   pub walked-steps : {r : Step} → Steps s c r → walked s c ≡ r
-  walked-steps (Steps.by-next {x} e n l) = link-walked e n l
+  walked-steps (Steps.by-next {x = x} b e n l) = rw (begins-is c b) (link-walked e n l)
   walked-steps (Steps.by-list {p} {q} {x} r a) =
       loop-walked (r .no-next) (reads-same r ∙ at-list s (c .base) p (reads-good r) (r .there) (r .bin) ∙ ap (at x) (onward-after s (c .base) a))
   walked-steps (Steps.by-tree {p} {q} {h} r m a) =
       loop-walked (r .no-next) (reads-same r ∙ at-tree s (c .base) p (reads-good r) (r .there) (r .bin) m ∙ ap (at (firstAt s h)) (onward-after s (c .base) a))
-  walked-steps (Steps.by-end {p} e k d f) =
+  walked-steps (Steps.by-end {p = p} b e k d f) =
       let z : lengthAt s (c .base + p .depth) ≡ lengthAt s (c .base) = ap (λ (j : ℕ). lengthAt s (c .base + j)) d ∙ ap (λ (j : ℕ). lengthAt s j) (add-zero (c .base)) in
-      loop-walked e (comes-same s (c .base) (standing c) good k ∙ at-end s (c .base) p (omega (arith, z, f)))
+      loop-walked e (comes-same s (c .base) (standing c) good (rw (begins-is c b) at k) ∙ at-end s (c .base) p (omega (arith, z, f)))
   walked-steps (Steps.lost h) = strays-lost h

@@ -10,14 +10,14 @@ use lib.Seq.{getD-set-same, getD-set-other}
 use lib.Dec.{ltb}
 use borrow.Author.Tests.{lt-ltb, le-ltb}
 use Rattle.slots.specs.Words.{pick}
-use Rattle.walks.specs.Walk.{Place, place, advanced, under}
+use Rattle.walks.specs.Walk.{Place, place, further, advanced, under}
 
 -- The bins that come after the one at depth d, and those from the place on.
 unfoldable pub later : List ℕ → ℕ → ℕ → List ℕ → ℕ
 later lengths base zero x = (getD lengths base 0 - (getD x 0 0 + 1)) * under (length lengths - base)
 later lengths base (suc d) x =
     later lengths base d x
-    + pick (ltb (getD x (suc d) 0 + getD lengths (base + d) 0) (getD lengths (base + suc d) 0)) (under (length lengths - (base + suc d))) 0
+    + pick (ltb (further lengths base d x) (getD lengths (base + suc d) 0)) (under (length lengths - (base + suc d))) 0
 
 unfoldable pub left : List ℕ → ℕ → ℕ → List ℕ → ℕ
 left lengths base zero x = (getD lengths base 0 - getD x 0 0) * under (length lengths - base)
@@ -42,7 +42,7 @@ module _ (lengths : List ℕ) (base : ℕ) where
   -- One level, by its test.
   module _ (d : ℕ) (x : List ℕ) where
     abbrev pub on : ℕ
-    on = getD x (suc d) 0 + getD lengths (base + d) 0
+    on = further lengths base d x
 
     pub advanced-lt : on < getD lengths (base + suc d) 0 → advanced (suc d) lengths base x ≡ place (suc d) (set x (suc d) on)
     unfolding advanced
@@ -115,16 +115,19 @@ module _ (lengths : List ℕ) (base : ℕ) where
         let z : length lengths - (base + d) ≡ suc (length lengths - (base + suc d)) = omega arith in
         rw z
 
-    -- Descending reads one bin.
-    pub left-below : (d : ℕ) (x : List ℕ) → length x ≡ 8 → suc d < 8 → getD x d 0 < getD lengths (base + d) 0 → base + suc d < length lengths
-        → suc (left lengths base (suc d) (set x (suc d) (getD x d 0))) ≡ left lengths base d x
-    left-below d x e l w h =
-        let y : List ℕ = set x (suc d) (getD x d 0) in
-        let z : getD y (suc d) 0 ≡ getD x d 0 = getD-set-same x (suc d) (getD x d 0) 0 (omega arith) in
-        let t = twice-at twice d h in
-        let more : later lengths base (suc d) y ≡ later lengths base d y + under (length lengths - (base + suc d)) = later-lt d y (omega (arith, z, t)) in
-        let same = later-set d (suc d) (getD x d 0) x (omega arith) in
-        omega (arith, left-suc d y, more, same, under-two d h, left-within d x w)
+    later-most : (d : ℕ) (y : List ℕ) → later lengths base (suc d) y ≤ later lengths base d y + under (length lengths - (base + suc d))
+    later-most d y = go (decLt (on d y) (getD lengths (base + suc d) 0))
+      where
+        go : Dec (on d y < getD lengths (base + suc d) 0) → later lengths base (suc d) y ≤ later lengths base d y + under (length lengths - (base + suc d))
+        go (yes k) = omega (arith, later-lt d y k)
+        go (no k) = omega (arith, later-ge d y (omega arith))
+
+    -- Descending reads one bin, whichever of those below it goes to.
+    pub left-down : (d v : ℕ) (x : List ℕ) → getD x d 0 < getD lengths (base + d) 0 → base + suc d < length lengths
+        → left lengths base (suc d) (set x (suc d) v) < left lengths base d x
+    left-down d v x w h =
+        let y : List ℕ = set x (suc d) v in
+        omega (arith, left-suc d y, later-most d y, later-set d (suc d) v x (omega arith), under-two d h, left-within d x w)
 
     -- No place has more bins left than there are.
     pub left-most : (d : ℕ) (x : List ℕ) → base + d < length lengths → ((j : ℕ) → j ≤ d → getD x j 0 < getD lengths (base + j) 0)

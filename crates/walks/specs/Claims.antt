@@ -1,16 +1,23 @@
 -- What crate `walks` proves of lookup and the walk, in one record. Every statement of the crate stands here.
 use mathlib.Core.Path.{_≡_}
 use mathlib.Core.Logic.{_≢_, _↔_}
+use mathlib.Core.List.{List}
 use Prim.Native.Nat.{ℕ, _<_, _≤_}
+use lib.ListN.{length}
 use Rattle.slots.specs.Words.{null}
+use Rattle.slots.specs.Pairs.{pair, pairOf}
 use Rattle.slots.specs.Answers.{given, nothing, refused}
-use Rattle.sets.specs.Words.{Set, tablesOf, Fit}
+use Rattle.shape.specs.Chain.{tally}
+use Rattle.demands.specs.Sound.{used}
+use Rattle.sets.specs.Words.{Set, tablesOf, lengthAt, slotsIn, Fit}
 use Rattle.sets.specs.Accepted.{Accepted}
 use Rattle.walks.specs.Lookup.{lookups, Astray, Hit, Miss}
 use Rattle.walks.specs.Cursor.{Cursor, Step, indexAt, lone, blank, starts, BadCursor}
 use Rattle.walks.specs.Walk.{nexts}
 use Rattle.walks.specs.Ways.{Strays, Steps}
-use Rattle.walks.specs.Held.{Reached, Made, after}
+use Rattle.walks.specs.NodeIter.{called, stateOf, IsCall}
+use Rattle.walks.specs.Held.{Reached, EntryFrom, Made, after}
+use Rattle.walks.specs.Whole.{Onward, Listing}
 
 -- Lookup on any words: "lookup and start 1, 10, then 9", each exactly when, and else what the bin says that the loop comes to.
 pub record Lookups (s : Set) (t hash key : ℕ) : Type 0 where
@@ -50,9 +57,33 @@ pub record Walks (s : Set) (c : Cursor) : Type 0 where
   pub never : (n : ℕ) → 1 ≤ n → nexts s c .answer ≢ refused n
   pub ends : (n : ℕ) × (nexts s (after n s c) .answer ≡ nothing)
 
+-- Lookup on an accepted set is the set's map: from table t it answers x exactly if x is an entry of table t or of a later one and has the
+-- pair, so from table 0 exactly if x is an entry, in whatever bin; and no two entries have one pair.
+pub record Map (s : Set) : Type 0 where
+  pub at : (t hash key x : ℕ) → t < tablesOf s → (lookups s t hash key ≡ given x) ↔ (EntryFrom s t x × (pairOf (s .names) x ≡ pair hash key))
+  pub apart : (x y : ℕ) → EntryFrom s 0 x → EntryFrom s 0 y → pairOf (s .names) x ≡ pairOf (s .names) y → x ≡ y
+
+-- A whole walk of an accepted set, from the start of table t until Done.
+pub record WholeWalk (s : Set) (t : ℕ) : Type 0 where
+  -- the slots that its steps give, as one list, and no other list is what they give
+  pub given-slots : List ℕ
+  pub steps : Listing s (starts s t .cursor) given-slots
+  pub only : (l : List ℕ) → Listing s (starts s t .cursor) l → l ≡ given-slots
+  -- they are what 01 says of the bins, in that order: bins as the walk comes to them, a list by next, a tree from first by next
+  pub order : (l : List ℕ) → Onward s t 0 l ↔ (l ≡ given-slots)
+  -- from table 0: as many as the slots that are not free
+  pub count : t ≡ 0 → length given-slots ≡ tally (slotsIn s) (used (s .cells))
+
 pub record Claims : Type 0 where
   pub looking : (s : Set) (t hash key : ℕ) → Lookups s t hash key
   pub starting : (s : Set) (t : ℕ) → Starts s t
   pub stepping : (s : Set) (c : Cursor) → Nexts s c
+  -- a step is a call of the source's next from the same state, and that call has ended within so many turns
+  pub as-source : (s : Set) → Fit s → (c : Cursor) → (BadCursor s c → ⊥)
+      → (enough : ℕ) × ((turns : ℕ) → enough < turns → IsCall s c (nexts s c) (called turns s (lengthAt s (c .base)) (stateOf s c) (c .last)))
+  -- a cursor that start or next made is never bad, on every fit set
+  pub made-never-bad : (s : Set) → Fit s → (c : Cursor) → Made s c → BadCursor s c → ⊥
   pub looking-accepted : (s : Set) → Fit s → Accepted s → (t hash key : ℕ) → t < tablesOf s → LooksUp s t hash key
   pub walking-accepted : (s : Set) → Fit s → Accepted s → (c : Cursor) → Made s c → Walks s c
+  pub mapping-accepted : (s : Set) → Fit s → Accepted s → Map s
+  pub whole-walk : (s : Set) → Fit s → Accepted s → (t : ℕ) → t < tablesOf s → WholeWalk s t

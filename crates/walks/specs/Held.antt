@@ -1,6 +1,6 @@
 -- What an accepted set holds for a lookup, and the cursors that a walk makes.
 use mathlib.Core.Path.{_≡_}
-use Prim.Native.Nat.{ℕ, zero, suc, _<_}
+use Prim.Native.Nat.{ℕ, zero, suc, _<_, _≤_}
 use Rattle.slots.specs.Pairs.{pair, pairOf}
 use Rattle.sets.specs.Words.{Set, tablesOf, lengthAt, bini}
 use Rattle.sets.specs.Accepted.{Entry}
@@ -14,6 +14,13 @@ pub record Reached (s : Set) (t hash key slot : ℕ) : Type 0 where
   pub comes : Comes s t hash table
   pub entry : Entry s table (bini (lengthAt s table) hash) slot
   pub has : pairOf (s .names) slot ≡ pair hash key
+
+-- Slot x is an entry of the set, in a bin of table t or of a later one.
+pub record EntryFrom (s : Set) (t x : ℕ) : Type 0 where
+  pub table : ℕ
+  pub index : ℕ
+  pub later : t ≤ table
+  pub entry : Entry s table index x
 
 -- A cursor that start and next made.
 pub data Made (s : Set) : Cursor → Type 0 where

@@ -56,7 +56,7 @@ pub data Follows (names cells : List ℕ) (first hash key : ℕ) : ℕ → ℕ �
       → pairOf names p ≢ pair hash key
       → Follows names cells first hash key (suc k) (cell cells p next)
 
--- "a read follows a link neither null nor a slot, or would visit one slot more than there are slots"
+-- "a read follows a link neither null nor a slot .., or would visit one slot more than there are slots"
 pub record ListLost (names cells : List ℕ) (first hash key : ℕ) : Type 0 where
   pub visited : ℕ
   pub link : ℕ

@@ -33,16 +33,20 @@ abbrev pub trimmed : ℕ → List ℕ → List ℕ
 trimmed d x = kept d x 0 ∷ kept d x 1 ∷ kept d x 2 ∷ kept d x 3 ∷ kept d x 4 ∷ kept d x 5 ∷ kept d x 6 ∷ kept d x 7 ∷ []
 
 -- "A Moved bin descends to the same index below"
-abbrev pub below : Place → Place
-below p = place (suc (p .depth)) (set (p .indexes) (suc (p .depth)) (deepest p))
+abbrev pub below : Set → ℕ → Place → Place
+below s base p = place (suc (p .depth)) (set (p .indexes) (suc (p .depth)) (deepest p))
+
+-- "that index plus the upper length", at level d + 1.
+abbrev pub further : List ℕ → ℕ → ℕ → List ℕ → ℕ
+further lengths base d x = getD x (suc d) 0 + getD lengths (base + d) 0
 
 -- "after it comes that index plus the upper length, while below the lower length; then up": the source's recover_state, from depth d.
 -- In the base table comes the next bin.
 unfoldable pub advanced : ℕ → List ℕ → ℕ → List ℕ → Place
 advanced zero lengths base x = place 0 (set x 0 (getD x 0 0 + 1))
 advanced (suc d) lengths base x =
-    let on = getD x (suc d) 0 + getD lengths (base + d) 0 in
-    pick (ltb on (getD lengths (base + suc d) 0)) (place (suc d) (set x (suc d) on)) (advanced d lengths base (set x (suc d) 0))
+    pick (ltb (further lengths base d x) (getD lengths (base + suc d) 0)) (place (suc d) (set x (suc d) (further lengths base d x)))
+    (advanced d lengths base (set x (suc d) 0))
 
 -- A place that a step may stand at: its table is there, and each index is below its table's length, or at depth 0 the base index is the end.
 pub record Stands (lengths : List ℕ) (base : ℕ) (p : Place) : Type 0 where
@@ -62,13 +66,17 @@ pub data Sought : Type 0 where
   at : ℕ → Place → Sought
   ended lost : Sought
 
+-- An entry is given with the place after its bin.
+abbrev pub taken : Set → ℕ → Place → ℕ → Sought
+taken s base p x = at x (onward s base p)
+
 -- One turn of it: the bin at the place p. A tree is walked from first, which is to be a slot.
 abbrev pub turned : Set → ℕ → Place → Bin → (Place → Sought) → Sought
 turned s base p empty rest = rest (onward s base p)
-turned s base p moved rest = pick (ltb (base + p .depth + 1) (tablesOf s)) (rest (below p)) lost
+turned s base p moved rest = pick (ltb (base + p .depth + 1) (tablesOf s)) (rest (below s base p)) lost
 turned s base p bad rest = lost
-turned s base p (list x) rest = at x (onward s base p)
-turned s base p (tree h) rest = pick (ltb (firstAt s h) (slotsIn s)) (at (firstAt s h) (onward s base p)) lost
+turned s base p (list x) rest = taken s base p x
+turned s base p (tree h) rest = pick (ltb (firstAt s h) (slotsIn s)) (taken s base p (firstAt s h)) lost
 
 -- The loop, with so many turns left.
 unfoldable pub sought : ℕ → Set → ℕ → Place → Sought

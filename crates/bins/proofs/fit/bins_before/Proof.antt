@@ -1,11 +1,11 @@
--- The loop's invariant: the sum is what the first j tables have, at most 2 ^ 32 - 1 each.
-use mathlib.Core.Path.{_≡_, _∙_, ap}
+-- The loop's invariant: the sum is what the first j tables have, at most 2 ^ 32 - 1 each. Past the last table nothing is added.
+use mathlib.Core.Path.{_≡_, _∙_, ap, sym}
 use denote.Ref.{now}
 use borrow.Author.Needs.{needs}
 use Prim.Native.Nat.{_-_, _*_, _≤_}
 use native.Mathlib.Omega.{arith}
 use Rattle.sets.specs.Words.{begins}
-use Rattle.bins.proofs.Sized.{begins-on}
+use Rattle.bins.proofs.Sized.{begins-on, begins-past}
 use Rattle.bins.proofs.fit.bins_before.Statement.{statement}
 use Rattle.bins.proofs.fit.bins_before.Tie as tie
 
@@ -18,6 +18,15 @@ abbrev μ-loop : tie.MeasureT-loop
 loop-holds : tie.Need-loop-holds Inv-loop μ-loop
 unfolding begins
 loop-holds c = search needs
+
+cast-if1 : tie.Need-cast-if1 Inv-loop μ-loop
+cast-if1 c = search needs
+
+returns : tie.Need-returns Inv-loop μ-loop
+returns c =
+    let at-loop = c .before .before in
+    let a = at-loop .before .before .args in
+    at-loop .loop .inv .0 ∙ sym (begins-past (now (a .lengths)) (at-loop .loop .j) (c .if1 .taken) (a .k) (at-loop .loop .inv .2))
 
 length-at-requires : tie.Need-length-at-requires Inv-loop μ-loop
 length-at-requires c κs = search needs
@@ -36,13 +45,13 @@ loop-less c = search needs
 
 loop-again : tie.Need-loop-again Inv-loop μ-loop
 loop-again c =
-    let at-loop = c .before .before in
+    let at-loop = c .before .before .before in
     let a = at-loop .before .before .args in
     let step = begins-on (now (a .lengths)) (at-loop .loop .j) in
     (omega (arith, step, c .length-at .ensures), search needs, search needs)
 
-returns : tie.Need-returns Inv-loop μ-loop
-returns c =
+returns-2 : tie.Need-returns-2 Inv-loop μ-loop
+returns-2 c =
     let at-loop = c .before in
     let a = at-loop .before .before .args in
     let z : at-loop .loop .j ≡ a .k = omega (arith, c .loop-test .left) in
@@ -55,10 +64,12 @@ bins-before-spec =
     Inv-loop
     μ-loop
     loop-holds
+    cast-if1
+    returns
     length-at-requires
     cast-sum
     add-sum
     add-j
     loop-less
     loop-again
-    returns)
+    returns-2)

@@ -20,7 +20,17 @@ returns-2 : tie.Need-returns-2
 returns-2 c =
     let c1 = c .before in
     let c2 = c1 .before in
-    fit-tree _ (c2 .fit .ensures) (not-false (c2 .fit .result) (c1 .if1 .left)) (c .fit-journal .ensures)
+    let c3 = c2 .before in
+    fit-tree _ (c3 .fit .ensures) (not-false (c3 .fit .result) (c2 .if1 .left)) (c1 .fit-journal .ensures)
+    (not-true (c1 .fit-journal .result) (c .if2 .taken))
+
+returns-3 : tie.Need-returns-3
+returns-3 c =
+    let c1 = c .before in
+    let c2 = c1 .before in
+    let c3 = c2 .before in
+    fit-tree _ (c3 .fit .ensures) (not-false (c3 .fit .result) (c2 .if1 .left)) (c1 .fit-journal .ensures)
+    (not-false (c1 .fit-journal .result) (c .if2 .left))
 
 pub fit-index-spec : {M : Type 1} → statement M
-fit-index-spec = tie.close (tie.spec fit-requires returns fit-journal-requires returns-2)
+fit-index-spec = tie.close (tie.spec fit-requires returns fit-journal-requires returns-2 returns-3)

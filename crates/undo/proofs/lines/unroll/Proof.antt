@@ -1,6 +1,5 @@
 -- The loop's invariant: undoing the lines left undoes them all, and the count has room for them.
 use borrow.Author.Needs.{needs}
-use borrow.Author.Tests.{not-true, not-false}
 use Rattle.undo.proofs.Undoing.{Turn, turn-on, turn-not, turn-end}
 use Rattle.undo.proofs.lines.unroll.Statement.{statement}
 use Rattle.undo.proofs.lines.unroll.Tie as tie
@@ -27,6 +26,25 @@ add-undo-line c = search needs
 undo-line-requires : tie.Need-undo-line-requires Inv-loop μ-loop
 undo-line-requires c κs = search needs
 
+enum-told : tie.Need-enum-told Inv-loop μ-loop
+enum-told c = search needs
+
+loop-less : tie.Need-loop-less Inv-loop μ-loop
+loop-less c = search needs
+
+loop-again : tie.Need-loop-again Inv-loop μ-loop
+loop-again c =
+    let c5 = c .before .before .before .before .before .before .before .before in
+    let c6 = c5 .before .before .before .before in
+    let c7 = c6 .before in
+    turn-on (c7 .loop .inv) (c6 .loop-test .taken) (c5 .undo-line .ensures) (c .enum-told .given .1)
+    (c5 .undo-line .kept .0)
+    (c5 .undo-line .kept .1 .0)
+    (c5 .undo-line .kept .1 .1 .0)
+
+enum-told-2 : tie.Need-enum-told-2 Inv-loop μ-loop
+enum-told-2 c = search needs
+
 same-length : tie.Need-same-length Inv-loop μ-loop
 same-length c = search needs
 
@@ -38,23 +56,10 @@ same-length-3 c = search needs
 
 returns : tie.Need-returns Inv-loop μ-loop
 returns c =
-    let c4 = c .before .before .before .before .before .before .before in
-    let c5 = c4 .before .before .before .before in
-    let c6 = c5 .before in
-    turn-not (c6 .loop .inv) _ (c5 .loop-test .taken) (c4 .undo-line .ensures) (not-true (c4 .undo-line .result) (c .if1 .taken))
-
-loop-less : tie.Need-loop-less Inv-loop μ-loop
-loop-less c = search needs
-
-loop-again : tie.Need-loop-again Inv-loop μ-loop
-loop-again c =
-    let c4 = c .before .before .before .before .before .before .before in
-    let c5 = c4 .before .before .before .before in
-    let c6 = c5 .before in
-    turn-on (c6 .loop .inv) (c5 .loop-test .taken) (c4 .undo-line .ensures) (not-false (c4 .undo-line .result) (c .if1 .left))
-    (c4 .undo-line .kept .0)
-    (c4 .undo-line .kept .1 .0)
-    (c4 .undo-line .kept .1 .1 .0)
+    let c5 = c .before .before .before .before .before .before .before .before in
+    let c6 = c5 .before .before .before .before in
+    let c7 = c6 .before in
+    turn-not (c7 .loop .inv) _ (c6 .loop-test .taken) (c5 .undo-line .ensures) (c .enum-told2 .given .1)
 
 same-length-4 : tie.Need-same-length-4 Inv-loop μ-loop
 same-length-4 c = search needs
@@ -79,12 +84,14 @@ unroll-spec =
     cast-undo-line
     add-undo-line
     undo-line-requires
+    enum-told
+    loop-less
+    loop-again
+    enum-told-2
     same-length
     same-length-2
     same-length-3
     returns
-    loop-less
-    loop-again
     same-length-4
     same-length-5
     same-length-6

@@ -1,9 +1,7 @@
 -- The tests in 01's order settle the model's, and the answer is the one that they come to.
-use mathlib.Core.Path.{sym, _∙_}
 use native.Mathlib.Omega.{arith}
-use borrow.Author.Tests.{not-true, not-false}
 use Rattle.demands.proofs.Journal.{fits-index}
-use Rattle.index.proofs.Asking.{tree-fits, is-sound, not-sound}
+use Rattle.index.proofs.Asking.{is-fit, is-unfit, tree-fits, is-sound, not-sound}
 use Rattle.undo.proofs.Rolling.{unfit, damaged, bad-mark, good-mark}
 use borrow.Author.Needs.{needs}
 use Rattle.undo.proofs.rollback.ask.Statement.{statement}
@@ -12,24 +10,30 @@ use Rattle.undo.proofs.rollback.ask.Tie as tie
 fit-index-requires : tie.Need-fit-index-requires
 fit-index-requires c κs = search needs
 
+enum-told : tie.Need-enum-told
+enum-told c = search needs
+
+enum-told-2 : tie.Need-enum-told-2
+enum-told-2 c = search needs
+
 returns : tie.Need-returns
 returns c =
-    let c1 = c .before in
-    unfit _ _ (sym (c1 .fit-index .ensures) ∙ not-true (c1 .fit-index .result) (c .if1 .taken))
+    let c2 = c .before .before in
+    unfit _ _ (is-unfit _ (c2 .fit-index .ensures) (c .enum-told2 .given .1))
 
 sound-requires : tie.Need-sound-requires
 sound-requires c κs = search needs
 
-enum-told : tie.Need-enum-told
-enum-told c = search needs
+enum-told-3 : tie.Need-enum-told-3
+enum-told-3 c = search needs
 
 returns-2 : tie.Need-returns-2
 returns-2 c =
     let c1 = c .before in
     let c2 = c1 .before in
-    let c3 = c2 .before in
-    let f = sym (c3 .fit-index .ensures) ∙ not-false (c3 .fit-index .result) (c2 .if1 .left) in
-    damaged _ _ f (not-sound _ (tree-fits _ f) (c1 .sound .result) (c1 .sound .ensures) (c .match .keys2))
+    let c3 = c2 .before .before in
+    let f = is-fit _ (c3 .fit-index .ensures) (c2 .enum-told .given .1) in
+    damaged _ _ f (not-sound _ (tree-fits _ f) (c1 .sound .result) (c1 .sound .ensures) (c .match2 .keys2))
 
 word-requires : tie.Need-word-requires
 word-requires c κs = search needs
@@ -40,12 +44,12 @@ returns-3 c =
     let c2 = c1 .before in
     let c4 = c2 .before .before in
     let c5 = c4 .before in
-    let c6 = c5 .before in
-    let f = sym (c6 .fit-index .ensures) ∙ not-false (c6 .fit-index .result) (c5 .if1 .left) in
+    let c6 = c5 .before .before in
+    let f = is-fit _ (c6 .fit-index .ensures) (c5 .enum-told .given .1) in
     bad-mark _ _ f
-    (is-sound _ (tree-fits _ f) (c4 .sound .result) (c4 .sound .ensures) (c2 .enum-told .given .1))
+    (is-sound _ (tree-fits _ f) (c4 .sound .result) (c4 .sound .ensures) (c2 .enum-told3 .given .1))
     (c1 .word .ensures)
-    (c .if2 .taken)
+    (c .if1 .taken)
 
 sub-t11 : tie.Need-sub-t11
 sub-t11 c = search needs
@@ -54,8 +58,8 @@ cast-t12 : tie.Need-cast-t12
 cast-t12 c =
     let c1 = c .before in
     let c5 = c1 .before .before .before .before in
-    let c6 = c5 .before in
-    let h = fits-index _ (sym (c6 .fit-index .ensures) ∙ not-false (c6 .fit-index .result) (c5 .if1 .left)) in
+    let c6 = c5 .before .before in
+    let h = fits-index _ (is-fit _ (c6 .fit-index .ensures) (c5 .enum-told .given .1)) in
     omega (arith, h .most, h .within, c1 .word .ensures)
 
 returns-4 : tie.Need-returns-4
@@ -64,21 +68,23 @@ returns-4 c =
     let c2 = c1 .before in
     let c4 = c2 .before .before in
     let c5 = c4 .before in
-    let c6 = c5 .before in
-    let f = sym (c6 .fit-index .ensures) ∙ not-false (c6 .fit-index .result) (c5 .if1 .left) in
+    let c6 = c5 .before .before in
+    let f = is-fit _ (c6 .fit-index .ensures) (c5 .enum-told .given .1) in
     good-mark _ _ f
-    (is-sound _ (tree-fits _ f) (c4 .sound .result) (c4 .sound .ensures) (c2 .enum-told .given .1))
+    (is-sound _ (tree-fits _ f) (c4 .sound .result) (c4 .sound .ensures) (c2 .enum-told3 .given .1))
     (c1 .word .ensures)
-    (c .if2 .left)
+    (c .if1 .left)
 
 pub ask-spec : {M : Type 1} → statement M
 ask-spec =
     tie.close
     (tie.spec
     fit-index-requires
+    enum-told
+    enum-told-2
     returns
     sound-requires
-    enum-told
+    enum-told-3
     returns-2
     word-requires
     returns-3

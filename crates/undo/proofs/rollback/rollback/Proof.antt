@@ -1,6 +1,5 @@
 -- A refusal leaves all as it is; else the lines are undone and cut off, as the model says.
 use mathlib.Core.Path.{sym, ap, _∙_}
-use borrow.Author.Tests.{not-true, not-false}
 use Rattle.undo.specs.Answers.{rolledOf}
 use Rattle.undo.proofs.Undoing.{undo-done, undo-not}
 use Rattle.undo.proofs.Rolling.{kept, opening, names-most, cells-most, head-three, count-room, misfits, rolled, not-lines}
@@ -40,6 +39,12 @@ undo-requires c κs =
     let o = (opening _ (a .mark) _ (ap rolledOf (sym (c2 .asked .given .1)) ∙ c4 .ask .ensures)) in
     (names-most o, (cells-most o, (head-three o, count-room o)))
 
+enum-told : tie.Need-enum-told
+enum-told c = search needs
+
+enum-told-2 : tie.Need-enum-told-2
+enum-told-2 c = search needs
+
 same-length-5 : tie.Need-same-length-5
 same-length-5 c = search needs
 
@@ -54,11 +59,11 @@ same-length-8 c = search needs
 
 returns-2 : tie.Need-returns-2
 returns-2 c =
-    let c4 = c .before .before .before .before .before .before .before in
+    let c4 = c .before .before .before .before .before .before .before .before in
     let c6 = c4 .before .before .before .before .before .before in
     let c8 = c6 .before .before in
     let a = c8 .before .before .before .before .before .before .before .before .before .args in
-    let f = not-true (c4 .undo .result) (c .if1 .taken) in
+    let f = c .enum-told2 .given .1 in
     misfits (opening _ (a .mark) _ (ap rolledOf (sym (c6 .asked .given .1)) ∙ c8 .ask .ensures))
     (undo-not _ (c4 .undo .ensures .0) f)
     (c4 .undo .ensures .1 f)
@@ -82,12 +87,12 @@ returns-3 : tie.Need-returns-3
 returns-3 c =
     let c2 = c .before .before in
     let c3 = c2 .before .before in
-    let c7 = c3 .before .before .before .before .before .before .before in
+    let c7 = c3 .before .before .before .before .before .before .before .before in
     let c9 = c7 .before .before .before .before .before .before in
     let c11 = c9 .before .before in
     let a = c11 .before .before .before .before .before .before .before .before .before .args in
     rolled (opening _ (a .mark) _ (ap rolledOf (sym (c9 .asked .given .1)) ∙ c11 .ask .ensures))
-    (undo-done _ (c7 .undo .ensures .0) (not-false (c7 .undo .result) (c3 .if1 .left)))
+    (undo-done _ (c7 .undo .ensures .0) (c3 .enum-told .given .1))
     (c2 .cut .ensures)
 
 pub rollback-spec : {M : Type 1} → statement M
@@ -102,6 +107,8 @@ rollback-spec =
     same-length-4
     returns
     undo-requires
+    enum-told
+    enum-told-2
     same-length-5
     same-length-6
     same-length-7

@@ -1,8 +1,6 @@
 -- Where the lines fit they are undone; where they do not, the words that were kept aside come back.
-use mathlib.Core.Bool.{true≢false}
 use native.Mathlib.Omega.{arith}
-use borrow.Author.Tests.{not-true, not-false}
-use Rattle.undo.proofs.Undoing.{undo-done, undo-not, words-back, head-back, tree-back}
+use Rattle.undo.proofs.Undoing.{undo-done, undo-not, done-not, words-back, head-back, tree-back}
 use borrow.Author.Needs.{needs}
 use Rattle.undo.proofs.rollback.undo.Statement.{statement}
 use Rattle.undo.proofs.rollback.undo.Tie as tie
@@ -31,6 +29,12 @@ word-requires-3 c κs = search needs
 unroll-requires : tie.Need-unroll-requires
 unroll-requires c κs = search needs
 
+enum-told : tie.Need-enum-told
+enum-told c = search needs
+
+enum-told-2 : tie.Need-enum-told-2
+enum-told-2 c = search needs
+
 slice-aggregate-copy-names-2 : tie.Need-slice-aggregate-copy-names-2
 slice-aggregate-copy-names-2 c = search needs
 
@@ -42,7 +46,7 @@ slice-aggregate-copy-cells-2 c = search needs
 
 copy-cells-requires-2 : tie.Need-copy-cells-requires-2
 copy-cells-requires-2 c κs =
-    let c9 = c .before .before .before .before .before .before .before .before .before .before .before .before .before .before in
+    let c9 = c .before .before .before .before .before .before .before .before .before .before .before .before .before .before .before in
     let c14 = c9 .before .before .before .before .before .before .before .before .before .before .before in
     let c19 = c14 .before .before .before .before .before .before .before .before .before .before .before in
     omega (arith, c9 .unroll .kept .1 .0, c14 .copy-cells .kept .1 .0, c19 .pre .1 .0)
@@ -65,14 +69,14 @@ returns c =
     let c4 = c2 .before .before .before .before in
     let c7 = c4 .before .before .before .before .before in
     let c9 = c7 .before .before .before in
-    let c13 = c9 .before .before .before .before .before .before .before in
+    let c13 = c9 .before .before .before .before .before .before .before .before in
     let c14 = c13 .before .before .before .before in
     let c15 = c14 .before .before in
     let c16 = c15 .before .before in
     let c18 = c16 .before .before .before in
     let c21 = c18 .before .before .before .before in
     let c23 = c21 .before .before .before .before .before .before .before in (
-      undo-not _ (c13 .unroll .ensures) (not-true (c13 .unroll .result) (c9 .if1 .taken)),
+      undo-not _ (c13 .unroll .ensures) (c9 .enum-told2 .given .1),
       λ _. tree-back
           (words-back (c21 .copy-names .last .1 .0) (c13 .unroll .last .0) (c21 .copy-names .ensures) (c13 .unroll .kept .0) (c7 .copy-names2 .ensures) (c7 .copy-names2 .kept .1 .0))
           (words-back (c18 .copy-cells .last .1 .0) (c13 .unroll .last .1 .0) (c18 .copy-cells .ensures) (c13 .unroll .kept .1 .0) (c4 .copy-cells2 .ensures) (c4 .copy-cells2 .kept .1 .0))
@@ -90,8 +94,8 @@ same-length-6 c = search needs
 
 returns-2 : tie.Need-returns-2
 returns-2 c =
-    let c4 = c .before .before .before .before .before .before .before in
-    (undo-done _ (c4 .unroll .ensures) (not-false (c4 .unroll .result) (c .if1 .left)), λ e. absurd (true≢false e))
+    let c5 = c .before .before .before .before .before .before .before .before in
+    (undo-done _ (c5 .unroll .ensures) (c .enum-told .given .1), λ e. absurd (done-not e))
 
 pub undo-spec : {M : Type 1} → statement M
 undo-spec =
@@ -105,6 +109,8 @@ undo-spec =
     word-requires-2
     word-requires-3
     unroll-requires
+    enum-told
+    enum-told-2
     slice-aggregate-copy-names-2
     copy-names-requires-2
     slice-aggregate-copy-cells-2

@@ -1,10 +1,10 @@
 -- What `bini` answers is taken apart.
 use mathlib.Core.Path.{sym, ap, _∙_}
 use borrow.Author.Needs.{needs}
 use Rattle.bins.specs.Answers.{homeOf}
-use Rattle.tables.proofs.Looking.{index-some, index-none}
-use Rattle.tables.proofs.lookup.index.Statement.{statement}
-use Rattle.tables.proofs.lookup.index.Tie as tie
+use Rattle.bins.proofs.Binned.{index-some, index-none}
+use Rattle.bins.proofs.bin.index.Statement.{statement}
+use Rattle.bins.proofs.bin.index.Tie as tie
 
 bini-requires : tie.Need-bini-requires
 bini-requires c κs = search needs
@@ -19,7 +19,7 @@ returns : tie.Need-returns
 returns c = index-none _ _ (ap homeOf (sym (c .enum-told .given .1)) ∙ c .before .before .bini .ensures)
 
 returns-2 : tie.Need-returns-2
-returns-2 c = index-some _ _ _ (ap homeOf (sym (c .before .home .given .1)) ∙ c .before .before .before .bini .ensures)
+returns-2 c = index-some _ _ (ap homeOf (sym (c .before .home .given .1)) ∙ c .before .before .before .bini .ensures)
 
 pub index-spec : {M : Type 1} → statement M
 index-spec = tie.close (tie.spec bini-requires enum-known-home enum-told returns returns-2)

@@ -1,0 +1,191 @@
+-- What find, lookup and the walk answer is one of at most 4,096 slots, Nothing or a refusal without a value; so its word tells which.
+use mathlib.Core.Path.{_≡_, refl, ap, sym}
+use mathlib.Core.Logic.{_↔_}
+use mathlib.Core.Bool.{Bool, true, false}
+use mathlib.Core.List.{List}
+use Prim.Native.Nat.{ℕ, zero, suc, _+_, _-_, _<_, _≤_}
+use native.Mathlib.Decide.{ℕ-discrete}
+use native.Mathlib.Omega.{arith}
+use lib.ListN.{length}
+use lib.Dec.{eqb, leb, ltb}
+use borrow.Author.Tests.{leb-false, ltb-true, eq-eqb, ne-eqb}
+use Rattle.slots.specs.Words.{null, pick, next, cell}
+use Rattle.slots.specs.Answers.{Answer, given, nothing, refused}
+use Rattle.slots.proofs.Laws.{number, given-is, nothing-given}
+use Rattle.shape.specs.Find.{Look, here, on, Search, after, slotsOf, looked, searched, found}
+use Rattle.demands.specs.Live.{Live, rootOf, fits}
+use Rattle.demands.specs.Find.{finds}
+use Rattle.demands.proofs.Fit.{fits-fit, half}
+use Rattle.sets.specs.Words.{Set, tablesOf, lengthAt, slotsIn, headersIn, rootAt, firstAt, Bin, empty, moved, bad, list, tree}
+use Rattle.sets.specs.Words.{fits as setFits}
+use Rattle.sets.proofs.Fit.{fits-fit as set-fit, slots-are}
+use Rattle.sets.proofs.Naming.{ranges}
+use Rattle.walks.specs.Lookup.{hasPair, listed, homeBin, asked, forwarded, lookups}
+use Rattle.walks.specs.Cursor.{Cursor, Step, fineCursor}
+use Rattle.walks.specs.Walk.{Place, deepest, binHere, Sought, turned, sought, turnsIn, stepped, standing, walked, nexts}
+use Rattle.exports.specs.Words.{answerWord}
+use Rattle.exports.specs.Cursors.{cursorIn}
+use Rattle.exports.specs.Cursors.{walked as walkedWords}
+use Rattle.exports.specs.Claims.{Tells}
+
+-- The three kinds of answer, where there are n slots.
+pub data Plain (n : ℕ) : Answer → Type 0 where
+  slot : {x : ℕ} → x < n → Plain n (given x)
+  none : Plain n nothing
+  refuses : {m : ℕ} → 1 ≤ m → Plain n (refused m)
+
+more : {m n : ℕ} {a : Answer} → m ≤ n → Plain m a → Plain n a
+more l (slot {x = x} b) = slot {x = x} (omega arith)
+more l none = none
+more l (refuses b) = refuses b
+
+nine : {n : ℕ} → Plain n (refused 9)
+nine = refuses {m = 9} (omega arith)
+
+-- What holds of both ways of a test holds of the test.
+picked : {A : Type 0} (P : A → Type 0) (b : Bool) {x y : A} → (b ≡ true → P x) → (b ≡ false → P y) → P (pick b x y)
+picked P true f g = f refl
+picked P false f g = g refl
+
+-- The search of a tree, and of a list.
+module _ (names cells : List ℕ) (hash key : ℕ) where
+  abbrev Found : Search → Type 0
+  Found r = Plain (slotsOf names) (r .answer)
+
+  abbrev Kind : Answer → Type 0
+  Kind = Plain (slotsOf names)
+
+  searched-plain : (v p : ℕ) → Found (searched names cells v p hash key)
+  unfolding searched
+  searched-plain zero p = picked Found (eqb p null) (λ e. none) (λ e. nine)
+  searched-plain (suc v) p =
+      picked Found (eqb p null) (λ e. none)
+      (λ e. picked Found (leb (slotsOf names) p) (λ f. nine)
+      (λ f. go (looked names cells p hash key) (leb-false _ _ f) (λ q. searched-plain v q)))
+    where
+      go : (l : Look) → p < slotsOf names → ((q : ℕ) → Found (searched names cells v q hash key))
+          → Found (after l p (λ q. searched names cells v q hash key))
+      go here b again = slot b
+      go (on q) b again = again q
+
+  found-plain : (root : ℕ) → Found (found names cells root hash key)
+  unfolding found
+  found-plain root = searched-plain (slotsOf names) root
+
+  listed-plain : (v p : ℕ) → Kind (listed names cells v p hash key)
+  unfolding listed
+  listed-plain zero p = picked Kind (eqb p null) (λ e. none) (λ e. nine)
+  listed-plain (suc v) p =
+      picked Kind (eqb p null) (λ e. none)
+      (λ e. picked Kind (leb (slotsOf names) p) (λ f. nine)
+      (λ f. picked Kind (hasPair names p hash key) (λ g. slot (leb-false _ _ f)) (λ g. listed-plain v (cell cells p next))))
+
+pub finds-plain : (t : Live) (hash key : ℕ) → Plain 4096 (finds t hash key)
+unfolding finds
+finds-plain t hash key =
+    picked (Plain 4096) (fits t)
+    (λ e. (let fit = fits-fit t e in more (omega (arith, half fit, fit .most)) (found-plain (t .names) (t .cells) hash key (rootOf t))))
+    (λ e. refuses {m = 1} (omega arith))
+
+-- The loop over the tables.
+module _ (s : Set) (hash key : ℕ) where
+  forwarded-plain : (tables k : ℕ) → Plain (slotsIn s) (forwarded tables s k hash key)
+  unfolding forwarded
+  forwarded-plain zero k = nine
+  forwarded-plain (suc tables) k = go (homeBin s k hash) (forwarded-plain tables (suc k))
+    where
+      go : (b : Bin) → Plain (slotsIn s) (forwarded tables s (suc k) hash key)
+          → Plain (slotsIn s) (asked s b hash key (forwarded tables s (suc k) hash key))
+      go empty rest = none
+      go moved rest = rest
+      go bad rest = nine
+      go (list p) rest = listed-plain (s .names) (s .cells) hash key (slotsIn s) p
+      go (tree h) rest = found-plain (s .names) (s .cells) hash key (rootAt s h)
+
+few : (s : Set) → setFits s ≡ true → slotsIn s ≤ 4096
+few s e = let fit = set-fit s e in omega (arith, slots-are fit, fit .slots-most)
+
+pub lookups-plain : (s : Set) (t hash key : ℕ) → Plain 4096 (lookups s t hash key)
+unfolding lookups
+lookups-plain s t hash key =
+    picked (Plain 4096) (setFits s)
+    (λ e. picked (Plain 4096) (ltb t (tablesOf s)) (λ f. more (few s e) (forwarded-plain s hash key (tablesOf s - t) t))
+    (λ f. refuses {m = 10} (omega arith)))
+    (λ e. refuses {m = 1} (omega arith))
+
+-- A step of the walk.
+module _ (s : Set) (c : Cursor) where
+  abbrev Gives : Sought → Type 0
+  Gives g = Plain (slotsIn s) (stepped s c g .answer)
+
+  sought-plain : (turns base : ℕ) (p : Place) → Gives (sought turns s base p)
+  unfolding sought
+  sought-plain zero base p = none
+  sought-plain (suc turns) base p =
+      picked Gives (leb (lengthAt s (base + p .depth)) (deepest p)) (λ e. none)
+      (λ e. go (binHere s base p) refl (λ q. sought-plain turns base q))
+    where
+      go : (b : Bin) → binHere s base p ≡ b → ((q : Place) → Gives (sought turns s base q))
+          → Gives (turned s base p b (λ q. sought turns s base q))
+      go empty e again = again _
+      go moved e again = picked Gives (ltb (base + p .depth + 1) (tablesOf s)) (λ f. again _) (λ f. nine)
+      go bad e again = nine
+      go (list x) e again = slot (ranges (slotsIn s) (headersIn s) _ .lists x .0 e .3)
+      go (tree h) e again = picked Gives (ltb (firstAt s h) (slotsIn s)) (λ f. slot (ltb-true _ _ f)) (λ f. nine)
+
+  abbrev Steps : Step → Type 0
+  Steps r = Plain (slotsIn s) (r .answer)
+
+  walked-plain : Steps (walked s c)
+  unfolding walked
+  walked-plain =
+      picked Steps (eqb (cell (s .cells) (c .last) next) null) (λ e. sought-plain (turnsIn s (c .base)) (c .base) (standing c))
+      (λ e. picked Steps (ltb (cell (s .cells) (c .last) next) (slotsIn s)) (λ f. slot (ltb-true _ _ f)) (λ f. nine))
+
+  pub nexts-plain : Plain 4096 (nexts s c .answer)
+  unfolding nexts
+  nexts-plain =
+      picked (λ (r : Step). Plain 4096 (r .answer)) (setFits s)
+      (λ e. picked (λ (r : Step). Plain 4096 (r .answer)) (fineCursor s c) (λ f. more (few s e) walked-plain)
+      (λ f. refuses {m = 11} (omega arith)))
+      (λ e. refuses {m = 1} (omega arith))
+
+-- The word of each kind tells it from the others.
+pub tells : {a : Answer} → Plain 4096 a → Tells a
+unfolding answerWord
+tells (slot {x = x} l) =
+    record {
+      below = λ i e. omega (arith, given-is e);
+      at = λ i b. (λ e. ap given (omega arith), λ e. omega (arith, given-is e));
+      none = (λ e. absurd (omega arith), λ e. absurd (nothing-given (sym e)));
+      refuses = λ n b. (λ e. absurd (omega arith), λ e. absurd (omega (arith, number e)));
+    }
+tells none =
+    record {
+      below = λ i e. absurd (nothing-given e);
+      at = λ i b. (λ e. absurd (omega arith), λ e. absurd (nothing-given e));
+      none = (λ e. refl, λ e. refl);
+      refuses = λ n b. (λ e. absurd (omega arith), λ e. absurd (omega (arith, number e)));
+    }
+tells (refuses {m = m} l) =
+    let z : pick (eqb m 0) null 0 ≡ 0 = rw (ne-eqb m 0 (omega arith)) in
+    record {
+      below = λ i e. absurd (omega (arith, number e));
+      at = λ i b. (λ e. absurd (omega (arith, z)), λ e. absurd (omega (arith, number e)));
+      none = (λ e. absurd (omega (arith, z)), λ e. absurd (omega (arith, number e)));
+      refuses = λ n b. (λ e. ap refused (omega (arith, z)), λ e. omega (arith, z, number e));
+    }
+
+-- Of the exported walk: a cursor of another length is 1, and else the word is the step's.
+one-not-null : answerWord (refused 1) ≡ null → ⊥
+unfolding answerWord
+one-not-null e = omega arith
+
+pub walk-done : (s : Set) (w : List ℕ) → (walkedWords s w .word ≡ null) ↔ ((length w ≡ 11) × (nexts s (cursorIn w) .answer ≡ nothing))
+unfolding walkedWords
+walk-done s w = go (ℕ-discrete (length w) 11) (tells (nexts-plain s (cursorIn w)) .none)
+  where
+    go : Dec (length w ≡ 11) → (answerWord (nexts s (cursorIn w) .answer) ≡ null) ↔ (nexts s (cursorIn w) .answer ≡ nothing)
+        → (walkedWords s w .word ≡ null) ↔ ((length w ≡ 11) × (nexts s (cursorIn w) .answer ≡ nothing))
+    go (yes e) t = (λ f. (e, t .0 (rw (eq-eqb (length w) 11 e) at f)), λ f. rw (eq-eqb (length w) 11 e) (t .1 (f .1)))
+    go (no n) t = (λ f. absurd (one-not-null (rw (ne-eqb (length w) 11 n) at f)), λ f. absurd (n (f .0)))

@@ -1,0 +1,77 @@
+-- A whole walk of an accepted set gives one list, in 01's order, of as many slots as are not free.
+use mathlib.Core.Path.{_≡_, refl, ap, sym, _∙_}
+use mathlib.Core.List.{List, _∷_}
+use Prim.Native.Nat.{ℕ, _<_, _≤_}
+use native.Mathlib.Decide.{ℕ-discrete, decLe}
+use native.Mathlib.Omega.{arith}
+use borrow.Author.Tests.{eq-eqb}
+use Rattle.slots.specs.Words.{state, free, cell, black}
+use Rattle.slots.specs.Answers.{given}
+use Rattle.slots.proofs.Laws.{given-is, nothing-given}
+use Rattle.shape.specs.Tree.{times}
+use Rattle.shape.proofs.Counting.{exactly-length}
+use Rattle.shape.proofs.Reaching.{hangs-stand, hangs-inside}
+use Rattle.demands.specs.Sound.{used}
+use Rattle.demands.proofs.Rules.{used-hued}
+use Rattle.sets.specs.Words.{Set, Fit, tablesOf, slotsIn, Bin, list, tree, binAt}
+use Rattle.sets.specs.Accepted.{Accepted, Entry, Holds}
+use Rattle.sets.proofs.Fit.{small}
+use Rattle.sets.proofs.Lists.{listed-unique, listed-inside}
+use Rattle.walks.specs.Cursor.{Cursor, starts}
+use Rattle.walks.specs.Whole.{Listing}
+use Rattle.walks.specs.Claims.{WholeWalk}
+use Rattle.walks.proofs.Giving.{walk-gives}
+use Rattle.walks.proofs.Keeping.{Told, told}
+
+-- What the steps give is one list.
+pub listing-unique : {s : Set} {c : Cursor} {l m : List ℕ} → Listing s c l → Listing s c m → l ≡ m
+listing-unique (Listing.done e) (Listing.done f) = refl
+listing-unique (Listing.done e) (Listing.step f r) = absurd (nothing-given (sym e ∙ f))
+listing-unique (Listing.step e q) (Listing.done f) = absurd (nothing-given (sym f ∙ e))
+listing-unique (Listing.step {x = x} {l} e q) (Listing.step {x = y} {l = m} f r) =
+    let z : x ≡ y = given-is (sym e ∙ f) in
+    rw z (ap (λ (k : List ℕ). y ∷ k) (listing-unique q r))
+
+module _ (s : Set) (fit : Fit s) (acc : Accepted s) where
+  -- An entry is not free.
+  entry-used : {k i x : ℕ} → Entry s k i x → used (s .cells) x ≡ 1
+  entry-used {k} {i} {x} f = go (binAt s k i) refl (f .holds) (f .member)
+    where
+      go : (b : Bin) → binAt s k i ≡ b → {m : List ℕ} → Holds s b m → 1 ≤ times x m → used (s .cells) x ≡ 1
+      go (list a) e (Holds.listed h) m =
+          let g = acc .lists k i a (f .place) e in
+          used-hued (s .cells) x black (g .plain x (rw (listed-unique s (small fit) h (g .ends)) at m) .states)
+      go (tree a) e (Holds.grown r) m = let d = hangs-stand (slotsIn s) (s .cells) (r .hangs) m in used-hued (s .cells) x (d .hue) (d .words .hued)
+
+  entry-inside : {k i x : ℕ} → Entry s k i x → x < slotsIn s
+  entry-inside {k} {i} {x} f = go (f .holds) (f .member)
+    where
+      go : {b : Bin} {m : List ℕ} → Holds s b m → 1 ≤ times x m → x < slotsIn s
+      go (Holds.listed h) m = listed-inside s (small fit) h x m
+      go (Holds.grown r) m = hangs-inside (slotsIn s) (s .cells) (r .hangs) m
+
+  module _ (t : ℕ) (b : t < tablesOf s) where
+    abbrev all : Told s fit acc t
+    all = told s fit acc t b
+
+    -- From table 0 the entries are the slots that are not free.
+    pub held-used : t ≡ 0 → (x : ℕ) → x < slotsIn s → used (s .cells) x ≡ times x (all .held)
+    held-used z x w = go (ℕ-discrete (cell (s .cells) x state) free) (decLe 1 (times x (all .held)))
+      where
+        go : Dec (cell (s .cells) x state ≡ free) → Dec (1 ≤ times x (all .held)) → used (s .cells) x ≡ times x (all .held)
+        go c (yes m) = omega (arith, all .once x, entry-used (all .entries x .0 m .3))
+        go (yes e) (no m) = rw (eq-eqb (cell (s .cells) x state) free e) (omega arith)
+        go (no d) (no m) = let o = acc .slots .used x w d in absurd (m (all .entries x .1 (o .table, o .index, omega arith, o .entry)))
+
+    pub walk : Listing s (starts s t .cursor) (all .given)
+    walk = walk-gives s fit acc t b (all .order)
+
+    pub whole : WholeWalk s t
+    whole =
+        record {
+          given-slots = all .given;
+          steps = walk;
+          only = λ m h. listing-unique h walk;
+          order = λ m. (λ h. listing-unique (walk-gives s fit acc t b h) walk, λ e. rw e (all .order));
+          count = λ z. all .size ∙ exactly-length (slotsIn s) (all .held) (λ x m. entry-inside (all .entries x .0 m .3)) (used (s .cells)) (held-used z);
+        }
