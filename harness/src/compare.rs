@@ -365,6 +365,8 @@ struct Frozen {
     steps: u64,
     entries: u64,
     dones: u64,
+    wholes: u64,
+    given: u64,
 }
 
 /// One to three words of a set changed, so that the source's types can still hold it.
@@ -393,6 +395,39 @@ fn damage_set(rng: &mut Rng, s: &mut oz::Set) {
     }
 }
 
+/// A whole walk of an accepted set by the exports alone, from start at table t until Done: how many slots it gives, or what is wrong with
+/// them. A slot is to be given once exactly if it is in use and lookup from t of its pair answers it, and else not at all; from table 0 every
+/// slot in use is.
+fn whole_walk(s: &oz::Set, t: usize) -> Result<u64, String> {
+    let n = s.names.len() / 2;
+    let mut times = vec![0u32; n];
+    let mut cursor = [0u32; 11];
+    let start = s.start(t as u32, &mut cursor);
+    if start != (oz::Answer { number: 0, value: 1 }) {
+        return Err(format!("start {start:?}"));
+    }
+    let mut given = 0;
+    loop {
+        let step = s.walk(&mut cursor);
+        if step == (oz::Answer { number: 0, value: NULL }) {
+            break;
+        }
+        if step.number != 0 || step.value as usize >= n || given > n as u64 {
+            return Err(format!("step {given}: {step:?}"));
+        }
+        times[step.value as usize] += 1;
+        given += 1;
+    }
+    for (x, times) in times.iter().enumerate() {
+        let used = s.cells[7 * x + oz::STATE] != 0;
+        let answered = used && s.lookup(t as u32, s.names[2 * x], s.names[2 * x + 1]) == oz::Answer { number: 0, value: x as u32 };
+        if *times != answered as u32 || (t == 0 && used != answered) {
+            return Err(format!("slot {x}, used {used}, answered by lookup {answered}, is given {times} times"));
+        }
+    }
+    Ok(given)
+}
+
 /// Lookup and the walk, entry by entry with the cursor's indexes.
 fn frozen(rng: &mut Rng, count: usize, damage: bool, report: &mut Report) -> Frozen {
     let mut f = Frozen::default();
@@ -412,6 +447,15 @@ fn frozen(rng: &mut Rng, count: usize, damage: bool, report: &mut Report) -> Fro
         let size = s.bins.len() + n;
         if !damage && accepted.value != 1 {
             report.differs("a set that should be accepted", size, format!("{s:?}: {accepted:?}"));
+        }
+        if accepted.value == 1 {
+            for t in 0..s.lengths.len() {
+                f.wholes += 1;
+                match whole_walk(&s, t) {
+                    Ok(given) => f.given += given,
+                    Err(what) => report.differs("whole walk", size, format!("{s:?} from {t}: {what}")),
+                }
+            }
         }
         let first_null = |w: u32| w >= 4098 && s.heads[3 * (w - 4098) as usize + 1] == NULL;
         // The first bin from table t on that is not Moved.
@@ -514,6 +558,7 @@ fn main() {
         println!("{name} {} (accepted {}; {} more that the source's types cannot hold)", f.sets, f.accepted, f.unbuilt);
         println!("  lookups {}: slots {}, 9 in ours where the source runs on {}, of trees with null first {}", f.lookups, f.hits, f.lookup_nines, f.null_first);
         println!("  walks {} ({} to the end), steps {}, entries {}", f.walks, f.dones, f.steps, f.entries);
+        println!("  whole walks of the {} accepted {}, from every table, {} slots given, each entry once", f.accepted, f.wholes, f.given);
     }
     for (class, (_, what)) in &report.smallest {
         println!("smallest, {class}: {what}");

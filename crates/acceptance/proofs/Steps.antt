@@ -12,7 +12,7 @@ use Rattle.slots.specs.Words.{null, pick, left, right, next, cell}
 use Rattle.slots.specs.Answers.{Value, none, some}
 use Rattle.shape.specs.Rules.{then}
 use Rattle.sets.specs.Words.{Set, fits, tablesOf, lengthAt, Bin, empty, moved, bad, list, tree, binAt}
-use Rattle.sets.specs.Accepting.{isHome, samePair, unlike, listSlotFine, listFine, treeHome, isBlank, filled, namesHeader}
+use Rattle.sets.specs.Accepting.{isHome, samePair, unlike, listSlotFine, listFine, isOwn, chainOwn, treeHome, isBlank, filled, namesHeader}
 use Rattle.sets.specs.Accepting.{treeFine, placed, ownFine, isMoved, binAsks, binFine, belowFine, tableFine}
 use Rattle.sets.proofs.Fit.{fits-fit, length-bound}
 use Rattle.sets.proofs.Forest.{row-found}
@@ -69,6 +69,27 @@ module _ (names cells : List ℕ) (len i x : ℕ) where
   unfolding listFine
   list-on zero d n e f h = absurd (n refl)
   list-on (suc v) d n e f h = let g = rw sub-one at e in rw (sub-one, ne-eqb x null d, ← g, f, h)
+
+  pub own-null : (v : ℕ) → x ≡ null → true ≡ chainOwn v names cells len i x
+  unfolding chainOwn
+  own-null zero e = simp (eq-eqb x null e)
+  own-null (suc v) e = simp (eq-eqb x null e)
+
+  pub own-spent : (v : ℕ) → x ≢ null → v ≡ 0 → false ≡ chainOwn v names cells len i x
+  unfolding chainOwn
+  own-spent zero d e = simp (ne-eqb x null d)
+  own-spent (suc v) d e = absurd (omega arith)
+
+  pub own-wrong : (v : ℕ) → x ≢ null → v ≢ 0 → {b : Bool} → b ≡ isOwn names cells len i x → b ≡ false → false ≡ chainOwn v names cells len i x
+  unfolding chainOwn
+  own-wrong zero d n e f = absurd (n refl)
+  own-wrong (suc v) d n e f = rw (ne-eqb x null d, ← e, f)
+
+  pub own-on : (v : ℕ) → x ≢ null → v ≢ 0 → {b : Bool} → b ≡ isOwn names cells len i x → b ≡ true → {y : ℕ} → y ≡ cell cells x next
+      → chainOwn (v - 1) names cells len i y ≡ chainOwn v names cells len i x
+  unfolding chainOwn
+  own-on zero d n e f h = absurd (n refl)
+  own-on (suc v) d n e f h = rw (sub-one, ne-eqb x null d, ← e, f, h)
 
   pub home-null : (depth : ℕ) → x ≡ null → true ≡ treeHome depth names cells len i x
   unfolding treeHome

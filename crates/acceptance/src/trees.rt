@@ -1,8 +1,11 @@
-// The check of a header's tree: T3 to T6, its count and its chain, and its slots in the bin that their hashes name.
+// The check of a header's tree: T3 to T6, its count and its chain, which is its own, and its slots in the bin that their hashes name.
 use crate::lists::is_home;
+use slots::FREE;
 use slots::LEFT;
+use slots::NEXT;
 use slots::NULL;
 use slots::RIGHT;
+use slots::STATE;
 use slots::get;
 use tree::chain::chain;
 use tree::rules::Rest;
@@ -14,7 +17,7 @@ ghost use Rattle.slots.specs.Words.{null};
 ghost use Rattle.shape.specs.Chain.{chained};
 ghost use Rattle.demands.specs.Sound.{leaves};
 ghost use Rattle.tree.specs.Rules.{restOf};
-ghost use Rattle.sets.specs.Accepting.{treeHome, treeGood, treeFine};
+ghost use Rattle.sets.specs.Accepting.{isOwn, chainOwn, treeHome, treeGood, treeFine};
 
 // Each slot from the link x down, at most so deep, is in the bin that its hash names.
 fn tree_home(names: &[u64], cells: &[u32], length: u32, i: u32, x: u32, depth: usize) -> bool
@@ -50,7 +53,40 @@ fn chain_fine(n: usize, cells: &[u32], first: u32, count: u32) -> bool
     n - rest == count as usize
 }
 
-// A tree of m slots that obeys T3 to T6: its header has a root, a first and that count, its chain is as long, and each slot is in its bin.
+// Slot x is not free and its hash names bin i of a table of so many bins.
+fn is_own(names: &[u64], cells: &[u32], length: u32, i: u32, x: u32) -> bool
+    ensures { λ r. ⌜ r ≡ isOwn (now (names .entry)) (now (cells .entry)) length i x ⌝ }
+{
+    let state = get(cells, x, STATE);
+    if state == FREE {
+        return false;
+    }
+    is_home(names, length, i, x)
+}
+
+// Each slot of the chain from first, at most so many, is such a slot.
+fn chain_own(names: &[u64], cells: &[u32], length: u32, i: u32, first: u32, most: usize) -> bool
+    ensures { λ r. ⌜ r ≡ chainOwn most (now (names .entry)) (now (cells .entry)) length i first ⌝ }
+{
+    let mut x = first;
+    let mut left = most;
+    while x != NULL {
+        if left == 0 {
+            return false;
+        }
+        let own = is_own(names, cells, length, i, x);
+        if !own {
+            return false;
+        }
+        let next = get(cells, x, NEXT);
+        x = next;
+        left -= 1;
+    }
+    true
+}
+
+// A tree of m slots that obeys T3 to T6: its header has a root, a first and that count, its chain is as long and its own, and each slot is
+// in its bin.
 fn tree_good(
     names: &[u64],
     cells: &[u32],
@@ -75,6 +111,10 @@ fn tree_good(
     let n = names.len() / 2;
     let linked = chain_fine(n, cells, first, count);
     if !linked {
+        return false;
+    }
+    let own = chain_own(names, cells, length, i, first, n);
+    if !own {
         return false;
     }
     tree_home(names, cells, length, i, root, n)

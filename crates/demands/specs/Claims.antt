@@ -140,7 +140,7 @@ pub record Rolls (ix : Index) (m : ℕ) : Type 0 where
       × Undoes (capacityOf (ix .live)) (ix .lines) m (lengthOf (ix .lines)) (contents h) (contents g)
       × BackTo m (ix .lines) (rolls ix m .left .lines) × (capacityOf (rolls ix m .left .live) ≡ capacityOf (ix .live))
 
--- Demand 3: "Take a sound tree and a journal within 01's limits, and note the journal's length. Make any inserts and removes on them,
+-- Demand 3: "Take a sound tree and a journal within .. limits, and note the journal's length. Make any inserts and removes on them,
 -- refused ones too, and rollbacks to that mark or later ones; nothing else writes the two. A rollback to the mark is then accepted, the tree
 -- is sound and holds the very pairs and places it held at the mark, and the journal's kept lines are the old ones."
 pub record Demand3 (ix : Index) (fit : FitIndex ix) (h : Sound (ix .live)) (words : Places (contents h)) (calls : List Call) (allowed : Allowed (lengthOf (ix .lines)) calls) : Type 0 where

@@ -24,7 +24,7 @@ pub record Outcome : Type 0 where
 abbrev pub outcome : Answer → Index → Outcome
 outcome a ix = record { answer = a; left = ix }
 
--- "Journal: capacity 0 to 1,024 lines, and a length. Lines are numbered from 0." The length is word 0, then four words to a line.
+-- "capacity 0 to 1,024 lines, and a length. Lines are numbered from 0." The length is word 0, then four words to a line.
 abbrev pub lengthOf : List ℕ → ℕ
 lengthOf lines = getD lines 0 0
 

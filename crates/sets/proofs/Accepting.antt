@@ -11,23 +11,24 @@ use native.Mathlib.Nat.{mod-lt}
 use native.Mathlib.Omega.{arith}
 use lib.ListN.{length}
 use borrow.Author.Tests.{eq-eqb, ne-eqb}
-use Rattle.slots.specs.Words.{null, state, free, cell, nameOf, hashPart}
+use Rattle.slots.specs.Words.{null, state, free, cell, nameOf, hashPart, Colour, black, red, code}
 use Rattle.shape.specs.Tree.{Tree, slots, times}
-use Rattle.shape.specs.Chain.{tally}
-use Rattle.shape.proofs.Counting.{exactly, exactly-length, length-most, times-head}
-use Rattle.shape.proofs.Reaching.{top-in}
+use Rattle.shape.specs.Chain.{Chain, tally}
+use Rattle.shape.proofs.Counting.{tally-times, exactly, exactly-length, length-most, times-head}
+use Rattle.shape.proofs.Reaching.{hangs-stand, hangs-inside, top-in}
+use Rattle.shape.proofs.Chaining.{chain-inside, chain-once}
 use Rattle.demands.specs.Sound.{used, slotsFine, leaves}
 use Rattle.demands.proofs.Fit.{both}
 use Rattle.demands.proofs.Rules.{and, left-of, all-but, all-fine, fine-all}
-use Rattle.sets.specs.Words.{Set, Fit, tablesOf, lengthAt, slotsIn, headersIn, rootAt, Bin, empty, moved, bad, list, tree, binAt, bini}
-use Rattle.sets.specs.Accepted.{slotted, Place, Listed, ended, onward, Holds, listed, grown, Entry, ParentMoved, EntriesHome, HeadsOnce, GoodList, InOne, Accepted}
+use Rattle.sets.specs.Words.{Set, Fit, tablesOf, lengthAt, slotsIn, headersIn, rootAt, firstAt, countAt, Bin, empty, moved, bad, list, tree, binAt, bini}
+use Rattle.sets.specs.Accepted.{slotted, Place, Listed, ended, onward, Holds, listed, grown, Entry, ParentMoved, EntriesHome, HeadsOnce, GoodList, GoodChain, InOne, Accepted}
 use Rattle.sets.specs.Accepting.{headersFine, tableFine, allHeld, accepted}
 use Rattle.sets.proofs.Fit.{small, length-least, halves, near-parent, far-parent}
-use Rattle.sets.proofs.Trees.{Grown}
+use Rattle.sets.proofs.Trees.{Grown, Owned}
 use Rattle.sets.proofs.Forest.{Held, as-list, as-tree, Part, whole, beneath, Good, empties, moves, holding, final, two, Row, start, more, row-found, row-run}
 use Rattle.sets.proofs.Gathering.{not-empty, not-moved, Sub, all-once, all-members, all-bins, entry-in, held-home, held-holds, holds-unique}
 use Rattle.sets.proofs.Naming.{ranges, headers-blank, blank-headers}
-use Rattle.sets.proofs.Homes.{entry-only}
+use Rattle.sets.proofs.Homes.{entry-only, entry-own}
 
 -- The five kinds of bin, by number.
 abbrev kind : Bin → ℕ
@@ -159,6 +160,47 @@ module _ {s : Set} (fit : Fit s) where
         let m = all-members fit row x (omega (arith, u, z)) in
         record { table = m .table; index = m .index; entry = m .entry; only = λ k i f. entry-only fit parent-moved homes f (m .entry) }
 
+    -- A chain of as many slots as the tree, each used and at home in the tree's bin, has the tree's slots: each is an entry of that bin, and
+    -- there are no more of these.
+    chain-at : length l ≡ tally (slotsIn s) (used (s .cells)) → (k i h : ℕ) → Place s k i → binAt s k i ≡ tree h → GoodChain s k i h
+    chain-at e k i h p b = record { visits = v; linked = c .1; count = c .2; own = λ x. (to x, from x) }
+      where
+        t : Tree
+        t = grown-at k i h p b .0
+
+        g : Grown s (lengthAt s k) i h t
+        g = grown-at k i h p b .1
+
+        v : List ℕ
+        v = g .chain .0
+
+        c : (l : List ℕ) × Chain (slotsIn s) (s .cells) null (firstAt s h) l × (length l ≡ countAt s h) × Owned s (lengthAt s k) i l
+        c = g .chain
+
+        holds : Holds s (binAt s k i) (slots t)
+        holds = rw b (grown (g .rooted))
+
+        inside : (x : ℕ) → 1 ≤ times x v → x < slotsIn s
+        inside x m = chain-inside (slotsIn s) (s .cells) (c .1) m
+
+        to : (x : ℕ) → 1 ≤ times x v → Entry s k i x
+        to x m = let o = c .3 x m in entry-own fit parent-moved homes holds (p .table) (in-one e x (inside x m) (o .0) .entry) (o .1)
+
+        in-tree : (x : ℕ) → Entry s k i x → 1 ≤ times x (slots t)
+        in-tree x f = let z : times x (f .held) ≡ times x (slots t) = ap (times x) (holds-unique fit (f .holds) holds) in omega (arith, f .member)
+
+        sizes : length v ≡ tally (slotsIn s) (λ x. times x (slots t))
+        sizes = c .2 ∙ sym (g .count) ∙ sym (tally-times (slotsIn s) (slots t) (λ x m. hangs-inside (slotsIn s) (s .cells) (g .rooted .hangs) m))
+
+        from : (x : ℕ) → Entry s k i x → 1 ≤ times x v
+        from x f =
+            let m = in-tree x f in
+            let z =
+            exactly (slotsIn s) v inside (λ y. times y (slots t)) (chain-once (slotsIn s) (s .cells) (small fit) (firstAt s h) (c .1))
+            (λ y n. omega (arith, in-tree y (to y n), g .rooted .once y)) sizes x (hangs-inside (slotsIn s) (s .cells) (g .rooted .hangs) m)
+            in
+            omega (arith, z, m)
+
   pub yes-accepted : accepted s ≡ true → Accepted s
   unfolding accepted allHeld
   yes-accepted e =
@@ -188,7 +230,7 @@ module _ {s : Set} (fit : Fit s) where
         trees =
             λ k i h p z. (let g = grown-at row k i h p z in
             record { tree = g .0; rooted = g .1 .rooted; rising = g .1 .rising; coloured = g .1 .hues; level = g .1 .even; size = g .1 .count });
-        chains = λ k i h p z. grown-at row k i h p z .1 .chain;
+        chains = chain-at row (omega (arith, r .2, c .2));
         slots = record { used = in-one row (omega (arith, r .2, c .2)); cleared = λ x w z. fine x w .cleared z };
       }
 
@@ -202,9 +244,21 @@ module _ {s : Set} (fit : Fit s) where
         let g = ok .lists k i a p e in
         (g .visits, as-list (g .ends) (g .apart) (g .plain) (λ x m. ok .home k i x (record { place = p; held = g .visits; holds = rw e (listed (g .ends)); member = m })))
 
+    -- An entry of a tree's bin is not free.
+    hued : (c : Colour) → code c ≢ free
+    hued black = omega arith
+    hued red = omega arith
+
+    tree-used : {k i h x : ℕ} → binAt s k i ≡ tree h → Entry s k i x → cell (s .cells) x state ≢ free
+    tree-used {k} {i} {h} {x} e f = go (rw e at (f .holds)) (f .member)
+      where
+        go : {m : List ℕ} → Holds s (tree h) m → 1 ≤ times x m → cell (s .cells) x state ≢ free
+        go (grown r) m = let d = hangs-stand (slotsIn s) (s .cells) (r .hangs) m in λ z. hued (d .hue) (sym (d .words .hued) ∙ z)
+
     tree-good : {k i h : ℕ} → Place s k i → binAt s k i ≡ tree h → (l : List ℕ) × Held s k i (tree h) l
     tree-good {k} {i} {h} p e =
-        let g = ok .trees k i h p e in (
+        let g = ok .trees k i h p e in
+        let c = ok .chains k i h p e in (
           slots (g .tree),
           as-tree (record {
             root = ok .headers .roots k i h p e;
@@ -214,7 +268,7 @@ module _ {s : Set} (fit : Fit s) where
             hues = g .coloured;
             even = g .level;
             count = g .size;
-            chain = ok .chains k i h p e;
+            chain = (c .visits, c .linked, c .count, λ x m. (let f = c .own x .0 m in (tree-used e f, ok .home k i x f)));
             home = λ x m. ok .home k i x (record { place = p; held = slots (g .tree); holds = rw e (grown (g .rooted)); member = m });
           }),
         )

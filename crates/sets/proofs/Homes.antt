@@ -2,12 +2,13 @@
 -- the two would be above the other, and so Moved.
 use mathlib.Core.Path.{_≡_, refl, ap, sym, _∙_}
 use mathlib.Core.Logic.{_≢_}
+use mathlib.Core.List.{List}
 use Prim.Native.Nat.{ℕ, zero, suc, _%_, _<_, _≤_}
 use native.Mathlib.Decide.{ℕ-discrete, decLe}
 use native.Mathlib.Omega.{arith}
 use Rattle.slots.specs.Words.{nameOf, hashPart}
 use Rattle.sets.specs.Words.{Set, Fit, tablesOf, lengthAt, Bin, empty, moved, bad, list, tree, binAt, bini}
-use Rattle.sets.specs.Accepted.{Entry, ParentMoved, EntriesHome}
+use Rattle.sets.specs.Accepted.{Holds, Entry, ParentMoved, EntriesHome}
 use Rattle.sets.proofs.Fit.{bini-up, bini-less}
 use Rattle.sets.proofs.Gathering.{not-empty, not-moved}
 
@@ -51,3 +52,21 @@ module _ {s : Set} (fit : Fit s) (parents : ParentMoved s) where
         go (yes z) c = (z, sym (homes k i x e) ∙ ap (λ (m : ℕ). bini (lengthAt s m) (nameOf (s .names) x hashPart)) z ∙ homes l j x f)
         go (no z) (yes c) = absurd (entry-below e f (omega arith))
         go (no z) (no c) = absurd (entry-below f e (omega arith))
+
+    -- An entry, in whatever bin, whose hash names a bin that holds slots is an entry of that bin.
+    pub entry-own : {k i l j x : ℕ} {m : List ℕ} → Holds s (binAt s k i) m → k < tablesOf s → Entry s l j x → bini (lengthAt s k) (nameOf (s .names) x hashPart) ≡ i
+        → Entry s k i x
+    entry-own {k} {i} {l} {j} {x} h b f e = go (ℕ-discrete l k) (decLe l k)
+      where
+        hash : ℕ
+        hash = nameOf (s .names) x hashPart
+
+        lies : bini (lengthAt s l) hash ≡ j
+        lies = homes l j x f
+
+        go : Dec (l ≡ k) → Dec (l ≤ k) → Entry s k i x
+        go (yes z) c = let y : j ≡ i = sym lies ∙ ap (λ (m : ℕ). bini (lengthAt s m) hash) z ∙ e in rw (z, y) at f
+        go (no z) (yes c) = let m = above-moved hash k l (omega arith) b (rw e (not-empty h)) in absurd (not-moved (f .holds) (rw lies at m))
+        go (no z) (no c) =
+            let m = above-moved hash l k (omega arith) (f .place .table) (rw lies (not-empty (f .holds))) in
+            absurd (not-moved h (rw e at m))

@@ -1,7 +1,7 @@
 -- "A set is accepted when": 01's paragraph, a definition for each clause, in its order. An entry is a slot that a list or a tree holds,
 -- never one that only a chain visits.
 use mathlib.Core.Path.{_≡_}
-use mathlib.Core.Logic.{_≢_}
+use mathlib.Core.Logic.{_≢_, _↔_}
 use mathlib.Core.List.{List, [], _∷_}
 use Prim.Native.Nat.{ℕ, suc, _%_, _<_, _≤_}
 use lib.ListN.{length}
@@ -105,11 +105,15 @@ pub record Headers (s : Set) : Type 0 where
 abbrev pub GoodTrees : Set → Type 0
 GoodTrees s = (k i h : ℕ) → Place s k i → binAt s k i ≡ tree h → Shaped (s .names) (s .cells) (rootAt s h) (countAt s h)
 
--- "its chain has as many slots as the tree, prev the reverse of next": nothing asks whose slots they are.
+-- "its chain has as many slots as the tree, prev the reverse of next"; as E3 mends it, "a tree's chain visits exactly that tree's slots".
+pub record GoodChain (s : Set) (k i h : ℕ) : Type 0 where
+  pub visits : List ℕ
+  pub linked : Chain (slotsIn s) (s .cells) null (firstAt s h) visits
+  pub count : length visits ≡ countAt s h
+  pub own : (x : ℕ) → (1 ≤ times x visits) ↔ Entry s k i x
+
 abbrev pub GoodChains : Set → Type 0
-GoodChains s =
-    (k i h : ℕ) → Place s k i → binAt s k i ≡ tree h
-    → (l : List ℕ) × Chain (slotsIn s) (s .cells) null (firstAt s h) l × (length l ≡ countAt s h)
+GoodChains s = (k i h : ℕ) → Place s k i → binAt s k i ≡ tree h → GoodChain s k i h
 
 -- Slot x is an entry of one bin and of no other.
 pub record InOne (s : Set) (x : ℕ) : Type 0 where

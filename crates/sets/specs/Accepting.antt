@@ -5,7 +5,7 @@ use mathlib.Core.List.{List}
 use Prim.Native.Nat.{ℕ, zero, suc, _+_, _-_, _*_}
 use lib.ListN.{length, getD}
 use lib.Dec.{eqb, ltb}
-use Rattle.slots.specs.Words.{null, pick, state, parent, left, right, prev, next, cell, nameOf, hashPart, keyPart}
+use Rattle.slots.specs.Words.{null, pick, state, parent, left, right, prev, next, free, cell, nameOf, hashPart, keyPart}
 use Rattle.slots.specs.Answers.{Answer, Value, none, some, given, refused}
 use Rattle.shape.specs.Find.{slotsOf}
 use Rattle.shape.specs.Rules.{then, obeyed}
@@ -60,14 +60,26 @@ treeHome (suc depth) names cells len i x =
     (pick (treeHome depth names cells len i (cell cells x left)) (treeHome depth names cells len i (cell cells x right)) false)
     false)
 
--- A tree of m slots that obeys T3 to T6: its header has a root, a first and that count, its chain has as many slots, and its slots are
--- in the bin that their hashes name.
+-- Slot x is not free and its hash names bin i of a table of len bins. Where all else is right it is then an entry of that bin.
+unfoldable pub isOwn : List ℕ → List ℕ → ℕ → ℕ → ℕ → Bool
+isOwn names cells len i x = pick (eqb (cell cells x state) free) false (isHome names len i x)
+
+-- Each slot of the chain from the link x, at most v of them, is such a slot.
+unfoldable pub chainOwn : ℕ → List ℕ → List ℕ → ℕ → ℕ → ℕ → Bool
+chainOwn zero names cells len i x = eqb x null
+chainOwn (suc v) names cells len i x =
+    pick (eqb x null) true (pick (isOwn names cells len i x) (chainOwn v names cells len i (cell cells x next)) false)
+
+-- A tree of m slots that obeys T3 to T6: its header has a root, a first and that count, its chain has as many slots, each its own, and its
+-- slots are in the bin that their hashes name.
 unfoldable pub treeGood : List ℕ → List ℕ → ℕ → ℕ → ℕ → ℕ → ℕ → ℕ → Bool
 treeGood names cells len i root first count m =
     pick (eqb root null) false
     (pick (eqb first null) false
     (pick (eqb m count)
-    (pick (leaves (slotsOf names) count (chained (slotsOf names) (slotsOf names) cells null first)) (treeHome (slotsOf names) names cells len i root) false)
+    (pick (leaves (slotsOf names) count (chained (slotsOf names) (slotsOf names) cells null first))
+    (pick (chainOwn (slotsOf names) names cells len i first) (treeHome (slotsOf names) names cells len i root) false)
+    false)
     false))
 
 -- The tree of a header, with v visits left: the visits left after it, or none where it goes wrong.

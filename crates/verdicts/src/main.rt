@@ -239,7 +239,7 @@ fn ask_other_chain(label: &[u8], lengths: &[u32], bins: &[u32], names: &[u64], o
     ask(label, lengths, bins, &[0u32, 1, 1], names, &cells);
 }
 
-// Chains of as many slots as the tree, whosever they are: a free slot's, a list's, and another tree's.
+// Chains of as many slots as the tree that are none of its own: a free slot's, a list's, and another tree's.
 fn chains() {
     ask_other_chain(
         b"a tree whose first is a free slot",

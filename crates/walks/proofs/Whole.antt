@@ -1,11 +1,12 @@
--- A whole walk of an accepted set gives one list, in 01's order, of as many slots as are not free.
+-- A whole walk of an accepted set gives one list, in 01's order: every entry once and nothing else. Lookup and walk agree.
+use mathlib.Core.Logic.{_↔_}
 use mathlib.Core.Path.{_≡_, refl, ap, sym, _∙_}
 use mathlib.Core.List.{List, _∷_}
 use Prim.Native.Nat.{ℕ, _<_, _≤_}
 use native.Mathlib.Decide.{ℕ-discrete, decLe}
 use native.Mathlib.Omega.{arith}
 use borrow.Author.Tests.{eq-eqb}
-use Rattle.slots.specs.Words.{state, free, cell, black}
+use Rattle.slots.specs.Words.{state, free, cell, black, nameOf, hashPart, keyPart}
 use Rattle.slots.specs.Answers.{given}
 use Rattle.slots.proofs.Laws.{given-is, nothing-given}
 use Rattle.shape.specs.Tree.{times}
@@ -16,12 +17,14 @@ use Rattle.demands.proofs.Rules.{used-hued}
 use Rattle.sets.specs.Words.{Set, Fit, tablesOf, slotsIn, Bin, list, tree, binAt}
 use Rattle.sets.specs.Accepted.{Accepted, Entry, Holds}
 use Rattle.sets.proofs.Fit.{small}
-use Rattle.sets.proofs.Lists.{listed-unique, listed-inside}
+use Rattle.sets.proofs.Lists.{listed-inside, listed-unique}
 use Rattle.walks.specs.Cursor.{Cursor, starts}
 use Rattle.walks.specs.Whole.{Listing}
+use Rattle.walks.specs.Held.{EntryFrom}
 use Rattle.walks.specs.Claims.{WholeWalk}
 use Rattle.walks.proofs.Giving.{walk-gives}
 use Rattle.walks.proofs.Keeping.{Told, told}
+use Rattle.walks.proofs.Mapping.{map-claims}
 
 -- What the steps give is one list.
 pub listing-unique : {s : Set} {c : Cursor} {l m : List ℕ} → Listing s c l → Listing s c m → l ≡ m
@@ -66,6 +69,15 @@ module _ (s : Set) (fit : Fit s) (acc : Accepted s) where
     pub walk : Listing s (starts s t .cursor) (all .given)
     walk = walk-gives s fit acc t b (all .order)
 
+    entries : (x : ℕ) → (1 ≤ times x (all .given)) ↔ EntryFrom s t x
+    entries x = (
+      λ h. (let r = all .entries x .0 (omega (arith, all .same x)) in record { table = r .0; index = r .1; later = r .2; entry = r .3 }),
+      λ f. omega (arith, all .same x, all .entries x .1 (f .table, f .index, f .later, f .entry)),
+    )
+
+    given-used : t ≡ 0 → (x : ℕ) → x < slotsIn s → used (s .cells) x ≡ times x (all .given)
+    given-used z x w = held-used z x w ∙ sym (all .same x)
+
     pub whole : WholeWalk s t
     whole =
         record {
@@ -73,5 +85,11 @@ module _ (s : Set) (fit : Fit s) (acc : Accepted s) where
           steps = walk;
           only = λ m h. listing-unique h walk;
           order = λ m. (λ h. listing-unique (walk-gives s fit acc t b h) walk, λ e. rw e (all .order));
-          count = λ z. all .size ∙ exactly-length (slotsIn s) (all .held) (λ x m. entry-inside (all .entries x .0 m .3)) (used (s .cells)) (held-used z);
+          entries = entries;
+          once = λ x. omega (arith, all .same x, all .once x);
+          all = given-used;
+          count = λ z. exactly-length (slotsIn s) (all .given) (λ x m. entry-inside (entries x .0 m .entry)) (used (s .cells)) (given-used z);
+          agree =
+              λ x. (let u = map-claims s fit acc .at t (nameOf (s .names) x hashPart) (nameOf (s .names) x keyPart) x b in
+              (λ h. u .1 (entries x .0 h, refl), λ e. entries x .1 (u .0 e .0)));
         }

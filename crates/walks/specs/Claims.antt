@@ -4,9 +4,10 @@ use mathlib.Core.Logic.{_≢_, _↔_}
 use mathlib.Core.List.{List}
 use Prim.Native.Nat.{ℕ, _<_, _≤_}
 use lib.ListN.{length}
-use Rattle.slots.specs.Words.{null}
+use Rattle.slots.specs.Words.{null, nameOf, hashPart, keyPart}
 use Rattle.slots.specs.Pairs.{pair, pairOf}
 use Rattle.slots.specs.Answers.{given, nothing, refused}
+use Rattle.shape.specs.Tree.{times}
 use Rattle.shape.specs.Chain.{tally}
 use Rattle.demands.specs.Sound.{used}
 use Rattle.sets.specs.Words.{Set, tablesOf, lengthAt, slotsIn, Fit}
@@ -73,6 +74,13 @@ pub record WholeWalk (s : Set) (t : ℕ) : Type 0 where
   pub order : (l : List ℕ) → Onward s t 0 l ↔ (l ≡ given-slots)
   -- from table 0: as many as the slots that are not free
   pub count : t ≡ 0 → length given-slots ≡ tally (slotsIn s) (used (s .cells))
+  -- they are the entries of table t and of those below, and no slot is given twice
+  pub entries : (x : ℕ) → (1 ≤ times x given-slots) ↔ EntryFrom s t x
+  pub once : (x : ℕ) → times x given-slots ≤ 1
+  -- from table 0: every slot that is not free, once
+  pub all : t ≡ 0 → (x : ℕ) → x < slotsIn s → used (s .cells) x ≡ times x given-slots
+  -- lookup and walk agree: a slot is given exactly if lookup of its own pair answers it
+  pub agree : (x : ℕ) → (1 ≤ times x given-slots) ↔ (lookups s t (nameOf (s .names) x hashPart) (nameOf (s .names) x keyPart) ≡ given x)
 
 pub record Claims : Type 0 where
   pub looking : (s : Set) (t hash key : ℕ) → Lookups s t hash key

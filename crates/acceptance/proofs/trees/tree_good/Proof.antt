@@ -35,8 +35,8 @@ returns-4 c =
     let c4 = c3 .before in
     rw (ne-eqb _ _ (c4 .if1 .left), ne-eqb _ _ (c3 .if2 .left), eq-eqb _ _ (c2 .if3 .left), ← c1 .chain-fine .ensures, not-true (c1 .chain-fine .result) (c .if4 .taken))
 
-tree-home-requires : tie.Need-tree-home-requires
-tree-home-requires c κs = search needs
+chain-own-requires : tie.Need-chain-own-requires
+chain-own-requires c κs = search needs
 
 returns-5 : tie.Need-returns-5
 unfolding treeGood
@@ -46,7 +46,23 @@ returns-5 c =
     let c3 = c2 .before in
     let c4 = c3 .before in
     let c5 = c4 .before in
-    rw (ne-eqb _ _ (c5 .if1 .left), ne-eqb _ _ (c4 .if2 .left), eq-eqb _ _ (c3 .if3 .left), ← c2 .chain-fine .ensures, not-false (c2 .chain-fine .result) (c1 .if4 .left), ← c .tree-home .ensures)
+    let c6 = c5 .before in
+    rw (ne-eqb _ _ (c6 .if1 .left), ne-eqb _ _ (c5 .if2 .left), eq-eqb _ _ (c4 .if3 .left), ← c3 .chain-fine .ensures, not-false (c3 .chain-fine .result) (c2 .if4 .left), ← c1 .chain-own .ensures, not-true (c1 .chain-own .result) (c .if5 .taken))
+
+tree-home-requires : tie.Need-tree-home-requires
+tree-home-requires c κs = search needs
+
+returns-6 : tie.Need-returns-6
+unfolding treeGood
+returns-6 c =
+    let c1 = c .before in
+    let c2 = c1 .before in
+    let c3 = c2 .before in
+    let c4 = c3 .before in
+    let c5 = c4 .before in
+    let c6 = c5 .before in
+    let c7 = c6 .before in
+    rw (ne-eqb _ _ (c7 .if1 .left), ne-eqb _ _ (c6 .if2 .left), eq-eqb _ _ (c5 .if3 .left), ← c4 .chain-fine .ensures, not-false (c4 .chain-fine .result) (c3 .if4 .left), ← c2 .chain-own .ensures, not-false (c2 .chain-own .result) (c1 .if5 .left), ← c .tree-home .ensures)
 
 pub tree-good-spec : {M : Type 1} → statement M
 tree-good-spec =
@@ -57,5 +73,7 @@ tree-good-spec =
     returns-3
     chain-fine-requires
     returns-4
+    chain-own-requires
+    returns-5
     tree-home-requires
-    returns-5)
+    returns-6)
