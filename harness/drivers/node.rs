@@ -90,7 +90,7 @@ pub mod driver {
     /// Which of the source's routines a tree is changed by.
     #[derive(Clone, Copy, PartialEq, Eq, Debug)]
     pub enum By {
-        /// 01's paragraph over the source's rotations and balancing.
+        /// docs/RULES.md, section 4, over the source's rotations and balancing.
         Drivers,
         /// `find_or_put_tree_val`, and `remove_tree_node` wherever its early return does not fire.
         Bin,
@@ -189,7 +189,7 @@ pub mod driver {
             slot(there)
         }
 
-        /// 01: "hangs it where the order says, puts it at the front of the chain, then balances".
+        /// docs/RULES.md, section 4: "hangs it where the order says, puts it at the front of the chain, then balances".
         fn drive_insert(&mut self, hash: u64, key: u64, place: u32, at: u32) -> u32 {
             let mut p = self.root();
             let mut parent = null();
@@ -285,7 +285,7 @@ pub mod driver {
             }
         }
 
-        /// 01's Remove, over the source's `balance_deletion`.
+        /// Remove of docs/RULES.md, section 4, over the source's `balance_deletion`.
         fn drive_remove(&mut self, p: P) {
             let d = node(p);
             let (next, prev) = (get(&d.node.next), get(&d.prev));

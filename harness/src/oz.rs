@@ -4,6 +4,7 @@ pub const NULL: u32 = u32::MAX;
 mod c {
     extern "C" {
         pub fn oz_find(names: *const u64, names_len: usize, cells: *const u32, cells_len: usize, head: *const u32, head_len: usize, hash: u64, key: u64) -> u64;
+        pub fn oz_fresh(names: *mut u64, names_len: usize, cells: *mut u32, cells_len: usize, head: *mut u32, head_len: usize, lines: *mut u64, lines_len: usize) -> u64;
         pub fn oz_insert(names: *mut u64, names_len: usize, cells: *mut u32, cells_len: usize, head: *mut u32, head_len: usize, lines: *mut u64, lines_len: usize, hash: u64, key: u64, place: u32) -> u64;
         pub fn oz_remove(names: *mut u64, names_len: usize, cells: *mut u32, cells_len: usize, head: *mut u32, head_len: usize, lines: *mut u64, lines_len: usize, hash: u64, key: u64) -> u64;
         pub fn oz_rollback(names: *mut u64, names_len: usize, cells: *mut u32, cells_len: usize, head: *mut u32, head_len: usize, lines: *mut u64, lines_len: usize, mark: u32) -> u64;
@@ -29,6 +30,10 @@ fn answer(word: u64) -> Answer {
 
 pub fn find(names: &[u64], cells: &[u32], head: &[u32], hash: u64, key: u64) -> Answer {
     answer(unsafe { c::oz_find(names.as_ptr(), names.len(), cells.as_ptr(), cells.len(), head.as_ptr(), head.len(), hash, key) })
+}
+
+pub fn fresh(names: &mut [u64], cells: &mut [u32], head: &mut [u32], lines: &mut [u64]) -> Answer {
+    answer(unsafe { c::oz_fresh(names.as_mut_ptr(), names.len(), cells.as_mut_ptr(), cells.len(), head.as_mut_ptr(), head.len(), lines.as_mut_ptr(), lines.len()) })
 }
 
 pub fn insert(names: &mut [u64], cells: &mut [u32], head: &mut [u32], lines: &mut [u64], hash: u64, key: u64, place: u32) -> Answer {
@@ -99,12 +104,17 @@ pub struct Index {
 }
 
 impl Index {
+    /// An empty index of so many slots and lines, written by fresh over words that are none of it; by hand where the sizes are no index's.
     pub fn new(slots: usize, lines: usize) -> Self {
-        let mut cells = Vec::with_capacity(7 * slots);
-        for _ in 0..slots {
-            cells.extend_from_slice(&[0, 0, NULL, NULL, NULL, NULL, NULL]);
+        let mut ix = Index { names: vec![7; 2 * slots], cells: vec![7; 7 * slots], head: vec![7; 3], lines: vec![7; 1 + 4 * lines] };
+        let made = fresh(&mut ix.names, &mut ix.cells, &mut ix.head, &mut ix.lines);
+        let fits = (1..=4096).contains(&slots) && lines <= 1024;
+        assert_eq!(made, if fits { Answer { number: 0, value: 1 } } else { Answer { number: 1, value: 0 } }, "fresh of {slots} slots, {lines} lines");
+        if !fits {
+            let cells = (0..slots).flat_map(|_| [0, 0, NULL, NULL, NULL, NULL, NULL]).collect();
+            ix = Index { names: vec![0; 2 * slots], cells, head: vec![NULL, NULL, 0], lines: vec![0; 1 + 4 * lines] };
         }
-        Index { names: vec![0; 2 * slots], cells, head: vec![NULL, NULL, 0], lines: vec![0; 1 + 4 * lines] }
+        ix
     }
 
     pub fn slots(&self) -> usize {

@@ -182,7 +182,8 @@ fn live_calls(rng: &mut Rng, tally: &mut Tally) {
     let mut before = l.clone();
     for _ in 0..8 {
         let (h, k) = if rng.below(4) == 0 { (word64(rng, 3), word64(rng, 9)) } else { (rng.below(3), rng.below(8)) };
-        let (name, answer) = match rng.below(9) {
+        let (name, answer) = match rng.below(19) / 2 {
+            9 => ("fresh", oz::fresh(l.names.lend(), l.cells.lend(), l.head.lend(), l.lines.lend())),
             0 => ("find", oz::find(l.names.get(), l.cells.get(), l.head.get(), h, k)),
             1 => ("check", oz::check(l.names.get(), l.cells.get(), l.head.get())),
             2 => {
@@ -193,7 +194,7 @@ fn live_calls(rng: &mut Rng, tally: &mut Tally) {
             5 | 6 => ("remove", oz::remove(l.names.lend(), l.cells.lend(), l.head.lend(), l.lines.lend(), h, k)),
             _ => ("rollback", oz::rollback(l.names.lend(), l.cells.lend(), l.head.lend(), l.lines.lend(), word32(rng, 3))),
         };
-        let writes = matches!(name, "insert" | "remove" | "rollback") && answer.number == 0;
+        let writes = matches!(name, "fresh" | "insert" | "remove" | "rollback") && answer.number == 0;
         let fine = if writes { l.guarded() } else { l == before };
         tally.note(name, answer.number, fine);
         if writes {

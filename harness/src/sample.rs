@@ -52,7 +52,7 @@ fn of_source(tree: &Tree, slots: usize) -> Index {
     ix
 }
 
-/// What an insert answers by the source: the number of a refusal or 0, and the slot. 01's lowest free slot is the new one's.
+/// What an insert answers by the source: the number of a refusal or 0, and the slot. The new one's is the lowest free slot, by docs/RULES.md, section 4.
 fn insert(tree: &mut Tree, slots: usize, hash: u64, key: u64, place: u32) -> (u32, u32) {
     let before = of_source(tree, slots);
     let there = tree.find(hash, key);

@@ -1,30 +1,7 @@
--- Every claim of the crate holds: what a call returns and leaves is read back off its outcome, field by field.
-use mathlib.Core.Path.{_≡_, ap, sym, _∙_}
-use Rattle.dialogue.specs.Feeding.{Line as Held, Fed as Outcome}
-use Rattle.console.specs.Meanings.{fedOf}
-use Rattle.console.specs.Claims.{Call, indexOf, Claims}
-use Rattle.console.specs.declared.feed.Line.{Line}
-
-abbrev lineBack : Held → Line
-lineBack l = record { bytes = l .bytes; count = l .count }
-
-abbrev back : Outcome → Call
-back o = record {
-  fed = record { number = o .number; line = lineBack (o .desk .line); taken = o .taken; written = o .desk .paper .at };
-  names = o .desk .index .live .names;
-  cells = o .desk .index .live .cells;
-  head = o .desk .index .live .head;
-  lines = o .desk .index .lines;
-  out = o .desk .paper .bytes;
-}
-
-one : {o : Outcome} (a b : Call) → fedOf (a .fed) (indexOf a) (a .out) ≡ o → fedOf (b .fed) (indexOf b) (b .out) ≡ o → a ≡ b
-one a b e f = ap back (e ∙ sym f)
+-- Every claim of the crate holds.
+use Rattle.console.specs.Claims.{Claims}
+use Rattle.console.proofs.Phrasing.{phrasing}
+use Rattle.console.proofs.Feeding.{feeding}
 
 pub claims : Claims
-claims =
-    record {
-      blank-one = λ a b e f. ap lineBack (e ∙ sym f);
-      feed-one = λ chunk d. one;
-      finish-one = λ d. one;
-    }
+claims = record { phrasing = phrasing; feeding = feeding }

@@ -1,2 +1,5 @@
+pub mod Lines
+pub mod Phrasing
 pub mod Turns
+pub mod Feeding
 pub mod Claims

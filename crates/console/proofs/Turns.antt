@@ -3,11 +3,11 @@ use mathlib.Core.Path.{_≡_, ap}
 use mathlib.Core.List.{List}
 use Prim.Native.Nat.{ℕ}
 use Rattle.slots.specs.Answers.{Answer}
-use Rattle.demands.specs.Index.{Index, Outcome, outcome}
-use Rattle.dialogue.specs.Answers.{told}
-use Rattle.dialogue.specs.Commands.{Command}
-use Rattle.dialogue.specs.Feeding.{Paper, Turn, typed, turned}
-use Rattle.dialogue.proofs.Feeding.{Within, typed-within}
+use Rattle.index_rules.specs.Index.{Index, Outcome, outcome}
+use Rattle.script_rules.specs.Answers.{told}
+use Rattle.script_rules.specs.Commands.{Command}
+use Rattle.script_rules.specs.Feeding.{Paper, Turn, typed, turned}
+use Rattle.script_rules.proofs.Feeding.{Within, typed-within}
 
 abbrev turn : Index → Paper → Turn
 turn ix p = record { index = ix; paper = p }

@@ -2,10 +2,10 @@
 use mathlib.Core.List.{List, [], _∷_, _++_}
 use Prim.Native.Nat.{ℕ}
 use Rattle.slots.specs.Answers.{Value as Count, none, some}
-use Rattle.demands.specs.Index.{Index}
-use Rattle.dialogue.specs.Text.{newline, noneText, noText}
-use Rattle.dialogue.specs.Answers.{counted}
-use Rattle.dialogue.specs.Feeding.{Line as Held, Fed as Outcome}
+use Rattle.index_rules.specs.Index.{Index}
+use Rattle.script_rules.specs.Text.{newline, noneText, noText}
+use Rattle.script_rules.specs.Answers.{counted}
+use Rattle.script_rules.specs.Feeding.{Line as Held, Fed as Outcome}
 use Rattle.console.specs.declared.answer.Met.{Met}
 use Rattle.console.specs.declared.answer.Met.the-variants.{Slots, Lost}
 use Rattle.console.specs.declared.answer.Reply.{Reply}

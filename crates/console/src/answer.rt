@@ -1,19 +1,21 @@
 // What a command does to the tree and the journal, and what is printed for it.
-use drivers::journal::fit_journal;
-use drivers::journal::word as journal_word;
+use crate::paper::put_byte;
+use crate::paper::put_number;
+use crate::paper::put_word;
+use crate::read::Command;
+use index::find::Found;
+use index::find::find;
+use index::fit::FIRST;
+use index::fit::fit;
+use index::fit::word;
 use index::insert::Inserted;
 use index::insert::insert;
+use index::journal::fit_journal;
+use index::journal::word as journal_word;
 use index::remove::Removed;
 use index::remove::remove;
-use live::find::Found;
-use live::find::find;
-use live::fit::FIRST;
-use live::fit::fit;
-use live::fit::word;
-use phrases::paper::put_byte;
-use phrases::paper::put_number;
-use phrases::paper::put_word;
-use phrases::read::Command;
+use index::rollback::RolledBack;
+use index::rollback::rollback;
 use slots::HASH;
 use slots::KEY;
 use slots::NEXT;
@@ -21,27 +23,25 @@ use slots::NULL;
 use slots::PLACE;
 use slots::get;
 use slots::name;
-use undo::rollback::RolledBack;
-use undo::rollback::rollback;
 ghost use mathlib.Core.Path.{_≡_};
 ghost use mathlib.Core.List.{List};
 ghost use Prim.Native.Nat.{ℕ};
-ghost use Rattle.demands.specs.Live.{Live};
-ghost use Rattle.demands.specs.Find.{finds};
-ghost use Rattle.demands.specs.Index.{Index};
-ghost use Rattle.dialogue.specs.Text.{atText};
-ghost use Rattle.index.specs.Answers.{insertedOf, removedOf};
-ghost use Rattle.undo.specs.Answers.{rolledOf};
-ghost use Rattle.live.specs.Answers.{foundOf};
-ghost use Rattle.dialogue.specs.Answers.{counted, told, met, entryLine, entryLines, listing, marking};
-ghost use Rattle.dialogue.specs.Commands.{insert as inserting, remove as removing, rollback as rolling};
-ghost use Rattle.dialogue.specs.Feeding.{Paper, Turn, typed, turned};
-ghost use Rattle.phrases.specs.Meanings.{commandOf};
+ghost use Rattle.index_rules.specs.Live.{lentTree};
+ghost use Rattle.index_rules.specs.Find.{finds};
+ghost use Rattle.index_rules.specs.Index.{lent};
+ghost use Rattle.script_rules.specs.Text.{atText};
+ghost use Rattle.index.specs.Calls.{insertedOf, removedOf};
+ghost use Rattle.index.specs.Rolls.{rolledOf};
+ghost use Rattle.index.specs.Reads.{foundOf};
+ghost use Rattle.script_rules.specs.Answers.{counted, told, met, entryLine, entryLines, listing, marking};
+ghost use Rattle.script_rules.specs.Commands.{insert as inserting, remove as removing, rollback as rolling};
+ghost use Rattle.script_rules.specs.Feeding.{typed, turned, lentPaper, lentTurn};
+ghost use Rattle.console.specs.Phrases.{commandOf};
 ghost use Rattle.console.specs.Meanings.{replyText, metOf};
 
 // A word and a number, and the line ends.
 fn tell(out: &mut [u8], at: usize, word: &[u8], v: u64) -> usize
-    ensures { λ r. ⌜ record { bytes = now (out .exit); at = r } ≡ typed (record { bytes = now (out .entry); at = at }) (counted (now (word .entry)) v) ⌝ }
+    ensures { λ r. ⌜ lentPaper (now (out .exit)) r ≡ typed (lentPaper (now (out .entry)) at) (counted (now (word .entry)) v) ⌝ }
 {
     let number = put_word(out, at, word);
     let end = put_number(out, number, v);
@@ -104,7 +104,7 @@ fn of_rolled(done: RolledBack) -> Reply
 }
 
 fn tell_reply(out: &mut [u8], at: usize, word: &[u8], reply: Reply) -> usize
-    ensures { λ r. ⌜ record { bytes = now (out .exit); at = r } ≡ typed (record { bytes = now (out .entry); at = at }) (replyText (now (word .entry)) reply) ⌝ }
+    ensures { λ r. ⌜ lentPaper (now (out .exit)) r ≡ typed (lentPaper (now (out .entry)) at) (replyText (now (word .entry)) reply) ⌝ }
 {
     match reply {
         Reply::Value(v) => return tell(out, at, word, v),
@@ -140,7 +140,8 @@ fn count_chain(n: usize, cells: &[u32], first: u32) -> Met
 
 // The line of slot i: hash, key, place.
 fn tell_entry(out: &mut [u8], at: usize, names: &[u64], cells: &[u32], i: u32) -> usize
-    ensures { λ r. ⌜ record { bytes = now (out .exit); at = r } ≡ typed (record { bytes = now (out .entry); at = at }) (entryLine (now (names .entry)) (now (cells .entry)) i) ⌝ }
+    ensures { λ r. ⌜ lentPaper (now (out .exit)) r
+        ≡ typed (lentPaper (now (out .entry)) at) (entryLine (now (names .entry)) (now (cells .entry)) i) ⌝ }
 {
     let hash = name(names, i, HASH);
     let key = name(names, i, KEY);
@@ -162,7 +163,8 @@ fn tell_entries(
     first: u32,
     count: usize,
 ) -> usize
-    ensures { λ r. ⌜ record { bytes = now (out .exit); at = r } ≡ typed (record { bytes = now (out .entry); at = at }) (entryLines count (now (names .entry)) (now (cells .entry)) first) ⌝ }
+    ensures { λ r. ⌜ lentPaper (now (out .exit)) r
+        ≡ typed (lentPaper (now (out .entry)) at) (entryLines count (now (names .entry)) (now (cells .entry)) first) ⌝ }
 {
     let mut end = at;
     let mut i = first;
@@ -176,7 +178,8 @@ fn tell_entries(
 }
 
 fn tell_list(out: &mut [u8], at: usize, names: &[u64], cells: &[u32], head: &[u32]) -> usize
-    ensures { λ r. ⌜ record { bytes = now (out .exit); at = r } ≡ typed (record { bytes = now (out .entry); at = at }) (listing (record { names = now (names .entry); cells = now (cells .entry); head = now (head .entry) })) ⌝ }
+    ensures { λ r. ⌜ lentPaper (now (out .exit)) r
+        ≡ typed (lentPaper (now (out .entry)) at) (listing (lentTree (now (names .entry)) (now (cells .entry)) (now (head .entry)))) ⌝ }
 {
     if !fit(names, cells, head) {
         return tell(out, at, b"no ", 1);
@@ -198,7 +201,9 @@ fn tell_mark(
     head: &[u32],
     lines: &[u64],
 ) -> usize
-    ensures { λ r. ⌜ record { bytes = now (out .exit); at = r } ≡ typed (record { bytes = now (out .entry); at = at }) (marking (record { live = record { names = now (names .entry); cells = now (cells .entry); head = now (head .entry) }; lines = now (lines .entry) })) ⌝ }
+    ensures { λ r. ⌜ lentPaper (now (out .exit)) r
+        ≡ typed (lentPaper (now (out .entry)) at)
+        (marking (lent (now (names .entry)) (now (cells .entry)) (now (head .entry)) (now (lines .entry)))) ⌝ }
 {
     if !fit(names, cells, head) {
         return tell(out, at, b"no ", 1);
@@ -221,7 +226,9 @@ fn obey_insert(
     key: u64,
     place: u32,
 ) -> usize
-    ensures { λ r. ⌜ record { index = record { live = record { names = now (names .exit); cells = now (cells .exit); head = now (head .exit) }; lines = now (lines .exit) }; paper = record { bytes = now (out .exit); at = r } } ≡ turned (record { live = record { names = now (names .entry); cells = now (cells .entry); head = now (head .entry) }; lines = now (lines .entry) }) (record { bytes = now (out .entry); at = at }) (inserting hash key place) ⌝ }
+    ensures { λ r. ⌜ lentTurn (now (names .exit)) (now (cells .exit)) (now (head .exit)) (now (lines .exit)) (now (out .exit)) r
+        ≡ turned (lent (now (names .entry)) (now (cells .entry)) (now (head .entry)) (now (lines .entry)))
+        (lentPaper (now (out .entry)) at) (inserting hash key place) ⌝ }
 {
     let done = insert(names, cells, head, lines, hash, key, place);
     let reply = of_inserted(done);
@@ -238,7 +245,9 @@ fn obey_remove(
     hash: u64,
     key: u64,
 ) -> usize
-    ensures { λ r. ⌜ record { index = record { live = record { names = now (names .exit); cells = now (cells .exit); head = now (head .exit) }; lines = now (lines .exit) }; paper = record { bytes = now (out .exit); at = r } } ≡ turned (record { live = record { names = now (names .entry); cells = now (cells .entry); head = now (head .entry) }; lines = now (lines .entry) }) (record { bytes = now (out .entry); at = at }) (removing hash key) ⌝ }
+    ensures { λ r. ⌜ lentTurn (now (names .exit)) (now (cells .exit)) (now (head .exit)) (now (lines .exit)) (now (out .exit)) r
+        ≡ turned (lent (now (names .entry)) (now (cells .entry)) (now (head .entry)) (now (lines .entry)))
+        (lentPaper (now (out .entry)) at) (removing hash key) ⌝ }
 {
     let done = remove(names, cells, head, lines, hash, key);
     let reply = of_removed(done);
@@ -254,7 +263,9 @@ fn obey_rollback(
     at: usize,
     to: u32,
 ) -> usize
-    ensures { λ r. ⌜ record { index = record { live = record { names = now (names .exit); cells = now (cells .exit); head = now (head .exit) }; lines = now (lines .exit) }; paper = record { bytes = now (out .exit); at = r } } ≡ turned (record { live = record { names = now (names .entry); cells = now (cells .entry); head = now (head .entry) }; lines = now (lines .entry) }) (record { bytes = now (out .entry); at = at }) (rolling to) ⌝ }
+    ensures { λ r. ⌜ lentTurn (now (names .exit)) (now (cells .exit)) (now (head .exit)) (now (lines .exit)) (now (out .exit)) r
+        ≡ turned (lent (now (names .entry)) (now (cells .entry)) (now (head .entry)) (now (lines .entry)))
+        (lentPaper (now (out .entry)) at) (rolling to) ⌝ }
 {
     let done = rollback(names, cells, head, lines, to);
     let reply = of_rolled(done);
@@ -271,7 +282,9 @@ fn tell_find(
     hash: u64,
     key: u64,
 ) -> usize
-    ensures { λ r. ⌜ record { bytes = now (out .exit); at = r } ≡ typed (record { bytes = now (out .entry); at = at }) (told atText (finds (record { names = now (names .entry); cells = now (cells .entry); head = now (head .entry) }) hash key)) ⌝ }
+    ensures { λ r. ⌜ lentPaper (now (out .exit)) r
+        ≡ typed (lentPaper (now (out .entry)) at)
+        (told atText (finds (lentTree (now (names .entry)) (now (cells .entry)) (now (head .entry))) hash key)) ⌝ }
 {
     let found = find(names, cells, head, hash, key);
     let reply = of_found(found);
@@ -288,7 +301,9 @@ pub(crate) fn obey(
     out: &mut [u8],
     at: usize,
 ) -> usize
-    ensures { λ r. ⌜ record { index = record { live = record { names = now (names .exit); cells = now (cells .exit); head = now (head .exit) }; lines = now (lines .exit) }; paper = record { bytes = now (out .exit); at = r } } ≡ turned (record { live = record { names = now (names .entry); cells = now (cells .entry); head = now (head .entry) }; lines = now (lines .entry) }) (record { bytes = now (out .entry); at = at }) (commandOf command) ⌝ }
+    ensures { λ r. ⌜ lentTurn (now (names .exit)) (now (cells .exit)) (now (head .exit)) (now (lines .exit)) (now (out .exit)) r
+        ≡ turned (lent (now (names .entry)) (now (cells .entry)) (now (head .entry)) (now (lines .entry)))
+        (lentPaper (now (out .entry)) at) (commandOf command) ⌝ }
 {
     match command {
         Command::Insert(hash, key, place) => {

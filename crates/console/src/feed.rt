@@ -1,13 +1,12 @@
 // Chunks of input in, answers out. What is kept between two calls is the line that has come so far.
 use crate::answer::obey;
-use phrases::read::meaning;
+use crate::read::meaning;
 ghost use mathlib.Core.Path.{_≡_};
 ghost use Prim.Native.Nat.{_≤_};
 ghost use lib.ListN.{length, replicate, take};
-ghost use Rattle.demands.specs.Live.{Live};
-ghost use Rattle.demands.specs.Index.{Index};
-ghost use Rattle.dialogue.specs.Commands.{spoken};
-ghost use Rattle.dialogue.specs.Feeding.{Line as Held, blank as blankLine, Paper, Turn, Desk, turned, heldOf, noted, fedByte, feeds, ends};
+ghost use Rattle.index_rules.specs.Index.{lent};
+ghost use Rattle.script_rules.specs.Commands.{spoken};
+ghost use Rattle.script_rules.specs.Feeding.{Line as Held, blank as blankLine, turned, heldOf, noted, fedByte, feeds, ends, lentPaper, lentTurn, lentDesk};
 ghost use Rattle.console.specs.Meanings.{lineOf, fedOf};
 
 // No answer is longer: 4,096 entries of at most 63 bytes, and the line before them.
@@ -22,7 +21,7 @@ pub struct Line {
     pub count: usize,
 }
 
-// What a call comes to: 01's number, the line, the bytes of the chunk that were taken and those of the buffer that were
+// What a call comes to: the number, the line, the bytes of the chunk that were taken and those of the buffer that were
 // written.
 pub struct Fed {
     pub number: u32,
@@ -67,7 +66,9 @@ fn reply(
     out: &mut [u8],
     at: usize,
 ) -> usize
-    ensures { λ r. ⌜ record { index = record { live = record { names = now (names .exit); cells = now (cells .exit); head = now (head .exit) }; lines = now (lines .exit) }; paper = record { bytes = now (out .exit); at = r } } ≡ turned (record { live = record { names = now (names .entry); cells = now (cells .entry); head = now (head .entry) }; lines = now (lines .entry) }) (record { bytes = now (out .entry); at = at }) (spoken (now (line .entry))) ⌝ }
+    ensures { λ r. ⌜ lentTurn (now (names .exit)) (now (cells .exit)) (now (head .exit)) (now (lines .exit)) (now (out .exit)) r
+        ≡ turned (lent (now (names .entry)) (now (cells .entry)) (now (head .entry)) (now (lines .entry)))
+        (lentPaper (now (out .entry)) at) (spoken (now (line .entry))) ⌝ }
 {
     let command = meaning(line);
     obey(command, names, cells, head, lines, out, at)
@@ -84,7 +85,9 @@ fn reply_first(
     out: &mut [u8],
     at: usize,
 ) -> usize
-    ensures { λ r. ⌜ record { index = record { live = record { names = now (names .exit); cells = now (cells .exit); head = now (head .exit) }; lines = now (lines .exit) }; paper = record { bytes = now (out .exit); at = r } } ≡ turned (record { live = record { names = now (names .entry); cells = now (cells .entry); head = now (head .entry) }; lines = now (lines .entry) }) (record { bytes = now (out .entry); at = at }) (spoken (take count (now (bytes .entry)))) ⌝ }
+    ensures { λ r. ⌜ lentTurn (now (names .exit)) (now (cells .exit)) (now (head .exit)) (now (lines .exit)) (now (out .exit)) r
+        ≡ turned (lent (now (names .entry)) (now (cells .entry)) (now (head .entry)) (now (lines .entry)))
+        (lentPaper (now (out .entry)) at) (spoken (take count (now (bytes .entry)))) ⌝ }
 {
     if bytes.len() <= count {
         return reply(bytes, names, cells, head, lines, out, at);
@@ -102,7 +105,9 @@ fn reply_kept(
     out: &mut [u8],
     at: usize,
 ) -> usize
-    ensures { λ r. ⌜ record { index = record { live = record { names = now (names .exit); cells = now (cells .exit); head = now (head .exit) }; lines = now (lines .exit) }; paper = record { bytes = now (out .exit); at = r } } ≡ turned (record { live = record { names = now (names .entry); cells = now (cells .entry); head = now (head .entry) }; lines = now (lines .entry) }) (record { bytes = now (out .entry); at = at }) (spoken (heldOf (lineOf line))) ⌝ }
+    ensures { λ r. ⌜ lentTurn (now (names .exit)) (now (cells .exit)) (now (head .exit)) (now (lines .exit)) (now (out .exit)) r
+        ≡ turned (lent (now (names .entry)) (now (cells .entry)) (now (head .entry)) (now (lines .entry)))
+        (lentPaper (now (out .entry)) at) (spoken (heldOf (lineOf line))) ⌝ }
 {
     let bytes = line.bytes;
     reply_first(&bytes, line.count, names, cells, head, lines, out, at)
@@ -124,7 +129,8 @@ fn take_byte(
     out: &mut [u8],
     at: usize,
 ) -> Step
-    ensures { λ r. ⌜ record { line = lineOf (r .line); index = record { live = record { names = now (names .exit); cells = now (cells .exit); head = now (head .exit) }; lines = now (lines .exit) }; paper = record { bytes = now (out .exit); at = r .at } } ≡ fedByte (record { line = lineOf line; index = record { live = record { names = now (names .entry); cells = now (cells .entry); head = now (head .entry) }; lines = now (lines .entry) }; paper = record { bytes = now (out .entry); at = at } }) b ⌝ }
+    ensures { λ r. ⌜ lentDesk (lineOf (r .line)) (now (names .exit)) (now (cells .exit)) (now (head .exit)) (now (lines .exit)) (now (out .exit)) (r .at)
+        ≡ fedByte (lentDesk (lineOf line) (now (names .entry)) (now (cells .entry)) (now (head .entry)) (now (lines .entry)) (now (out .entry)) at) b ⌝ }
 {
     if b == b'\n' {
         let end = reply_kept(line, names, cells, head, lines, out, at);
@@ -149,7 +155,9 @@ pub fn feed(
     lines: &mut [u64],
     out: &mut [u8],
 ) -> Fed
-    ensures { λ r. ⌜ fedOf r (record { live = record { names = now (names .exit); cells = now (cells .exit); head = now (head .exit) }; lines = now (lines .exit) }) (now (out .exit)) ≡ feeds (now (chunk .entry)) (record { line = lineOf line; index = record { live = record { names = now (names .entry); cells = now (cells .entry); head = now (head .entry) }; lines = now (lines .entry) }; paper = record { bytes = now (out .entry); at = 0 } }) ⌝ }
+    ensures { λ r. ⌜ fedOf r (lent (now (names .exit)) (now (cells .exit)) (now (head .exit)) (now (lines .exit))) (now (out .exit))
+        ≡ feeds (now (chunk .entry))
+        (lentDesk (lineOf line) (now (names .entry)) (now (cells .entry)) (now (head .entry)) (now (lines .entry)) (now (out .entry)) 0) ⌝ }
     ensures bounds { λ r. ⌜ (r .written ≤ length (now (out .exit))) × (r .taken ≤ length (now (chunk .entry))) ⌝ }
 {
     if out.len() < LONGEST {
@@ -195,7 +203,8 @@ pub fn finish(
     lines: &mut [u64],
     out: &mut [u8],
 ) -> Fed
-    ensures { λ r. ⌜ fedOf r (record { live = record { names = now (names .exit); cells = now (cells .exit); head = now (head .exit) }; lines = now (lines .exit) }) (now (out .exit)) ≡ ends (record { line = lineOf line; index = record { live = record { names = now (names .entry); cells = now (cells .entry); head = now (head .entry) }; lines = now (lines .entry) }; paper = record { bytes = now (out .entry); at = 0 } }) ⌝ }
+    ensures { λ r. ⌜ fedOf r (lent (now (names .exit)) (now (cells .exit)) (now (head .exit)) (now (lines .exit))) (now (out .exit))
+        ≡ ends (lentDesk (lineOf line) (now (names .entry)) (now (cells .entry)) (now (head .entry)) (now (lines .entry)) (now (out .entry)) 0) ⌝ }
     ensures bounds { λ r. ⌜ r .written ≤ length (now (out .exit)) ⌝ }
 {
     if out.len() < LONGEST {

@@ -1,3 +1,7 @@
-// The script's library: chunks of input in, answers out, over a lent tree and journal.
+// The script over a lent index (docs/RULES.md, section 9): chunks of input in, answers out.
+// What a line means, and how numbers and words are written.
+pub mod paper;
+pub mod read;
+// What a line asks for is done and answered.
 mod answer;
 pub mod feed;

@@ -1,6 +1,6 @@
 // What a tree holds, key by key: a row of 48 words, each the place of a key and one more, or 0 where the key is not there.
-use live::find::Found;
-use live::find::find;
+use index::find::Found;
+use index::find::find;
 use slots::FREE;
 use slots::PLACE;
 use slots::STATE;

@@ -1,4 +1,4 @@
--- Every claim of the crate holds: the small trees by computing, what is said of any tree by the claims of `demands`.
+-- Every claim of the crate holds: the small trees by computing, what is said of any tree by the claims of `index_rules`.
 use mathlib.Core.Path.{_≡_, refl, _∙_, ap}
 use mathlib.Core.List.{List, [], _∷_}
 use Prim.Native.Nat.{ℕ, _+_, _-_, _<_}
@@ -7,34 +7,34 @@ use lib.ListN.{length, getD, set}
 use borrow.Author.Tests.{le-ltb}
 use Rattle.slots.specs.Words.{cell, write, nameOf, rename, roomy}
 use Rattle.slots.specs.Answers.{given, nothing}
-use Rattle.shape.specs.Find.{Search, found, decided, looked, searched}
-use Rattle.shape.proofs.Searching.{at-null}
-use Rattle.shape.specs.Chain.{chained, tally}
-use Rattle.shape.specs.Check.{linksIn}
-use Rattle.shape.specs.Rules.{stands, reached, follows, risen, calmed, levelled, rises, coloured, level}
+use Rattle.tree_rules.specs.Find.{Search, found, decided, looked, searched}
+use Rattle.tree_rules.proofs.Searching.{at-null}
+use Rattle.tree_rules.specs.Chain.{chained, tally}
+use Rattle.tree_rules.specs.Check.{linksIn}
+use Rattle.tree_rules.specs.Rules.{stands, reached, follows, risen, calmed, levelled, rises, coloured, level}
 use Rattle.redblack.specs.Deletion.{capped, settled, tucked, eased, sunk, deletionTurn, balancedDeletion}
 use Rattle.redblack.specs.Hanging.{descended, hooked, inserted, placed}
 use Rattle.redblack.specs.Insertion.{raised, straightened, lifted, insertionTurn, insertionTurns, balancedInsertion}
 use Rattle.redblack.specs.Removal.{replaced, lowered, traded, replacement, spliced, detached, dropped, leftmost, removed}
 use Rattle.redblack.specs.Rotate.{hung, turned, rotated}
-use Rattle.demands.specs.Live.{Live, Fit, rootOf, countOf, capacityOf, fits}
-use Rattle.demands.specs.Sound.{Sound, sound, isCleared, slotFine, slotsFine, rule1, rule2, rule3, rule4, rule5, rule6, rule7}
-use Rattle.demands.specs.Find.{finds}
-use Rattle.demands.specs.Index.{Index, FitIndex, index, outcome, lengthOf, fitsJournal, fitsIndex, lined, appended}
-use Rattle.demands.specs.Rollback.{rolls, unrolled, blanked}
-use Rattle.demands.proofs.Fit.{fit-fits}
-use Rattle.demands.proofs.Journal.{index-fits}
-use Rattle.demands.proofs.Sounding.{sound-yes}
-use Rattle.demands.proofs.Claims.{claims as demanded}
-use Rattle.demands.specs.Calls.{after}
-use Rattle.demands.specs.Insert.{freeFrom, lowestFree, soughtIn, fronted, grown, inserts}
-use Rattle.demands.specs.Remove.{unchained, wiped, shrunk, removes}
-use Rattle.sets.specs.Words.{begins, doubling, doubled, fitTables, binOf, bini}
-use Rattle.sets.specs.Words.{fits as setFits}
-use Rattle.sets.specs.Accepting.{isHome, isListSlot, samePair, unlike, listSlotFine, listFine, placed as mayStand, ownFine, binAsks, belowFine, binFine, tableFine, isBlank, headersFine, allHeld, accepted, accepts}
-use Rattle.walks.specs.Cursor.{starts, levelFine, levelsFine, baseFine, fine}
-use Rattle.walks.specs.Walk.{kept, advanced, sought, under, walked, nexts}
-use Rattle.walks.specs.Held.{after as stepped}
+use Rattle.index_rules.specs.Live.{Live, Fit, rootOf, countOf, capacityOf, fits}
+use Rattle.index_rules.specs.Sound.{Sound, sound, isCleared, slotFine, slotsFine, rule1, rule2, rule3, rule4, rule5, rule6, rule7}
+use Rattle.index_rules.specs.Find.{finds}
+use Rattle.index_rules.specs.Index.{Index, FitIndex, index, outcome, lengthOf, fitsJournal, fitsIndex, lined, appended}
+use Rattle.index_rules.specs.Rollback.{rolls, unrolled, blanked}
+use Rattle.index_rules.proofs.Fit.{fit-fits}
+use Rattle.index_rules.proofs.Journal.{index-fits}
+use Rattle.index_rules.proofs.Sounding.{sound-yes}
+use Rattle.index_rules.proofs.Claims.{claims as demanded}
+use Rattle.index_rules.specs.Calls.{after}
+use Rattle.index_rules.specs.Insert.{freeFrom, lowestFree, soughtIn, fronted, grown, inserts}
+use Rattle.index_rules.specs.Remove.{unchained, wiped, shrunk, removes}
+use Rattle.set_rules.specs.Words.{begins, doubling, doubled, fitTables, binOf, bini}
+use Rattle.set_rules.specs.Words.{fits as setFits}
+use Rattle.set_rules.specs.Accepting.{isHome, isListSlot, samePair, unlike, listSlotFine, listFine, placed as mayStand, ownFine, binAsks, belowFine, binFine, tableFine, isBlank, headersFine, allHeld, accepted, accepts}
+use Rattle.set_rules.specs.Cursor.{starts, levelFine, levelsFine, baseFine, fine}
+use Rattle.set_rules.specs.Walk.{kept, advanced, sought, under, walked, nexts}
+use Rattle.set_rules.specs.Held.{after as stepped}
 use Rattle.examples.specs.Claims.{Claims}
 use Rattle.examples.specs.Worked.{empty, zeros, freeSlots, drawn, drawnFrom, chainOf, chainFrom, listSlots, tables, bin}
 use Rattle.examples.specs.Worked.{given as walks}

@@ -1,23 +1,23 @@
--- "Small trees, worked": the starred ones, proved from the definitions, in 01's order.
+-- "Small trees, worked": proved from the definitions, in the rules' order.
 use mathlib.Core.Path.{_≡_}
 use mathlib.Core.List.{[], _∷_}
 use Prim.Native.Nat.{ℕ, _+_}
 use lib.ListN.{length}
 use Rattle.slots.specs.Answers.{some, given, nothing, refused}
-use Rattle.shape.specs.Find.{found}
+use Rattle.tree_rules.specs.Find.{found}
 use Rattle.redblack.specs.Holding.{Has}
-use Rattle.demands.specs.Live.{Live, Fit, rootOf, countOf}
-use Rattle.demands.specs.Sound.{Sound}
-use Rattle.demands.specs.Find.{finds}
-use Rattle.demands.specs.Index.{Index, FitIndex, outcome, lengthOf}
-use Rattle.demands.specs.Insert.{inserts}
-use Rattle.demands.specs.Remove.{removes}
-use Rattle.demands.specs.Rollback.{rolls}
-use Rattle.demands.specs.Calls.{after, Lowest}
-use Rattle.sets.specs.Accepting.{accepts}
-use Rattle.walks.specs.Cursor.{starts}
-use Rattle.walks.specs.Walk.{nexts}
-use Rattle.walks.specs.Held.{after as stepped}
+use Rattle.index_rules.specs.Live.{Live, Fit, rootOf, countOf}
+use Rattle.index_rules.specs.Sound.{Sound}
+use Rattle.index_rules.specs.Find.{finds}
+use Rattle.index_rules.specs.Index.{Index, FitIndex, outcome, lengthOf}
+use Rattle.index_rules.specs.Insert.{inserts}
+use Rattle.index_rules.specs.Remove.{removes}
+use Rattle.index_rules.specs.Rollback.{rolls}
+use Rattle.index_rules.specs.Calls.{after, Lowest}
+use Rattle.set_rules.specs.Accepting.{accepts}
+use Rattle.set_rules.specs.Cursor.{starts}
+use Rattle.set_rules.specs.Walk.{nexts}
+use Rattle.set_rules.specs.Held.{after as stepped}
 use Rattle.examples.specs.Worked.{empty, add, take, none, black, red, drawn, chainOf, tables, bin}
 use Rattle.examples.specs.Worked.{given as walks}
 

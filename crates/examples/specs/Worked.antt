@@ -5,12 +5,12 @@ use lib.Dec.{eqb}
 use Rattle.slots.specs.Words.{null, pick, state, left, right, next, free, cell, nameOf, keyPart}
 use Rattle.slots.specs.Pairs.{Pair, pair, pairOf}
 use Rattle.slots.specs.Answers.{Value, none as noValue, some}
-use Rattle.demands.specs.Live.{Live, rootOf, firstOf, capacityOf}
-use Rattle.demands.specs.Index.{Index, index}
-use Rattle.demands.specs.Calls.{Call, insertCall, removeCall}
-use Rattle.sets.specs.Words.{Set}
-use Rattle.walks.specs.Cursor.{Cursor}
-use Rattle.walks.specs.Walk.{nexts}
+use Rattle.index_rules.specs.Live.{Live, rootOf, firstOf, capacityOf}
+use Rattle.index_rules.specs.Index.{Index, index}
+use Rattle.index_rules.specs.Calls.{Call, insertCall, removeCall}
+use Rattle.set_rules.specs.Words.{Set}
+use Rattle.set_rules.specs.Cursor.{Cursor}
+use Rattle.set_rules.specs.Walk.{nexts}
 
 unfoldable pub zeros : ℕ → List ℕ
 zeros zero = []

@@ -1,1 +1,1 @@
-// No code: the small trees that 01 works, proved from the definitions, stand in specs/ and proofs/.
+// No code: the small trees that the rules work, proved from the definitions, stand in specs/ and proofs/.

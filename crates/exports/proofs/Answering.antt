@@ -12,17 +12,17 @@ use borrow.Author.Tests.{leb-false, ltb-true, eq-eqb, ne-eqb}
 use Rattle.slots.specs.Words.{null, pick, next, cell}
 use Rattle.slots.specs.Answers.{Answer, given, nothing, refused}
 use Rattle.slots.proofs.Laws.{number, given-is, nothing-given}
-use Rattle.shape.specs.Find.{Look, here, on, Search, after, slotsOf, looked, searched, found}
-use Rattle.demands.specs.Live.{Live, rootOf, fits}
-use Rattle.demands.specs.Find.{finds}
-use Rattle.demands.proofs.Fit.{fits-fit, half}
-use Rattle.sets.specs.Words.{Set, tablesOf, lengthAt, slotsIn, headersIn, rootAt, firstAt, Bin, empty, moved, bad, list, tree}
-use Rattle.sets.specs.Words.{fits as setFits}
-use Rattle.sets.proofs.Fit.{fits-fit as set-fit, slots-are}
-use Rattle.sets.proofs.Naming.{ranges}
-use Rattle.walks.specs.Lookup.{hasPair, listed, homeBin, asked, forwarded, lookups}
-use Rattle.walks.specs.Cursor.{Cursor, Step, fineCursor}
-use Rattle.walks.specs.Walk.{Place, deepest, binHere, Sought, turned, sought, turnsIn, stepped, standing, walked, nexts}
+use Rattle.tree_rules.specs.Find.{Look, here, on, Search, after, slotsOf, looked, searched, found}
+use Rattle.index_rules.specs.Live.{Live, rootOf, fits}
+use Rattle.index_rules.specs.Find.{finds}
+use Rattle.index_rules.proofs.Fit.{fits-fit, half}
+use Rattle.set_rules.specs.Words.{Set, tablesOf, lengthAt, slotsIn, headersIn, rootAt, firstAt, Bin, empty, moved, bad, list, tree}
+use Rattle.set_rules.specs.Words.{fits as setFits}
+use Rattle.set_rules.proofs.Fit.{fits-fit as set-fit, slots-are}
+use Rattle.set_rules.proofs.Naming.{ranges}
+use Rattle.set_rules.specs.Lookup.{hasPair, listed, homeBin, asked, forwarded, lookups}
+use Rattle.set_rules.specs.Cursor.{Cursor, Step, fineCursor}
+use Rattle.set_rules.specs.Walk.{Place, deepest, binHere, Sought, turned, sought, turnsIn, stepped, standing, walked, nexts}
 use Rattle.exports.specs.Words.{answerWord}
 use Rattle.exports.specs.Cursors.{cursorIn}
 use Rattle.exports.specs.Cursors.{walked as walkedWords}

@@ -6,10 +6,10 @@ use native.Mathlib.Omega.{arith}
 use lib.Dec.{eqb, leb}
 use Rattle.slots.specs.Words.{null, pick, left, right, cell}
 use Rattle.slots.specs.Answers.{refused}
-use Rattle.shape.specs.Find.{slotsOf}
-use Rattle.shape.specs.Check.{test, firstFrom, firstFailing, linksIn, Walk, passed, failed, strayed, onward, walked, walkAnswer, checked}
-use Rattle.demands.specs.Live.{Live, rootOf, fits}
-use Rattle.demands.specs.Check.{checks}
+use Rattle.tree_rules.specs.Find.{slotsOf}
+use Rattle.tree_rules.specs.Check.{test, firstFrom, firstFailing, linksIn, Walk, passed, failed, strayed, onward, walked, walkAnswer, checked}
+use Rattle.index_rules.specs.Live.{Live, rootOf, fits}
+use Rattle.index_rules.specs.Check.{checks}
 
 module _ (names cells : List ℕ) where
   first-most : (k t i : ℕ) → 1 ≤ t → suc (firstFrom k names cells t i) ≤ t + k

@@ -5,7 +5,7 @@ use Prim.Native.Nat.{ℕ, _+_, _*_}
 use lib.ListN.{length, getD, set}
 use borrow.Author.Tests.{eq-eqb, ne-eqb}
 use Rattle.slots.specs.Answers.{Answer}
-use Rattle.walks.specs.Cursor.{Cursor, Step}
+use Rattle.set_rules.specs.Cursor.{Cursor, Step}
 use Rattle.exports.specs.Words.{answerWord}
 use Rattle.exports.specs.Cursors.{cursorIn, written, kept, ofEleven}
 

@@ -2,7 +2,7 @@
 use mathlib.Core.Path.{_≡_, ap, _∙_}
 use Prim.Native.Nat.{ℕ}
 use Rattle.slots.specs.Answers.{Answer}
-use Rattle.demands.specs.Index.{Index, Outcome}
+use Rattle.index_rules.specs.Index.{Index, Outcome}
 use Rattle.exports.specs.Words.{answerWord, told}
 
 -- Of a call that writes: the outcome's answer becomes its word, what is left stays.

@@ -5,27 +5,28 @@ use mathlib.Core.Logic.{_↔_}
 use mathlib.Core.List.{List}
 use Prim.Native.Nat.{ℕ, _+_, _*_, _<_, _≤_}
 use lib.ListN.{length}
-use Rattle.slots.specs.Words.{null}
+use Rattle.slots.specs.Words.{null, mostSlots}
 use Rattle.slots.specs.Answers.{Answer, given, nothing, refused, OneAnswer}
-use Rattle.demands.specs.Live.{Live}
-use Rattle.demands.specs.Index.{Index}
-use Rattle.demands.specs.Find.{finds}
-use Rattle.demands.specs.Check.{checks}
-use Rattle.demands.specs.Sound.{sounds}
-use Rattle.demands.specs.Insert.{inserts}
-use Rattle.demands.specs.Remove.{removes}
-use Rattle.demands.specs.Rollback.{rolls}
-use Rattle.sets.specs.Words.{Set}
-use Rattle.sets.specs.Accepting.{accepts}
-use Rattle.walks.specs.Lookup.{lookups}
-use Rattle.walks.specs.Cursor.{Cursor}
-use Rattle.walks.specs.Walk.{nexts}
+use Rattle.index_rules.specs.Live.{Live}
+use Rattle.index_rules.specs.Index.{Index}
+use Rattle.index_rules.specs.Find.{finds}
+use Rattle.index_rules.specs.Check.{checks}
+use Rattle.index_rules.specs.Sound.{sounds}
+use Rattle.index_rules.specs.Insert.{inserts}
+use Rattle.index_rules.specs.Remove.{removes}
+use Rattle.index_rules.specs.Rollback.{rolls}
+use Rattle.index_rules.specs.Fresh.{freshes}
+use Rattle.set_rules.specs.Words.{Set}
+use Rattle.set_rules.specs.Accepting.{accepts}
+use Rattle.set_rules.specs.Lookup.{lookups}
+use Rattle.set_rules.specs.Cursor.{Cursor}
+use Rattle.set_rules.specs.Walk.{nexts}
 use Rattle.exports.specs.Words.{answerWord, checkWord, Told, told}
 use Rattle.exports.specs.Cursors.{cursorIn, Kept, started, walked}
 
 -- The word of an answer tells which it is: a slot given is below 4,096, so that null is Nothing or Done alone.
 pub record Tells (a : Answer) : Type 0 where
-  pub below : (slot : ℕ) → a ≡ given slot → slot < 4096
+  pub below : (slot : ℕ) → a ≡ given slot → slot < mostSlots
   pub at : (slot : ℕ) → slot < null → (answerWord a ≡ slot) ↔ (a ≡ given slot)
   pub none : (answerWord a ≡ null) ↔ (a ≡ nothing)
   pub refuses : (n : ℕ) → 1 ≤ n → (answerWord a ≡ 4294967296 * n) ↔ (a ≡ refused n)
@@ -45,6 +46,7 @@ pub record Claims : Type 0 where
   pub sound-one : (t : Live) → OneAnswer (λ (r : ℕ). r ≡ answerWord (sounds t))
   pub insert-one : (ix : Index) (hash key place : ℕ) → OneAnswer (λ (r : Told). r ≡ told (inserts ix hash key place))
   pub remove-one : (ix : Index) (hash key : ℕ) → OneAnswer (λ (r : Told). r ≡ told (removes ix hash key))
+  pub fresh-one : (ix : Index) → OneAnswer (λ (r : Told). r ≡ told (freshes ix))
   pub rollback-one : (ix : Index) (mark : ℕ) → OneAnswer (λ (r : Told). r ≡ told (rolls ix mark))
   pub accept-one : (s : Set) → OneAnswer (λ (r : ℕ). r ≡ answerWord (accepts s))
   pub lookup-one : (s : Set) (table hash key : ℕ) → OneAnswer (λ (r : ℕ). r ≡ answerWord (lookups s table hash key))

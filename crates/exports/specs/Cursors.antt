@@ -5,9 +5,9 @@ use lib.ListN.{length, getD, set}
 use lib.Dec.{eqb, ltb}
 use Rattle.slots.specs.Words.{pick}
 use Rattle.slots.specs.Answers.{refused}
-use Rattle.sets.specs.Words.{Set}
-use Rattle.walks.specs.Cursor.{Cursor, Step, starts}
-use Rattle.walks.specs.Walk.{nexts}
+use Rattle.set_rules.specs.Words.{Set}
+use Rattle.set_rules.specs.Cursor.{Cursor, Step, starts}
+use Rattle.set_rules.specs.Walk.{nexts}
 use Rattle.exports.specs.Words.{answerWord}
 
 -- "11 words: base table, depth, eight indexes, last slot"

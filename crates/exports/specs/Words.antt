@@ -3,7 +3,7 @@ use Prim.Native.Nat.{ℕ, _+_, _*_}
 use lib.Dec.{eqb}
 use Rattle.slots.specs.Words.{null, pick}
 use Rattle.slots.specs.Answers.{Answer, Value, none, some}
-use Rattle.demands.specs.Index.{Index, Outcome}
+use Rattle.index_rules.specs.Index.{Index, Outcome}
 
 -- The value beside a number: the one that comes with it, 0 with a refusal that has none, and bare where nothing comes with number 0.
 abbrev pub valued : ℕ → ℕ → Value → ℕ

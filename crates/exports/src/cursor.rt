@@ -1,8 +1,8 @@
 // A cursor as eleven words: base table, depth, eight indexes, last slot.
-use cursors::walk::Cursor;
+use sets::walk::Cursor;
 ghost use mathlib.Core.Path.{_≡_};
 ghost use lib.ListN.{getD, set};
-ghost use Rattle.cursors.specs.Answers.{cursorOf};
+ghost use Rattle.sets.specs.Cursors.{cursorOf};
 ghost use Rattle.exports.specs.Cursors.{cursorIn, written, kept};
 
 // Word k; 0 where there is none.

@@ -6,16 +6,17 @@ use crate::words::given_word;
 use crate::words::looked_word;
 use crate::words::started_word;
 use crate::words::word;
-use acceptance::accept::accept;
-use cursors::walk::Cursor;
-use tables::lookup::lookup;
+use sets::accept::accept;
+use sets::lookup::lookup;
+use sets::walk::Cursor;
 ghost use mathlib.Core.Path.{_≡_};
-ghost use Rattle.sets.specs.Words.{Set};
-ghost use Rattle.sets.specs.Accepting.{accepts};
-ghost use Rattle.walks.specs.Lookup.{lookups};
+ghost use Rattle.set_rules.specs.Words.{lentSet};
+ghost use Rattle.set_rules.specs.Accepting.{accepts};
+ghost use Rattle.set_rules.specs.Lookup.{lookups};
 ghost use Rattle.exports.specs.Words.{answerWord};
 ghost use Rattle.exports.specs.Cursors.{Kept, started, walked};
 
+// Whether a frozen set is accepted.
 #[no_mangle]
 pub extern "C" fn oz_accept(
     lengths: &[u32],
@@ -24,12 +25,15 @@ pub extern "C" fn oz_accept(
     names: &[u64],
     cells: &[u32],
 ) -> u64
-    ensures { λ r. ⌜ r ≡ answerWord (accepts (record { lengths = now (lengths .entry); bins = now (bins .entry); heads = now (heads .entry); names = now (names .entry); cells = now (cells .entry) })) ⌝ }
+    ensures { λ r. ⌜ r
+        ≡ answerWord (accepts
+        (lentSet (now (lengths .entry)) (now (bins .entry)) (now (heads .entry)) (now (names .entry)) (now (cells .entry)))) ⌝ }
 {
     let acceptance = accept(lengths, bins, heads, names, cells);
     accepted_word(acceptance)
 }
 
+// The slot of a frozen set that has a pair, from a table on.
 #[no_mangle]
 pub extern "C" fn oz_lookup(
     lengths: &[u32],
@@ -41,12 +45,16 @@ pub extern "C" fn oz_lookup(
     hash: u64,
     key: u64,
 ) -> u64
-    ensures { λ r. ⌜ r ≡ answerWord (lookups (record { lengths = now (lengths .entry); bins = now (bins .entry); heads = now (heads .entry); names = now (names .entry); cells = now (cells .entry) }) table hash key) ⌝ }
+    ensures { λ r. ⌜ r
+        ≡ answerWord (lookups
+        (lentSet (now (lengths .entry)) (now (bins .entry)) (now (heads .entry)) (now (names .entry))
+        (now (cells .entry))) table hash key) ⌝ }
 {
     let looked = lookup(lengths, bins, heads, names, cells, table, hash, key);
     looked_word(looked)
 }
 
+// A cursor at the first bin of a table, written into eleven words; a refused call leaves them as they were.
 #[no_mangle]
 pub extern "C" fn oz_start(
     lengths: &[u32],
@@ -57,7 +65,9 @@ pub extern "C" fn oz_start(
     table: u32,
     cursor: &mut [u32],
 ) -> u64
-    ensures { λ r. ⌜ record { word = r; cursor = now (cursor .exit) } ≡ started (record { lengths = now (lengths .entry); bins = now (bins .entry); heads = now (heads .entry); names = now (names .entry); cells = now (cells .entry) }) table (now (cursor .entry)) ⌝ }
+    ensures { λ r. ⌜ record { word = r; cursor = now (cursor .exit) }
+        ≡ started (lentSet (now (lengths .entry)) (now (bins .entry)) (now (heads .entry)) (now (names .entry))
+        (now (cells .entry))) table (now (cursor .entry)) ⌝ }
 {
     if cursor.len() != 11 {
         return word(1, 0);
@@ -70,6 +80,7 @@ pub extern "C" fn oz_start(
     told
 }
 
+// The next entry after a cursor of eleven words, which are then the new cursor; a refused call leaves them as they were.
 #[no_mangle]
 pub extern "C" fn oz_walk(
     lengths: &[u32],
@@ -79,7 +90,9 @@ pub extern "C" fn oz_walk(
     cells: &[u32],
     cursor: &mut [u32],
 ) -> u64
-    ensures { λ r. ⌜ record { word = r; cursor = now (cursor .exit) } ≡ walked (record { lengths = now (lengths .entry); bins = now (bins .entry); heads = now (heads .entry); names = now (names .entry); cells = now (cells .entry) }) (now (cursor .entry)) ⌝ }
+    ensures { λ r. ⌜ record { word = r; cursor = now (cursor .exit) }
+        ≡ walked (lentSet (now (lengths .entry)) (now (bins .entry)) (now (heads .entry)) (now (names .entry)) (now (cells .entry)))
+        (now (cursor .entry)) ⌝ }
 {
     if cursor.len() != 11 {
         return word(1, 0);

@@ -1,22 +1,24 @@
 // The word of each library answer.
-use acceptance::accept::Acceptance;
-use cursors::walk::Given;
-use cursors::walk::Started;
+use index::find::Found;
+use index::fresh::Freshness;
 use index::insert::Inserted;
 use index::remove::Removed;
-use live::find::Found;
-use live::sound::Soundness;
+use index::rollback::RolledBack;
+use index::sound::Soundness;
+use sets::accept::Acceptance;
+use sets::lookup::Looked;
+use sets::walk::Given;
+use sets::walk::Started;
 use slots::NULL;
-use tables::lookup::Looked;
-use undo::rollback::RolledBack;
 ghost use mathlib.Core.Path.{_≡_};
 ghost use Prim.Native.Nat.{_+_, _*_};
-ghost use Rattle.live.specs.Answers.{foundOf, soundOf};
-ghost use Rattle.index.specs.Answers.{insertedOf, removedOf};
-ghost use Rattle.undo.specs.Answers.{rolledOf};
-ghost use Rattle.acceptance.specs.Answers.{acceptOf};
-ghost use Rattle.tables.specs.Answers.{lookedOf};
-ghost use Rattle.cursors.specs.Answers.{startedOf, givenOf};
+ghost use Rattle.index.specs.Reads.{foundOf, soundOf};
+ghost use Rattle.index.specs.Calls.{insertedOf, removedOf};
+ghost use Rattle.index.specs.Fresh.{freshOf};
+ghost use Rattle.index.specs.Rolls.{rolledOf};
+ghost use Rattle.sets.specs.Verdicts.{acceptOf};
+ghost use Rattle.sets.specs.Lookups.{lookedOf};
+ghost use Rattle.sets.specs.Cursors.{startedOf, givenOf};
 ghost use Rattle.exports.specs.Words.{answerWord};
 
 pub(crate) fn word(number: u32, value: u32) -> u64
@@ -80,6 +82,15 @@ pub(crate) fn rolled_word(rolled: RolledBack) -> u64
         RolledBack::Damaged => word(2, 0),
         RolledBack::BadMark => word(7, 0),
         RolledBack::Misfit => word(8, 0),
+    }
+}
+
+pub(crate) fn fresh_word(made: Freshness) -> u64
+    ensures { λ r. ⌜ r ≡ answerWord (freshOf made) ⌝ }
+{
+    match made {
+        Freshness::Made => word(0, 1),
+        Freshness::Unfit => word(1, 0),
     }
 }
 

@@ -1,18 +1,36 @@
 // The live tree's entry points that write. A refusal writes nothing.
+use crate::words::fresh_word;
 use crate::words::inserted_word;
 use crate::words::removed_word;
 use crate::words::rolled_word;
+use index::fresh::fresh;
 use index::insert::insert;
 use index::remove::remove;
-use undo::rollback::rollback;
+use index::rollback::rollback;
 ghost use mathlib.Core.Path.{_≡_};
-ghost use Rattle.demands.specs.Live.{Live};
-ghost use Rattle.demands.specs.Index.{Index};
-ghost use Rattle.demands.specs.Insert.{inserts};
-ghost use Rattle.demands.specs.Remove.{removes};
-ghost use Rattle.demands.specs.Rollback.{rolls};
+ghost use Rattle.index_rules.specs.Index.{lent};
+ghost use Rattle.index_rules.specs.Fresh.{freshes};
+ghost use Rattle.index_rules.specs.Insert.{inserts};
+ghost use Rattle.index_rules.specs.Remove.{removes};
+ghost use Rattle.index_rules.specs.Rollback.{rolls};
 ghost use Rattle.exports.specs.Words.{Told, told};
 
+// An empty index is written into slices of fit lengths.
+#[no_mangle]
+pub extern "C" fn oz_fresh(
+    names: &mut [u64],
+    cells: &mut [u32],
+    head: &mut [u32],
+    lines: &mut [u64],
+) -> u64
+    ensures { λ r. ⌜ record { word = r; left = lent (now (names .exit)) (now (cells .exit)) (now (head .exit)) (now (lines .exit)) }
+        ≡ told (freshes (lent (now (names .entry)) (now (cells .entry)) (now (head .entry)) (now (lines .entry)))) ⌝ }
+{
+    let made = fresh(names, cells, head, lines);
+    fresh_word(made)
+}
+
+// A pair with its place joins the tree, and the journal takes a line.
 #[no_mangle]
 pub extern "C" fn oz_insert(
     names: &mut [u64],
@@ -23,12 +41,14 @@ pub extern "C" fn oz_insert(
     key: u64,
     place: u32,
 ) -> u64
-    ensures { λ r. ⌜ record { word = r; left = record { live = record { names = now (names .exit); cells = now (cells .exit); head = now (head .exit) }; lines = now (lines .exit) } } ≡ told (inserts (record { live = record { names = now (names .entry); cells = now (cells .entry); head = now (head .entry) }; lines = now (lines .entry) }) hash key place) ⌝ }
+    ensures { λ r. ⌜ record { word = r; left = lent (now (names .exit)) (now (cells .exit)) (now (head .exit)) (now (lines .exit)) }
+        ≡ told (inserts (lent (now (names .entry)) (now (cells .entry)) (now (head .entry)) (now (lines .entry))) hash key place) ⌝ }
 {
     let inserted = insert(names, cells, head, lines, hash, key, place);
     inserted_word(inserted)
 }
 
+// A pair leaves the tree, and the journal takes a line.
 #[no_mangle]
 pub extern "C" fn oz_remove(
     names: &mut [u64],
@@ -38,12 +58,14 @@ pub extern "C" fn oz_remove(
     hash: u64,
     key: u64,
 ) -> u64
-    ensures { λ r. ⌜ record { word = r; left = record { live = record { names = now (names .exit); cells = now (cells .exit); head = now (head .exit) }; lines = now (lines .exit) } } ≡ told (removes (record { live = record { names = now (names .entry); cells = now (cells .entry); head = now (head .entry) }; lines = now (lines .entry) }) hash key) ⌝ }
+    ensures { λ r. ⌜ record { word = r; left = lent (now (names .exit)) (now (cells .exit)) (now (head .exit)) (now (lines .exit)) }
+        ≡ told (removes (lent (now (names .entry)) (now (cells .entry)) (now (head .entry)) (now (lines .entry))) hash key) ⌝ }
 {
     let removed = remove(names, cells, head, lines, hash, key);
     removed_word(removed)
 }
 
+// The journal's lines above the mark are undone and cleared.
 #[no_mangle]
 pub extern "C" fn oz_rollback(
     names: &mut [u64],
@@ -52,7 +74,8 @@ pub extern "C" fn oz_rollback(
     lines: &mut [u64],
     mark: u32,
 ) -> u64
-    ensures { λ r. ⌜ record { word = r; left = record { live = record { names = now (names .exit); cells = now (cells .exit); head = now (head .exit) }; lines = now (lines .exit) } } ≡ told (rolls (record { live = record { names = now (names .entry); cells = now (cells .entry); head = now (head .entry) }; lines = now (lines .entry) }) mark) ⌝ }
+    ensures { λ r. ⌜ record { word = r; left = lent (now (names .exit)) (now (cells .exit)) (now (head .exit)) (now (lines .exit)) }
+        ≡ told (rolls (lent (now (names .entry)) (now (cells .entry)) (now (head .entry)) (now (lines .entry))) mark) ⌝ }
 {
     let rolled = rollback(names, cells, head, lines, mark);
     rolled_word(rolled)

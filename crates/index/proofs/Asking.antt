@@ -11,23 +11,23 @@ use denote.Enum.Declared.{tagOf}
 use Rattle.slots.specs.Words.{null, pick}
 use Rattle.slots.specs.Answers.{Answer, Value, some, none, given}
 use Rattle.slots.proofs.Laws.{given-is, number, value}
-use Rattle.shape.specs.Find.{found}
-use Rattle.shape.specs.Chain.{tally}
-use Rattle.demands.specs.Live.{Live, Fit, rootOf, countOf, capacityOf, fits}
-use Rattle.demands.specs.Sound.{Sound, used, sound, sounds}
-use Rattle.demands.specs.Index.{Index, FitIndex, Outcome, outcome, fitsIndex, fitsJournal, lengthOf}
-use Rattle.demands.specs.Insert.{soughtIn}
-use Rattle.demands.proofs.Fit.{both}
-use Rattle.demands.proofs.Journal.{fits-index}
-use Rattle.demands.proofs.Sounding.{yes-sound}
-use Rattle.live.specs.Answers.{soundOf}
-use Rattle.live.specs.declared.sound.Soundness.{Soundness}
-use Rattle.live.specs.declared.sound.Soundness.the-variants.{Yes, No, Unfit}
-use Rattle.live.proofs.sound.Soundness.{the-type as soundness}
-use Rattle.live.proofs.Slots.{used-one}
-use Rattle.index.specs.Answers.{fitnessOf}
-use Rattle.index.specs.declared.fit.Fitness.{Fitness}
-use Rattle.index.specs.declared.fit.Fitness.the-variants.{Fit as WordsFit, Unfit as WordsUnfit}
+use Rattle.tree_rules.specs.Find.{found}
+use Rattle.tree_rules.specs.Chain.{tally}
+use Rattle.index_rules.specs.Live.{Live, Fit, rootOf, countOf, capacityOf, fits}
+use Rattle.index_rules.specs.Sound.{Sound, used, sound, sounds}
+use Rattle.index_rules.specs.Index.{Index, FitIndex, Outcome, outcome, fitsIndex, fitsJournal, lengthOf}
+use Rattle.index_rules.specs.Insert.{soughtIn}
+use Rattle.index_rules.proofs.Fit.{both}
+use Rattle.index_rules.proofs.Journal.{fits-index}
+use Rattle.index_rules.proofs.Sounding.{yes-sound}
+use Rattle.index.specs.Reads.{soundOf}
+use Rattle.index.specs.declared.sound.Soundness.{Soundness}
+use Rattle.index.specs.declared.sound.Soundness.the-variants.{Yes, No, Unfit}
+use Rattle.index.proofs.sound.Soundness.{the-type as soundness}
+use Rattle.index.proofs.Slots.{used-one}
+use Rattle.index.specs.Calls.{fitnessOf}
+use Rattle.index.specs.declared.fit_index.Fitness.{Fitness}
+use Rattle.index.specs.declared.fit_index.Fitness.the-variants.{Fit as WordsFit, Unfit as WordsUnfit}
 use Rattle.tree.specs.Find.{answerOf}
 use Rattle.tree.specs.declared.find.Found.{Found}
 use Rattle.tree.specs.declared.find.Found.the-variants.{At, Nothing, Lost}

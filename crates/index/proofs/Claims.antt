@@ -1,82 +1,9 @@
--- Every claim of the crate holds: an answer is read back off its number and value, and the slices are those of the one outcome.
-use mathlib.Core.Path.{_≡_, refl, ap, sym, _∙_}
-use mathlib.Core.Bool.{true≢false}
-use mathlib.Core.List.{List}
-use Prim.Native.Nat.{ℕ}
-use lib.Dec.{eqb}
-use Rattle.slots.specs.Words.{pick}
-use Rattle.slots.specs.Answers.{Answer, Value, some, none}
-use Rattle.slots.proofs.Laws.{told-apart}
-use Rattle.demands.specs.Index.{Outcome}
-use Rattle.index.specs.Answers.{fitnessOf, insertedOf, removedOf}
-use Rattle.index.specs.Claims.{Call, outcomeOf, Claims}
-use Rattle.index.specs.declared.fit.Fitness.{Fitness}
-use Rattle.index.specs.declared.fit.Fitness.the-variants.{Fit, Unfit}
-use Rattle.index.specs.declared.insert.Inserted.{Inserted}
-use Rattle.index.specs.declared.insert.Inserted.the-variants.{At as InsertAt, Unfit as InsertUnfit, Damaged as InsertDamaged, Present, Full, JournalFull as InsertJournalFull}
-use Rattle.index.specs.declared.remove.Removed.{Removed}
-use Rattle.index.specs.declared.remove.Removed.the-variants.{At as RemoveAt, Unfit as RemoveUnfit, Damaged as RemoveDamaged, Absent, JournalFull as RemoveJournalFull}
-
-abbrev insertBack : ℕ → Value → Inserted
-insertBack number (some slot) = pick (eqb number 0) (InsertAt slot) (Present slot)
-insertBack number none =
-    pick (eqb number 1) InsertUnfit (pick (eqb number 2) InsertDamaged (pick (eqb number 5) Full InsertJournalFull))
-
-insert-back : (r : Inserted) → insertBack (insertedOf r .number) (insertedOf r .value) ≡ r
-insert-back (InsertAt slot) = refl
-insert-back InsertUnfit = refl
-insert-back InsertDamaged = refl
-insert-back (Present slot) = refl
-insert-back Full = refl
-insert-back InsertJournalFull = refl
-
-inserted-one-to-one : (a b : Inserted) → insertedOf a ≡ insertedOf b → a ≡ b
-inserted-one-to-one = told-apart insertedOf (λ a. insertBack (a .number) (a .value)) insert-back
-
-abbrev removeBack : ℕ → Value → Removed
-removeBack number (some slot) = RemoveAt slot
-removeBack number none =
-    pick (eqb number 1) RemoveUnfit (pick (eqb number 2) RemoveDamaged (pick (eqb number 4) Absent RemoveJournalFull))
-
-remove-back : (r : Removed) → removeBack (removedOf r .number) (removedOf r .value) ≡ r
-remove-back (RemoveAt slot) = refl
-remove-back RemoveUnfit = refl
-remove-back RemoveDamaged = refl
-remove-back Absent = refl
-remove-back RemoveJournalFull = refl
-
-removed-one-to-one : (a b : Removed) → removedOf a ≡ removedOf b → a ≡ b
-removed-one-to-one = told-apart removedOf (λ a. removeBack (a .number) (a .value)) remove-back
-
-fitness-one-to-one : (a b : Fitness) → fitnessOf a ≡ fitnessOf b → a ≡ b
-fitness-one-to-one Fit Fit e = refl
-fitness-one-to-one Fit Unfit e = absurd (true≢false e)
-fitness-one-to-one Unfit Fit e = absurd (true≢false (sym e))
-fitness-one-to-one Unfit Unfit e = refl
-
--- Calls whose outcomes are one are one.
-module _ {A : Type 0} (f : A → Answer) (apart : (a b : A) → f a ≡ f b → a ≡ b) where
-  call : {a b : A} {n c h l n′ c′ h′ l′ : List ℕ} → a ≡ b → n ≡ n′ → c ≡ c′ → h ≡ h′ → l ≡ l′
-      → _≡_ {A = Call A} (record { answer = a; names = n; cells = c; head = h; lines = l }) (record { answer = b; names = n′; cells = c′; head = h′; lines = l′ })
-  call e1 e2 e3 e4 e5 = rw (e1, e2, e3, e4, e5)
-
-  pub one : (o : Outcome) (c d : Call A) → outcomeOf f c ≡ o → outcomeOf f d ≡ o → c ≡ d
-  one o c d p q =
-      let e = p ∙ sym q in
-      call
-      (apart (c .answer) (d .answer) (ap (λ (w : Outcome). w .answer) e))
-      (ap (λ (w : Outcome). w .left .live .names) e)
-      (ap (λ (w : Outcome). w .left .live .cells) e)
-      (ap (λ (w : Outcome). w .left .live .head) e)
-      (ap (λ (w : Outcome). w .left .lines) e)
+-- Every claim of the crate holds.
+use Rattle.index.specs.Claims.{Claims}
+use Rattle.index.proofs.Reading.{reading}
+use Rattle.index.proofs.Driving.{driving}
+use Rattle.index.proofs.Calling.{calling}
+use Rattle.index.proofs.Restoring.{undoing}
 
 pub claims : Claims
-claims =
-    record {
-      inserted-one-to-one = inserted-one-to-one;
-      insert-one = λ ix hash key p c d. one insertedOf inserted-one-to-one _ c d;
-      removed-one-to-one = removed-one-to-one;
-      remove-one = λ ix hash key c d. one removedOf removed-one-to-one _ c d;
-      fitness-one-to-one = fitness-one-to-one;
-      fit-index-one = λ ix a b p q. fitness-one-to-one a b (p ∙ sym q);
-    }
+claims = record { reading = reading; driving = driving; calling = calling; undoing = undoing }

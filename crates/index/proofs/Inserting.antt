@@ -10,17 +10,17 @@ use types.Run.{OneOf}
 use denote.Enum.Declared.{tagOf}
 use Rattle.slots.specs.Words.{null}
 use Rattle.slots.specs.Answers.{Value, some, none, given, refused}
-use Rattle.demands.specs.Live.{Live, capacityOf}
-use Rattle.demands.specs.Sound.{sound}
-use Rattle.demands.specs.Index.{Index, index, outcome, fitsIndex, lengthOf, linesOf, appended}
-use Rattle.demands.specs.Insert.{freeFrom, lowestFree, soughtIn, grown, inserts}
-use Rattle.drivers.specs.Answers.{slotOf}
-use Rattle.index.specs.Answers.{insertedOf}
+use Rattle.index_rules.specs.Live.{Live, capacityOf}
+use Rattle.index_rules.specs.Sound.{sound}
+use Rattle.index_rules.specs.Index.{Index, index, outcome, fitsIndex, lengthOf, linesOf, appended}
+use Rattle.index_rules.specs.Insert.{freeFrom, lowestFree, soughtIn, grown, inserts}
+use Rattle.index.specs.Frees.{slotOf}
+use Rattle.index.specs.Calls.{insertedOf}
 use Rattle.index.specs.declared.insert.Inserted.{Inserted}
 use Rattle.index.specs.declared.insert.Inserted.the-variants.{At, Unfit, Damaged, Present, Full, JournalFull}
 use Rattle.index.proofs.insert.Inserted.{the-type}
 use Rattle.index.proofs.Asking.{Settled, refuses, accepts}
-use Rattle.drivers.proofs.Slots.{slot-some, slot-none}
+use Rattle.index.proofs.Room.{slot-some, slot-none}
 
 module _ (ix : Index) (hash key : ℕ) where
   abbrev t : Live

@@ -10,12 +10,12 @@ use types.Run.{OneOf}
 use denote.Enum.Declared.{tagOf}
 use Rattle.slots.specs.Words.{place, cell}
 use Rattle.slots.specs.Answers.{Value, some, none, given, refused}
-use Rattle.demands.specs.Live.{Live}
-use Rattle.demands.specs.Sound.{sound}
-use Rattle.demands.specs.Index.{Index, index, outcome, fitsIndex, lengthOf, linesOf, appended}
-use Rattle.demands.specs.Insert.{soughtIn}
-use Rattle.demands.specs.Remove.{shrunk, removes}
-use Rattle.index.specs.Answers.{removedOf}
+use Rattle.index_rules.specs.Live.{Live}
+use Rattle.index_rules.specs.Sound.{sound}
+use Rattle.index_rules.specs.Index.{Index, index, outcome, fitsIndex, lengthOf, linesOf, appended}
+use Rattle.index_rules.specs.Insert.{soughtIn}
+use Rattle.index_rules.specs.Remove.{shrunk, removes}
+use Rattle.index.specs.Calls.{removedOf}
 use Rattle.index.specs.declared.remove.Removed.{Removed}
 use Rattle.index.specs.declared.remove.Removed.the-variants.{At, Unfit, Damaged, Absent, JournalFull}
 use Rattle.index.proofs.remove.Removed.{the-type}

@@ -1,36 +1,11 @@
--- What crate `index` proves beside its contracts: its answers are told apart by their numbers and values, and each entry point has
--- one outcome, the answer with all that is left in the lent slices.
-use mathlib.Core.Path.{_≡_}
-use mathlib.Core.List.{List}
-use Prim.Native.Nat.{ℕ}
-use Rattle.slots.specs.Answers.{Answer, OneAnswer}
-use Rattle.demands.specs.Index.{Index, Outcome, fitsIndex}
-use Rattle.demands.specs.Insert.{inserts}
-use Rattle.demands.specs.Remove.{removes}
-use Rattle.index.specs.Answers.{fitnessOf, insertedOf, removedOf}
-use Rattle.index.specs.declared.fit.Fitness.{Fitness}
-use Rattle.index.specs.declared.insert.Inserted.{Inserted}
-use Rattle.index.specs.declared.remove.Removed.{Removed}
-
--- What a call returns, and the words of the four slices after it.
-pub record Call (A : Type 0) : Type 0 where
-  pub answer : A
-  pub names : List ℕ
-  pub cells : List ℕ
-  pub head : List ℕ
-  pub lines : List ℕ
-
-abbrev pub outcomeOf : {A : Type 0} → (A → Answer) → Call A → Outcome
-outcomeOf f c =
-    record {
-      answer = f (c .answer);
-      left = record { live = record { names = c .names; cells = c .cells; head = c .head }; lines = c .lines };
-    }
+-- What crate `index` proves, in one record. Every statement of the crate stands here or in a record that is named here.
+use Rattle.index.specs.Reading.{Reading}
+use Rattle.index.specs.Driving.{Driving}
+use Rattle.index.specs.Calling.{Calling}
+use Rattle.index.specs.Undoing.{Undoing}
 
 pub record Claims : Type 0 where
-  pub inserted-one-to-one : (a b : Inserted) → insertedOf a ≡ insertedOf b → a ≡ b
-  pub insert-one : (ix : Index) (hash key p : ℕ) → OneAnswer (λ c. outcomeOf insertedOf c ≡ inserts ix hash key p)
-  pub removed-one-to-one : (a b : Removed) → removedOf a ≡ removedOf b → a ≡ b
-  pub remove-one : (ix : Index) (hash key : ℕ) → OneAnswer (λ c. outcomeOf removedOf c ≡ removes ix hash key)
-  pub fitness-one-to-one : (a b : Fitness) → fitnessOf a ≡ fitnessOf b → a ≡ b
-  pub fit-index-one : (ix : Index) → OneAnswer (λ r. fitnessOf r ≡ fitsIndex ix)
+  pub reading : Reading
+  pub driving : Driving
+  pub calling : Calling
+  pub undoing : Undoing

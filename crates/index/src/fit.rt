@@ -1,26 +1,46 @@
-// Whether lent slices are a live tree's with its journal.
-use drivers::journal::fit_journal;
-use live::fit::fit;
+// Whether lent slices are a live tree's: their lengths, and a capacity of 1 to 4,096 slots.
+use slots::MOST_SLOTS;
+use slots::NULL;
 ghost use mathlib.Core.Path.{_≡_};
-ghost use Rattle.demands.specs.Live.{Live};
-ghost use Rattle.demands.specs.Index.{Index, fitsIndex};
-ghost use Rattle.index.specs.Answers.{fitnessOf};
+ghost use Prim.Native.Nat.{ℕ};
+ghost use lib.ListN.{getD};
+ghost use Rattle.slots.specs.Words.{null};
+ghost use Rattle.index_rules.specs.Live.{fits, lentTree};
+ghost use Rattle.index_rules.specs.Index.{lent};
 
-pub enum Fitness {
-    Fit,
-    Unfit,
+// The words of the header, by their place.
+pub const ROOT: usize = 0;
+
+pub const FIRST: usize = 1;
+
+pub const COUNT: usize = 2;
+
+// Whether the three slices are a live tree's: their lengths agree, and the capacity is 1 to 4,096.
+pub fn fit(names: &[u64], cells: &[u32], head: &[u32]) -> bool
+    ensures { λ r. ⌜ r ≡ fits (lentTree (now (names .entry)) (now (cells .entry)) (now (head .entry))) ⌝ }
+{
+    let n = names.len() / 2;
+    if n < 1 {
+        return false;
+    }
+    if MOST_SLOTS < n {
+        return false;
+    }
+    if names.len() != 2 * n {
+        return false;
+    }
+    if cells.len() != 7 * n {
+        return false;
+    }
+    if head.len() != 3 {
+        return false;
+    }
+    true
 }
 
-pub fn fit_index(names: &[u64], cells: &[u32], head: &[u32], lines: &[u64]) -> Fitness
-    ensures { λ r. ⌜ fitnessOf r ≡ fitsIndex (record { live = record { names = now (names .entry); cells = now (cells .entry); head = now (head .entry) }; lines = now (lines .entry) }) ⌝ }
+// Word k of the header; null where there is no such word.
+pub fn word(head: &[u32], k: usize) -> u32
+    ensures { λ r. ⌜ r ≡ getD (now (head .entry)) k null ⌝ }
 {
-    let tree = fit(names, cells, head);
-    if !tree {
-        return Fitness::Unfit;
-    }
-    let journal = fit_journal(lines);
-    if !journal {
-        return Fitness::Unfit;
-    }
-    Fitness::Fit
+    if k < head.len() { head[k] } else { NULL }
 }

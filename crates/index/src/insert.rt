@@ -1,37 +1,38 @@
 // insert: a pair with its place joins the tree, and the journal takes a line.
-use crate::fit::Fitness;
-use crate::fit::fit_index;
-use drivers::grow::Free;
-use drivers::grow::grow;
-use drivers::grow::lowest_free;
-use drivers::journal::INSERT;
-use drivers::journal::append;
-use drivers::journal::is_full;
-use live::fit::ROOT;
-use live::fit::word;
-use live::sound::Soundness;
-use live::sound::sound;
+use crate::fit::ROOT;
+use crate::fit::word;
+use crate::fit_index::Fitness;
+use crate::fit_index::fit_index;
+use crate::grow::Free;
+use crate::grow::grow;
+use crate::grow::lowest_free;
+use crate::journal::INSERT;
+use crate::journal::append;
+use crate::journal::is_full;
+use crate::sound::Soundness;
+use crate::sound::sound;
 use tree::find::Found;
 use tree::find::find_tree_node;
 ghost use mathlib.Core.Path.{_≡_};
 ghost use Prim.Native.Nat.{ℕ};
-ghost use Rattle.demands.specs.Live.{Live};
-ghost use Rattle.demands.specs.Index.{Index};
-ghost use Rattle.demands.specs.Insert.{inserts};
-ghost use Rattle.index.specs.Answers.{insertedOf};
+ghost use Rattle.index_rules.specs.Index.{lent, outcome};
+ghost use Rattle.index_rules.specs.Insert.{inserts};
+ghost use Rattle.index.specs.Calls.{insertedOf};
 
+// What insert answers, with the number of each refusal.
 pub enum Inserted {
-    At(u32),
-    Unfit,
-    Damaged,
-    Present(u32),
-    Full,
-    JournalFull,
+    At(u32), // the slot taken
+    Unfit, // 1
+    Damaged, // 2
+    Present(u32), // 3, with the slot that has the pair
+    Full, // 5
+    JournalFull, // 6
 }
 
 // What insert answers, before anything is written: the tests 1, 2, 3, 5, 6 in turn, else the slot that the pair takes.
 fn ask(names: &[u64], cells: &[u32], head: &[u32], lines: &[u64], hash: u64, key: u64) -> Inserted
-    ensures { λ r. ⌜ ((p : ℕ) → insertedOf r ≡ inserts (record { live = record { names = now (names .entry); cells = now (cells .entry); head = now (head .entry) }; lines = now (lines .entry) }) hash key p .answer) ⌝ }
+    ensures { λ r. ⌜ ((p : ℕ) → insertedOf r
+        ≡ inserts (lent (now (names .entry)) (now (cells .entry)) (now (head .entry)) (now (lines .entry))) hash key p .answer) ⌝ }
 {
     let fitness = fit_index(names, cells, head, lines);
     let Fitness::Fit = fitness else {
@@ -57,7 +58,7 @@ fn ask(names: &[u64], cells: &[u32], head: &[u32], lines: &[u64], hash: u64, key
     Inserted::Present(slot)
 }
 
-// A refusal writes nothing.
+// The pair (hash, key) with its place joins the tree, and the journal takes a line. A refusal writes nothing.
 pub fn insert(
     names: &mut [u64],
     cells: &mut [u32],
@@ -67,7 +68,8 @@ pub fn insert(
     key: u64,
     place: u32,
 ) -> Inserted
-    ensures { λ r. ⌜ record { answer = insertedOf r; left = record { live = record { names = now (names .exit); cells = now (cells .exit); head = now (head .exit) }; lines = now (lines .exit) } } ≡ inserts (record { live = record { names = now (names .entry); cells = now (cells .entry); head = now (head .entry) }; lines = now (lines .entry) }) hash key place ⌝ }
+    ensures { λ r. ⌜ outcome (insertedOf r) (lent (now (names .exit)) (now (cells .exit)) (now (head .exit)) (now (lines .exit)))
+        ≡ inserts (lent (now (names .entry)) (now (cells .entry)) (now (head .entry)) (now (lines .entry))) hash key place ⌝ }
 {
     let asked = ask(names, cells, head, lines, hash, key);
     let Inserted::At(x) = asked else {

@@ -1,4 +1,19 @@
-// insert and remove: a pair with its place joins a live tree or leaves it, and the journal takes a line.
+// The live index over lent slices: a tree of names and its journal (docs/RULES.md, sections 1 to 6).
+// What only reads: whether the slices fit, find, the source's check, the full check.
+pub mod check;
+pub mod find;
 pub mod fit;
+pub mod fit_index;
+pub mod sound;
+// How a pair joins a tree and leaves it once that is allowed, and the journal's words.
+pub mod fresh;
+pub mod grow;
+pub mod journal;
+pub mod shrink;
+// insert and remove: a pair with its place joins the tree or leaves it, and the journal takes a line.
 pub mod insert;
 pub mod remove;
+// rollback: what the journal's lines took in or out is taken back.
+mod backup;
+mod lines;
+pub mod rollback;

@@ -1,35 +1,36 @@
 // remove: a pair leaves the tree, and the journal takes a line.
-use crate::fit::Fitness;
-use crate::fit::fit_index;
-use drivers::journal::REMOVE;
-use drivers::journal::append;
-use drivers::journal::is_full;
-use drivers::shrink::shrink;
-use live::fit::ROOT;
-use live::fit::word;
-use live::sound::Soundness;
-use live::sound::sound;
+use crate::fit::ROOT;
+use crate::fit::word;
+use crate::fit_index::Fitness;
+use crate::fit_index::fit_index;
+use crate::journal::REMOVE;
+use crate::journal::append;
+use crate::journal::is_full;
+use crate::shrink::shrink;
+use crate::sound::Soundness;
+use crate::sound::sound;
 use slots::PLACE;
 use slots::get;
 use tree::find::Found;
 use tree::find::find_tree_node;
 ghost use mathlib.Core.Path.{_≡_};
-ghost use Rattle.demands.specs.Live.{Live};
-ghost use Rattle.demands.specs.Index.{Index};
-ghost use Rattle.demands.specs.Remove.{removes};
-ghost use Rattle.index.specs.Answers.{removedOf};
+ghost use Rattle.index_rules.specs.Index.{lent, outcome};
+ghost use Rattle.index_rules.specs.Remove.{removes};
+ghost use Rattle.index.specs.Calls.{removedOf};
 
+// What remove answers, with the number of each refusal.
 pub enum Removed {
-    At(u32),
-    Unfit,
-    Damaged,
-    Absent,
-    JournalFull,
+    At(u32), // the slot freed
+    Unfit, // 1
+    Damaged, // 2
+    Absent, // 4
+    JournalFull, // 6
 }
 
 // What remove answers, before anything is written: the tests 1, 2, 4, 6 in turn, else the slot that the pair frees.
 fn ask(names: &[u64], cells: &[u32], head: &[u32], lines: &[u64], hash: u64, key: u64) -> Removed
-    ensures { λ r. ⌜ removedOf r ≡ removes (record { live = record { names = now (names .entry); cells = now (cells .entry); head = now (head .entry) }; lines = now (lines .entry) }) hash key .answer ⌝ }
+    ensures { λ r. ⌜ removedOf r
+        ≡ removes (lent (now (names .entry)) (now (cells .entry)) (now (head .entry)) (now (lines .entry))) hash key .answer ⌝ }
 {
     let fitness = fit_index(names, cells, head, lines);
     let Fitness::Fit = fitness else {
@@ -51,7 +52,7 @@ fn ask(names: &[u64], cells: &[u32], head: &[u32], lines: &[u64], hash: u64, key
     Removed::At(x)
 }
 
-// A refusal writes nothing.
+// The pair (hash, key) leaves the tree, and the journal takes a line. A refusal writes nothing.
 pub fn remove(
     names: &mut [u64],
     cells: &mut [u32],
@@ -60,7 +61,8 @@ pub fn remove(
     hash: u64,
     key: u64,
 ) -> Removed
-    ensures { λ r. ⌜ record { answer = removedOf r; left = record { live = record { names = now (names .exit); cells = now (cells .exit); head = now (head .exit) }; lines = now (lines .exit) } } ≡ removes (record { live = record { names = now (names .entry); cells = now (cells .entry); head = now (head .entry) }; lines = now (lines .entry) }) hash key ⌝ }
+    ensures { λ r. ⌜ outcome (removedOf r) (lent (now (names .exit)) (now (cells .exit)) (now (head .exit)) (now (lines .exit)))
+        ≡ removes (lent (now (names .entry)) (now (cells .entry)) (now (head .entry)) (now (lines .entry))) hash key ⌝ }
 {
     let asked = ask(names, cells, head, lines, hash, key);
     let Removed::At(x) = asked else {

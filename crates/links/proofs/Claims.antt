@@ -1,6 +1,7 @@
--- Every claim of the crate holds: what equals one value is one value.
-use mathlib.Core.Path.{sym, _∙_}
+-- Every claim of the crate holds.
 use Rattle.links.specs.Claims.{Claims}
+use Rattle.links.proofs.OneBalance.{balancing}
+use Rattle.links.proofs.OneLink.{linking}
 
 pub claims : Claims
-claims = record { hang-slot-one = λ budget names s x hash key a b p q. p ∙ sym q; unlink-slot-one = λ budget s p a b f g. f ∙ sym g }
+claims = record { balancing = balancing; linking = linking }

@@ -1,12 +1,7 @@
--- What crate `links` proves beside its contracts: each public routine has one outcome.
-use mathlib.Core.Path.{_≡_}
-use mathlib.Core.List.{List}
-use Prim.Native.Nat.{ℕ}
-use Rattle.slots.specs.Answers.{OneAnswer}
-use Rattle.redblack.specs.Links.{Links}
-use Rattle.redblack.specs.Hanging.{inserted, placed}
-use Rattle.redblack.specs.Removal.{removed}
+-- What crate `links` proves, in one record. Every statement of the crate stands here or in a record that is named here.
+use Rattle.links.specs.Balancing.{Balancing}
+use Rattle.links.specs.Linking.{Linking}
 
 pub record Claims : Type 0 where
-  pub hang-slot-one : (budget : ℕ) (names : List ℕ) (s : Links) (x hash key : ℕ) → OneAnswer (λ t. t ≡ inserted budget s x (placed budget names s hash key))
-  pub unlink-slot-one : (budget : ℕ) (s : Links) (p : ℕ) → OneAnswer (λ t. t ≡ removed budget s p)
+  pub balancing : Balancing
+  pub linking : Linking

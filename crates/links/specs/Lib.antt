@@ -1,2 +1,5 @@
+pub mod Turns
+pub mod Balancing
 pub mod Spots
+pub mod Linking
 pub mod Claims

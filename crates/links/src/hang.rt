@@ -1,6 +1,6 @@
 // A slot is hung where the order of pairs says, and the tree is balanced.
+use crate::balance::balance_insertion;
 use crate::place::place;
-use balance::balance::balance_insertion;
 use slots::LEFT;
 use slots::NULL;
 use slots::PARENT;
@@ -9,10 +9,12 @@ use slots::put;
 ghost use mathlib.Core.Path.{_≡_};
 ghost use Prim.Native.Nat.{ℕ};
 ghost use Rattle.redblack.specs.Hanging.{spot, hooked, inserted, placed};
+ghost use Rattle.redblack.specs.Links.{lentLinks};
 
 // The slot x hangs at the spot, with no child. The root, whatever it is, stays.
 fn hook(cells: &mut [u32], x: u32, above: u32, side: u32)
-    ensures { λ _. ⌜ ((root : ℕ) → record { cells = now (cells .exit); root = root } ≡ hooked (record { cells = now (cells .entry); root = root }) x (spot above side)) ⌝ }
+    ensures { λ _. ⌜ ((root : ℕ) → lentLinks (now (cells .exit)) root
+        ≡ hooked (lentLinks (now (cells .entry)) root) x (spot above side)) ⌝ }
 {
     put(cells, x, PARENT, above);
     put(cells, x, LEFT, NULL);
@@ -31,7 +33,9 @@ pub fn hang_slot(
     key: u64,
     budget: u32,
 ) -> u32
-    ensures { λ top. ⌜ record { cells = now (cells .exit); root = top } ≡ inserted budget (record { cells = now (cells .entry); root = root }) x (placed budget (now (names .entry)) (record { cells = now (cells .entry); root = root }) hash key) ⌝ }
+    ensures { λ top. ⌜ lentLinks (now (cells .exit)) top
+        ≡ inserted budget (lentLinks (now (cells .entry)) root) x
+        (placed budget (now (names .entry)) (lentLinks (now (cells .entry)) root) hash key) ⌝ }
 {
     let at = place(names, cells, root, hash, key, budget);
     let above = at.above;

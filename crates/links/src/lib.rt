@@ -1,4 +1,7 @@
-// How a slot is hung in a tree's links and how it leaves them, each with its balancing.
+// One tree's links, written: how a slot is hung and how it leaves, each with the source's balancing. Rotations and balancing are private,
+// as in the source.
+mod balance;
 pub mod hang;
 mod place;
+mod rotate;
 pub mod unlink;

@@ -10,6 +10,7 @@ use slots::name;
 ghost use mathlib.Core.Path.{_≡_};
 ghost use Rattle.redblack.specs.Hanging.{sideFor, descended, placed};
 ghost use Rattle.links.specs.Spots.{spotOf};
+ghost use Rattle.redblack.specs.Links.{lentLinks};
 
 // The slot above, null where the tree is empty, and the field of the side to hang on.
 pub(crate) struct Spot {
@@ -64,7 +65,7 @@ pub(crate) fn place(
     key: u64,
     steps: u32,
 ) -> Spot
-    ensures { λ r. ⌜ spotOf r ≡ placed steps (now (names .entry)) (record { cells = now (cells .entry); root = root }) hash key ⌝ }
+    ensures { λ r. ⌜ spotOf r ≡ placed steps (now (names .entry)) (lentLinks (now (cells .entry)) root) hash key ⌝ }
 {
     if root == NULL {
         return Spot {

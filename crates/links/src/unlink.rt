@@ -1,5 +1,5 @@
 // A slot leaves the tree, and the tree is balanced.
-use balance::balance::balance_deletion;
+use crate::balance::balance_deletion;
 use slots::BLACK;
 use slots::LEFT;
 use slots::NULL;
@@ -14,10 +14,11 @@ ghost use mathlib.Core.Path.{_≡_};
 ghost use Prim.Native.Nat.{ℕ};
 ghost use Rattle.redblack.specs.Removal.{replaced, lowered, traded, replacement, spliced, detached, dropped, leftmost, removed};
 ghost use Rattle.links.specs.Spots.{relinked, rebalanced, blackened};
+ghost use Rattle.redblack.specs.Links.{lentLinks};
 
 // q's link to p leads to x: the left one where p stands on the left, else the right one. The root, whatever it is, stays.
 fn relink(cells: &mut [u32], q: u32, p: u32, x: u32)
-    ensures { λ _. ⌜ ((root : ℕ) → record { cells = now (cells .exit); root = root } ≡ relinked (record { cells = now (cells .entry); root = root }) q p x) ⌝ }
+    ensures { λ _. ⌜ ((root : ℕ) → lentLinks (now (cells .exit)) root ≡ relinked (lentLinks (now (cells .entry)) root) q p x) ⌝ }
 {
     if get(cells, q, LEFT) == p {
         put(cells, q, LEFT, x);
@@ -28,7 +29,7 @@ fn relink(cells: &mut [u32], q: u32, p: u32, x: u32)
 
 // q's child p is replaced by x; with no q, x is the root. Returns the root.
 fn replace(cells: &mut [u32], root: u32, q: u32, p: u32, x: u32) -> u32
-    ensures { λ top. ⌜ record { cells = now (cells .exit); root = top } ≡ replaced (record { cells = now (cells .entry); root = root }) q p x ⌝ }
+    ensures { λ top. ⌜ lentLinks (now (cells .exit)) top ≡ replaced (lentLinks (now (cells .entry)) root) q p x ⌝ }
 {
     if q == NULL {
         return x;
@@ -40,7 +41,7 @@ fn replace(cells: &mut [u32], root: u32, q: u32, p: u32, x: u32) -> u32
 // p goes where its successor t stands: under t where t is its right child pr, else under t's parent tp, and t takes the
 // right child. The root, whatever it is, stays.
 fn lower(cells: &mut [u32], p: u32, t: u32, pr: u32, tp: u32)
-    ensures { λ _. ⌜ ((root : ℕ) → record { cells = now (cells .exit); root = root } ≡ lowered (record { cells = now (cells .entry); root = root }) p t pr tp) ⌝ }
+    ensures { λ _. ⌜ ((root : ℕ) → lentLinks (now (cells .exit)) root ≡ lowered (lentLinks (now (cells .entry)) root) p t pr tp) ⌝ }
 {
     if t == pr {
         put(cells, p, PARENT, t);
@@ -56,7 +57,7 @@ fn lower(cells: &mut [u32], p: u32, t: u32, pr: u32, tp: u32)
 // With two children, successor and slot trade positions and colours. t is the successor; what is read is read before a
 // link changes. Returns the root.
 fn trade(cells: &mut [u32], root: u32, p: u32, t: u32) -> u32
-    ensures { λ top. ⌜ record { cells = now (cells .exit); root = top } ≡ traded (record { cells = now (cells .entry); root = root }) p t ⌝ }
+    ensures { λ top. ⌜ lentLinks (now (cells .exit)) top ≡ traded (lentLinks (now (cells .entry)) root) p t ⌝ }
 {
     let high = colour(cells, p);
     let low = colour(cells, t);
@@ -79,7 +80,7 @@ fn trade(cells: &mut [u32], root: u32, p: u32, t: u32) -> u32
 
 // The one child takes the slot's position, or the slot stands as its own replacement.
 fn replacement(cells: &[u32], p: u32) -> u32
-    ensures { λ r. ⌜ ((root : ℕ) → r ≡ replacement (record { cells = now (cells .entry); root = root }) p) ⌝ }
+    ensures { λ r. ⌜ ((root : ℕ) → r ≡ replacement (lentLinks (now (cells .entry)) root) p) ⌝ }
 {
     let low = get(cells, p, LEFT);
     if low == NULL {
@@ -94,7 +95,7 @@ fn replacement(cells: &[u32], p: u32) -> u32
 
 // The replacement x takes the position of p, and p keeps no link to the tree. Returns the root.
 fn splice(cells: &mut [u32], root: u32, p: u32, x: u32) -> u32
-    ensures { λ top. ⌜ record { cells = now (cells .exit); root = top } ≡ spliced (record { cells = now (cells .entry); root = root }) p x ⌝ }
+    ensures { λ top. ⌜ lentLinks (now (cells .exit)) top ≡ spliced (lentLinks (now (cells .entry)) root) p x ⌝ }
 {
     let pp = get(cells, p, PARENT);
     put(cells, x, PARENT, pp);
@@ -107,7 +108,7 @@ fn splice(cells: &mut [u32], root: u32, p: u32, x: u32) -> u32
 
 // The slot that stood as its own replacement leaves its parent; with none, the tree is empty. Returns the root.
 fn detach(cells: &mut [u32], root: u32, p: u32) -> u32
-    ensures { λ top. ⌜ record { cells = now (cells .exit); root = top } ≡ detached (record { cells = now (cells .entry); root = root }) p ⌝ }
+    ensures { λ top. ⌜ lentLinks (now (cells .exit)) top ≡ detached (lentLinks (now (cells .entry)) root) p ⌝ }
 {
     let pp = get(cells, p, PARENT);
     let top = replace(cells, root, pp, p, NULL);
@@ -118,7 +119,7 @@ fn detach(cells: &mut [u32], root: u32, p: u32) -> u32
 // If the removed slot is now black, balance_deletion starts at the replacement x. Where it is red, as redness says,
 // nothing is to be done. Returns the root.
 fn rebalance(cells: &mut [u32], root: u32, x: u32, redness: bool, budget: u32) -> u32
-    ensures { λ top. ⌜ record { cells = now (cells .exit); root = top } ≡ rebalanced budget (record { cells = now (cells .entry); root = root }) x redness ⌝ }
+    ensures { λ top. ⌜ lentLinks (now (cells .exit)) top ≡ rebalanced budget (lentLinks (now (cells .entry)) root) x redness ⌝ }
 {
     if redness {
         return root;
@@ -128,7 +129,7 @@ fn rebalance(cells: &mut [u32], root: u32, x: u32, redness: bool, budget: u32) -
 
 // A replacement that became the root is painted black.
 fn blacken(cells: &mut [u32], root: u32, x: u32)
-    ensures { λ _. ⌜ record { cells = now (cells .exit); root = root } ≡ blackened (record { cells = now (cells .entry); root = root }) x ⌝ }
+    ensures { λ _. ⌜ lentLinks (now (cells .exit)) root ≡ blackened (lentLinks (now (cells .entry)) root) x ⌝ }
 {
     if root == x {
         put(cells, x, STATE, BLACK);
@@ -138,7 +139,7 @@ fn blacken(cells: &mut [u32], root: u32, x: u32)
 // p, with at most one child, goes: its replacement takes its position, the tree is balanced, and a slot that stood as
 // its own replacement is detached. Returns the root.
 fn drop_slot(cells: &mut [u32], root: u32, p: u32, budget: u32) -> u32
-    ensures { λ top. ⌜ record { cells = now (cells .exit); root = top } ≡ dropped budget (record { cells = now (cells .entry); root = root }) p ⌝ }
+    ensures { λ top. ⌜ lentLinks (now (cells .exit)) top ≡ dropped budget (lentLinks (now (cells .entry)) root) p ⌝ }
 {
     let x = replacement(cells, p);
     let red = is_red(cells, p);
@@ -156,7 +157,7 @@ fn drop_slot(cells: &mut [u32], root: u32, p: u32, budget: u32) -> u32
 
 // The leftmost slot from q down, at most so many steps.
 fn leftmost(cells: &[u32], q: u32, budget: u32) -> u32
-    ensures { λ r. ⌜ ((root : ℕ) → r ≡ leftmost budget (record { cells = now (cells .entry); root = root }) q) ⌝ }
+    ensures { λ r. ⌜ ((root : ℕ) → r ≡ leftmost budget (lentLinks (now (cells .entry)) root) q) ⌝ }
 {
     let mut at = q;
     let mut rest = budget;
@@ -173,7 +174,7 @@ fn leftmost(cells: &[u32], q: u32, budget: u32) -> u32
 
 // The slot p leaves the tree, after it traded with its successor where it has two children. Returns the root.
 pub fn unlink_slot(cells: &mut [u32], root: u32, p: u32, budget: u32) -> u32
-    ensures { λ top. ⌜ record { cells = now (cells .exit); root = top } ≡ removed budget (record { cells = now (cells .entry); root = root }) p ⌝ }
+    ensures { λ top. ⌜ lentLinks (now (cells .exit)) top ≡ removed budget (lentLinks (now (cells .entry)) root) p ⌝ }
 {
     if get(cells, p, LEFT) == NULL {
         return drop_slot(cells, root, p, budget);

@@ -5,12 +5,13 @@ use Prim.Native.Nat.{ℕ, suc, _+_}
 use native.Mathlib.Omega.{arith}
 use Rattle.slots.specs.Words.{Colour, black, red, Side, leftward, rightward}
 use Rattle.redblack.specs.Links.{Links}
-use Rattle.shape.specs.Tree
-use Rattle.shape.specs.Tree.{leaf, node, Meets, Level, Calm, colour, blacks}
+use Rattle.tree_rules.specs.Tree
+use Rattle.tree_rules.specs.Tree.{leaf, node, Meets, Level, Calm, colour, blacks}
 use Rattle.redblack.specs.Sided
 use Rattle.redblack.specs.Sided.{Sided, bare, fork, count, Site, Way, plug}
-use Rattle.redblack.specs.Balance.{RedBlack, Wants, Part, Outcome, void, dark, rosy, blackPart, redPart}
+use Rattle.redblack.specs.Balance.{RedBlack, Wants, void, dark, rosy}
 use Rattle.redblack.specs.Holding.{Holds, RedBlackTree, plain}
+use Rattle.redblack.proofs.Ends.{Part, Outcome, blackPart, redPart}
 use Rattle.redblack.proofs.Frames.{cell-of, this-of, that-of}
 use Rattle.redblack.proofs.Order.{count-slots}
 use Rattle.redblack.proofs.Parts.{plug-black, part-of}

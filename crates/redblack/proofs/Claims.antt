@@ -13,12 +13,13 @@ use Rattle.slots.proofs.Laws.{pick-eq, cell-across}
 use Rattle.redblack.specs.Links.{Links, read, painted, isRed, done}
 use Rattle.redblack.specs.Rotate.{rotated}
 use Rattle.redblack.specs.Insertion.{insertionTurn, insertionTurns, balancedInsertion}
-use Rattle.shape.specs.Tree.{Tree}
+use Rattle.tree_rules.specs.Tree.{Tree}
 use Rattle.redblack.specs.Sided.{Sided, Way, fork, plug, slots, Site, home}
-use Rattle.redblack.specs.Balance.{Outcome, Mended, crown, void}
-use Rattle.redblack.specs.Kept.{Aside, on}
+use Rattle.redblack.specs.Balance.{Mended, crown, void}
+use Rattle.redblack.specs.Kept.{Aside}
 use Rattle.redblack.specs.Holding.{Holds, plain}
 use Rattle.redblack.specs.Claims.{PlainWords, Rotates, BalancesInsertion, BalancesDeletion, RemovesSlot, HangsSlot, Traps, Claims, spun}
+use Rattle.redblack.proofs.Ends.{Outcome, on}
 use Rattle.redblack.proofs.Frames.{cell-of, whole}
 use Rattle.redblack.proofs.Order.{slots-plug, around-spin}
 use Rattle.redblack.proofs.Depth.{depth}

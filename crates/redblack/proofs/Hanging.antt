@@ -11,10 +11,11 @@ use Rattle.slots.specs.Words.{null, parent, left, right, Colour, Side, toward, 
 use Rattle.slots.proofs.Laws.{length-write}
 use Rattle.redblack.specs.Links.{Links, read, rooted, painted}
 use Rattle.redblack.specs.Sided.{Sided, Way, top, upper, plug, slots, hit, count, countWay, Cap, Cell, Site, bare, fork, frame, none, some, home, via}
-use Rattle.redblack.specs.Balance.{RedBlack, Part, Outcome, void, dark, blackPart}
+use Rattle.redblack.specs.Balance.{RedBlack, void, dark}
 use Rattle.redblack.specs.Insertion.{insertionTurn, insertionTurns, balancedInsertion}
 use Rattle.redblack.specs.Hanging.{spot, hooked, inserted}
 use Rattle.redblack.specs.Kept.{Agree}
+use Rattle.redblack.proofs.Ends.{Part, Outcome, blackPart}
 use Rattle.redblack.proofs.Reading.{reads, roomy-cap, recap}
 use Rattle.redblack.proofs.Frames.{hit-same, hit-ne, apart, way-cell, way-tree, way-on, tree-frame, way-frame}
 use Rattle.redblack.proofs.Depth.{depth}

@@ -12,9 +12,10 @@ use Rattle.slots.specs.Words.{null, state, parent, Colour, code, Side, other, t
 use Rattle.slots.proofs.Laws.{length-write}
 use Rattle.redblack.specs.Links.{Links, read, rooted, painted, isRed, Turn, done, more}
 use Rattle.redblack.specs.Sided.{Sided, Way, top, plug, around, slots, count, countWay, Cap, Site, bare, fork, frame}
-use Rattle.redblack.specs.Balance.{RedBlack, Wants, Outcome, void, dark, rosy, atop, below, under}
+use Rattle.redblack.specs.Balance.{RedBlack, Wants, void, dark, rosy, atop, below, under}
 use Rattle.redblack.specs.Rotate.{rotated}
 use Rattle.redblack.specs.Insertion.{raised, straightened, lifted, insertionTurn, insertionTurns, balancedInsertion}
+use Rattle.redblack.proofs.Ends.{Outcome}
 use Rattle.redblack.proofs.Reading.{reads, roomy-cap, solid}
 use Rattle.redblack.proofs.Frames.{hit-same, apart, count-top, cell-of, way-cell, way-tree, way-on, outward, inward, turn, turn′, whole}
 use Rattle.redblack.proofs.Paint.{Repaints, three-painted, painting, painting-this, painting-that, turn-this, rooting}

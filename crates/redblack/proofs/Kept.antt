@@ -17,7 +17,8 @@ use Rattle.redblack.specs.Insertion.{raised, straightened, lifted, inser
 use Rattle.redblack.specs.Hanging.{Spot, hooked, inserted}
 use Rattle.redblack.specs.Deletion.{capped, settled, tucked, eased, sunk, deletionTurn, balancedDeletion}
 use Rattle.redblack.specs.Removal.{replaced, lowered, traded, replacement, spliced, detached, dropped, leftmost, removed}
-use Rattle.redblack.specs.Kept.{Link, Aside, Keeps, up, on}
+use Rattle.redblack.specs.Kept.{Aside, Keeps}
+use Rattle.redblack.proofs.Ends.{Link, up, on}
 use Rattle.redblack.proofs.Reading.{state-side}
 
 -- A read after a write gives what was written, or what was there.

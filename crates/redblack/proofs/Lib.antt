@@ -1,3 +1,4 @@
+pub mod Ends
 pub mod Reading
 pub mod Frames
 pub mod Paint

@@ -5,7 +5,8 @@ use mathlib.Core.List.{List, [], _∷_, _++_, append-assoc, append-nil}
 use Prim.Native.Nat.{ℕ}
 use Rattle.slots.specs.Words.{Colour, Side, leftward, rightward}
 use Rattle.redblack.specs.Sided.{Sided, Way, plug, slots, bare, fork, frame}
-use Rattle.redblack.specs.Balance.{Less, Beside}
+use Rattle.redblack.specs.Balance.{Less}
+use Rattle.redblack.proofs.Ends.{Beside}
 
 -- What stands left and right of a place.
 record Split (C : Way) : Type 0 where

@@ -4,8 +4,8 @@ use mathlib.Core.List.{List, [], _∷_, append-assoc}
 use Prim.Native.Nat.{ℕ, _+_}
 use native.Mathlib.Omega.{arith}
 use Rattle.slots.specs.Words.{Colour, Side, other, leftward, rightward}
-use Rattle.shape.specs.Tree.{times}
-use Rattle.shape.proofs.Counting.{times-append}
+use Rattle.tree_rules.specs.Tree.{times}
+use Rattle.tree_rules.proofs.Counting.{times-append}
 use Rattle.redblack.specs.Sided.{Sided, Way, plug, around, slots, hit, count, bare, fork, frame}
 
 pub slots-plug : (C : Way) (t u : Sided) → slots t ≡ slots u → slots (plug C t) ≡ slots (plug C u)

@@ -16,7 +16,8 @@ use Rattle.redblack.specs.Insertion.{balancedInsertion}
 use Rattle.redblack.specs.Hanging.{spot, hooked, inserted}
 use Rattle.redblack.specs.Deletion.{balancedDeletion}
 use Rattle.redblack.specs.Removal.{removed}
-use Rattle.redblack.specs.Kept.{Link, Agree, Absent, up, on}
+use Rattle.redblack.specs.Kept.{Agree, Absent}
+use Rattle.redblack.proofs.Ends.{Link, up, on}
 use Rattle.redblack.proofs.Reading.{reads, roomy-cap}
 use Rattle.redblack.proofs.Frames.{hit-same, hit-ne, apart, count-plug, whole}
 use Rattle.redblack.proofs.Hanging.{hooked-site, turns-first}

@@ -4,7 +4,8 @@ use mathlib.Core.List.{[], _∷_, _++_}
 use Prim.Native.Nat.{ℕ}
 use Rattle.slots.specs.Words.{Colour, Side, black}
 use Rattle.redblack.specs.Sided.{Sided, Way, plug, fork, frame}
-use Rattle.redblack.specs.Balance.{RedBlack, Wants, Part, crown, void, dark, rosy, atop, below, under, blackPart, redPart}
+use Rattle.redblack.specs.Balance.{RedBlack, Wants, crown, void, dark, rosy, atop, below, under}
+use Rattle.redblack.proofs.Ends.{Part, blackPart, redPart}
 
 pub crown-black : (C : Way) → crown C black ≡ black
 crown-black [] = refl

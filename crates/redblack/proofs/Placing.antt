@@ -14,12 +14,11 @@ use Rattle.slots.specs.Words.{null, pick, left, right, cell, nameOf, hashPart, 
 use Rattle.slots.specs.Pairs.{Pair, pair, pairOf, Less, before}
 use Rattle.slots.proofs.Order.{less-irreflexive, less-transitive, less-total}
 use Rattle.redblack.specs.Links.{Links, read}
-use Rattle.shape.specs.Tree.{Tree, leaf, node, slots, times, top, Hangs, Rising, Below, empty, rise, last}
+use Rattle.tree_rules.specs.Tree.{Tree, leaf, node, slots, times, top, Hangs, Rising, Below, empty, rise, last}
 use Rattle.redblack.specs.Sided.{Way, Site, hit, frame}
-use Rattle.redblack.specs.Balance.{Beside}
 use Rattle.redblack.specs.Hanging.{Spot, spot, sideFor, descended, placed}
-use Rattle.redblack.specs.Kept.{Link, on}
 use Rattle.redblack.specs.Holding.{Holds, Has, depth}
+use Rattle.redblack.proofs.Ends.{Beside, Link, on}
 use Rattle.redblack.proofs.Frames.{hit-same, hit-ne, inward, turn}
 use Rattle.redblack.proofs.Depth
 use Rattle.redblack.proofs.Bridge.{sided, sited}

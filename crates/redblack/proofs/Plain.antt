@@ -10,15 +10,16 @@ use Rattle.slots.specs.Words.{null, left, red, Side, leftward, rightward}
 use Rattle.slots.specs.Pairs.{pair, pairOf}
 use Rattle.slots.proofs.Laws.{cell-null}
 use Rattle.redblack.specs.Links.{Links, painted}
-use Rattle.shape.specs.Tree.{Tree, leaf, node, slots, Rising, empty, rise, last}
+use Rattle.tree_rules.specs.Tree.{Tree, leaf, node, slots, Rising, empty, rise, last}
 use Rattle.redblack.specs.Sided
 use Rattle.redblack.specs.Sided.{Way, plug, Site, Cap, frame}
-use Rattle.redblack.specs.Balance.{Part, Outcome, Less, Beside, With, void, atop, blackPart}
+use Rattle.redblack.specs.Balance.{Less, void, atop}
 use Rattle.redblack.specs.Insertion.{balancedInsertion}
 use Rattle.redblack.specs.Hanging.{spot, placed, inserted}
 use Rattle.redblack.specs.Removal.{removed}
 use Rattle.redblack.specs.Kept.{Agree}
 use Rattle.redblack.specs.Holding.{Holds, RedBlackTree, Hung, Has, Stands, Fresh, place, onLeft, onRight, depth}
+use Rattle.redblack.proofs.Ends.{Part, Outcome, Beside, With, blackPart}
 use Rattle.redblack.proofs.Frames.{inward, turn}
 use Rattle.redblack.proofs.Order.{slots-turn}
 use Rattle.redblack.proofs.Parts.{part-in, part-turn}

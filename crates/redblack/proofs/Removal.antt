@@ -13,10 +13,11 @@ use Rattle.slots.specs.Words.{null, state, parent, left, right, code, Colour, S
 use Rattle.slots.proofs.Laws.{length-write}
 use Rattle.redblack.specs.Links.{Links, read, stored, isRed}
 use Rattle.redblack.specs.Sided.{Sided, Way, top, upper, plug, slots, count, Cap, Site, bare, fork, none, home}
-use Rattle.redblack.specs.Balance.{Wants, Part, Outcome, void, dark, rosy, blackPart, redPart}
+use Rattle.redblack.specs.Balance.{Wants, void, dark, rosy}
 use Rattle.redblack.specs.Deletion.{balancedDeletion}
 use Rattle.redblack.specs.Removal.{replaced, replacement, spliced, detached, dropped}
-use Rattle.redblack.specs.Kept.{Agree, up}
+use Rattle.redblack.specs.Kept.{Agree}
+use Rattle.redblack.proofs.Ends.{Part, Outcome, blackPart, redPart, up}
 use Rattle.redblack.proofs.Reading.{reads, roomy-cap, recap, solid}
 use Rattle.redblack.proofs.Frames.{hit-same, apart, count-upper, upper-count, cell-of, this-of, agree-trans, Moved, whole, rehang, root-else, not-root}
 use Rattle.redblack.proofs.Paint.{Repaints, one-painted, painting}

@@ -8,8 +8,9 @@ use lib.Dec.{eqb}
 use Rattle.slots.specs.Words.{null, left, right, Colour, Side, black, leftward, rightward}
 use Rattle.redblack.specs.Links.{Links, read}
 use Rattle.redblack.specs.Sided.{Sided, Way, top, plug, slots, Site, bare, fork, frame}
-use Rattle.redblack.specs.Balance.{RedBlack, Part, Outcome, Less, Without}
+use Rattle.redblack.specs.Balance.{RedBlack, Less}
 use Rattle.redblack.specs.Removal.{traded, dropped, leftmost, removed}
+use Rattle.redblack.proofs.Ends.{Part, Outcome, Without}
 use Rattle.redblack.proofs.Reading.{solid}
 use Rattle.redblack.proofs.Frames.{cell-of, this-of, way-cell, inward, turn}
 use Rattle.redblack.proofs.Order.{slots-turn}

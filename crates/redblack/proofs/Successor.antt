@@ -9,8 +9,8 @@ use lib.Dec.{eqb}
 use Rattle.slots.specs.Words.{null, left, Colour, leftward, rightward}
 use Rattle.redblack.specs.Links.{Links, read}
 use Rattle.redblack.specs.Sided.{Sided, Way, plug, slots, Site, bare, fork, frame}
-use Rattle.redblack.specs.Balance.{Part}
 use Rattle.redblack.specs.Removal.{leftmost}
+use Rattle.redblack.proofs.Ends.{Part}
 use Rattle.redblack.proofs.Reading.{solid}
 use Rattle.redblack.proofs.Frames.{cell-of, this-of, inward, turn}
 use Rattle.redblack.proofs.Order.{slots-turn}

@@ -6,13 +6,14 @@ use Prim.Native.Nat.{ℕ, _<_, _≤_}
 use native.Mathlib.Omega.{arith}
 use native.Mathlib.Decide.{ℕ-discrete, decLe}
 use Rattle.slots.specs.Words.{null, Colour, Side, other, toward, red, leftward, rightward}
-use Rattle.shape.specs.Tree.{times}
+use Rattle.tree_rules.specs.Tree.{times}
 use Rattle.redblack.specs.Links.{Links, read}
 use Rattle.redblack.specs.Sided.{Sided, Way, plug, slots, count, countWay, Site, bare, fork}
-use Rattle.redblack.specs.Balance.{Part, Outcome, With, Without, atop, blackPart}
+use Rattle.redblack.specs.Balance.{atop}
 use Rattle.redblack.specs.Hanging.{spot, inserted}
 use Rattle.redblack.specs.Removal.{removed}
 use Rattle.redblack.specs.Kept.{Agree}
+use Rattle.redblack.proofs.Ends.{Part, Outcome, With, Without, blackPart}
 use Rattle.redblack.proofs.Frames.{hit-ne, count-plug, cell-of, this-of, inward, turn, turn′}
 use Rattle.redblack.proofs.Order.{slots-turn, count-slots}
 use Rattle.redblack.proofs.Lists.{beside}

@@ -4,7 +4,7 @@ use mathlib.Core.List.{List, [], _∷_, _++_}
 use Prim.Native.Nat.{ℕ, suc}
 use Rattle.slots.specs.Words.{Side, Colour, black, red}
 use Rattle.redblack.specs.Links.{Links}
-use Rattle.redblack.specs.Sided.{Sided, bare, fork, frame, Way, plug, around, slots, Site}
+use Rattle.redblack.specs.Sided.{Sided, bare, fork, frame, Way, plug, slots, Site}
 
 -- `RedBlack c h t`: the tree t has the colour c at its top (black where it is bare), every way down it meets h black slots,
 -- and no red slot is a child of a red one.
@@ -20,23 +20,10 @@ pub data Wants : ℕ → Colour → Way → Type 0 where
   below : {h : ℕ} {c d : Colour} {σ : Side} {i : ℕ} {b : Sided} {C : Way} → Wants (suc h) c C → RedBlack d h b → Wants h black (frame σ black i b ∷ C)
   under : {h : ℕ} {σ : Side} {i : ℕ} {b : Sided} {C : Way} → Wants h black C → RedBlack black h b → Wants h red (frame σ red i b ∷ C)
 
--- What a red-black whole says of the part t at the end of the way C: it is black, or it is red and the slot above it black.
-pub data Part (C : Way) (t : Sided) : Type 0 where
-  blackPart : {h : ℕ} {c : Colour} → Wants h c C → RedBlack black h t → Part C t
-  redPart : {h : ℕ} → Wants h black C → RedBlack red h t → Part C t
-
 -- The colour of a slot that comes up to the end of the way: at the root's place it is black.
 abbrev pub crown : Way → Colour → Colour
 crown [] c = black
 crown (f ∷ C) c = c
-
--- The links s hold a whole tree that is red-black with a black root, and its slots from left to right are l.
-pub record Outcome (n : ℕ) (s : Links) (l : List ℕ) : Type 0 where
-  pub tree : Sided
-  pub height : ℕ
-  pub site : Site n s [] tree
-  pub sound : RedBlack black height tree
-  pub same : slots tree ≡ l
 
 -- The part t in view is one black short at the end of C. g is what it counts as: t itself, or nothing where t is the slot about to go.
 -- The links s hold t at the end of a new way, which makes a red-black whole with g, and any tree v in that place has the same neighbours.
@@ -53,22 +40,3 @@ pub record Less (p : ℕ) (l k : List ℕ) : Type 0 where
   pub after : List ℕ
   pub whole : l ≡ before ++ (p ∷ after)
   pub rest : k ≡ before ++ after
-
--- The list k is l with x put in next to q, on its side σ.
-pub record Beside (σ : Side) (q x : ℕ) (l k : List ℕ) : Type 0 where
-  pub before : List ℕ
-  pub after : List ℕ
-  pub was : l ≡ before ++ (q ∷ after)
-  pub now : k ≡ before ++ (around σ (x ∷ []) q [] ++ after)
-
--- The links s hold a whole red-black tree whose slots are l with x next to q, on its side σ.
-pub record With (n : ℕ) (s : Links) (σ : Side) (q x : ℕ) (l : List ℕ) : Type 0 where
-  pub all : List ℕ
-  pub outcome : Outcome n s all
-  pub beside : Beside σ q x l all
-
--- The links s hold a whole red-black tree whose slots are l without p.
-pub record Without (n : ℕ) (s : Links) (p : ℕ) (l : List ℕ) : Type 0 where
-  pub others : List ℕ
-  pub outcome : Outcome n s others
-  pub less : Less p l others

@@ -13,7 +13,7 @@ use Rattle.redblack.specs.Insertion.{insertionTurn, balancedInsertion}
 use Rattle.redblack.specs.Deletion.{deletionTurn, balancedDeletion}
 use Rattle.redblack.specs.Removal.{removed}
 use Rattle.redblack.specs.Hanging.{placed, inserted}
-use Rattle.shape.specs.Tree.{Tree, slots, Rising, Meets}
+use Rattle.tree_rules.specs.Tree.{Tree, slots, Rising, Meets}
 use Rattle.redblack.specs.Sided.{Sided, bare, fork, Frame, Way, plug, slots as listed, Site}
 use Rattle.redblack.specs.Balance.{RedBlack, Wants, Mended, Less, crown}
 use Rattle.redblack.specs.Kept.{Aside, Keeps, Agree, Absent}

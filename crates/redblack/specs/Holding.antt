@@ -6,7 +6,7 @@ use lib.ListN.{length}
 use Rattle.slots.specs.Words.{null, Colour, red, leftward, rightward}
 use Rattle.slots.specs.Pairs.{pair, pairOf}
 use Rattle.redblack.specs.Links.{Links}
-use Rattle.shape.specs.Tree.{Tree, leaf, node, slots, times, Rooted, Coloured, Level}
+use Rattle.tree_rules.specs.Tree.{Tree, leaf, node, slots, times, Rooted, Coloured, Level}
 use Rattle.redblack.specs.Sided.{Sided, bare, fork}
 
 -- The cells are those of n slots, null is none of them, and the words reached from the root are those of t.

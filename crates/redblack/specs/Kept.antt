@@ -5,14 +5,9 @@ use mathlib.Core.Bool.{true, false}
 use Prim.Native.Nat.{ℕ}
 use lib.ListN.{length}
 use lib.Dec.{eqb, ltb}
-use Rattle.slots.specs.Words.{null, fields, state, parent, left, right, Side, toward}
+use Rattle.slots.specs.Words.{null, fields, state, parent, left, right}
 use Rattle.redblack.specs.Links.{Links, read}
 use Rattle.redblack.specs.Sided.{Sided, count}
-
--- The field g is a link of the tree: up, or toward a side.
-pub data Link : ℕ → Type 0 where
-  up : Link parent
-  on : (σ : Side) → Link (toward σ)
 
 -- The field f is place, prev or next: neither the state nor a link.
 pub record Aside (f : ℕ) : Type 0 where

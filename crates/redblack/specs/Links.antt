@@ -9,6 +9,10 @@ pub record Links : Type 0 where
   pub cells : List ℕ
   pub root : ℕ
 
+-- The links that a lent slice of cells has with a root.
+abbrev pub lentLinks : List ℕ → ℕ → Links
+lentLinks cells root = record { cells = cells; root = root }
+
 abbrev pub read : Links → ℕ → ℕ → ℕ
 read s i f = cell (s .cells) i f
 

@@ -1,4 +1,4 @@
--- A slot leaves the tree, as 01 condenses the JDK's drivers. The chain and the slot's own words are the live tree's.
+-- A slot leaves the tree, by the JDK's drivers as the rules condense them. The chain and the slot's own words are the live tree's.
 use Prim.Native.Nat.{ℕ, zero, suc}
 use lib.Dec.{eqb}
 use Rattle.slots.specs.Words.{null, pick, parent, left, right, black}

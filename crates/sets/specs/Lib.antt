@@ -1,4 +1,10 @@
-pub mod Words
-pub mod Accepted
-pub mod Accepting
+pub mod Bins
+pub mod Binning
+pub mod Verdicts
+pub mod Room
+pub mod Judging
+pub mod Lookups
+pub mod Looking
+pub mod Cursors
+pub mod Stepping
 pub mod Claims

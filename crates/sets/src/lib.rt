@@ -1,1 +1,15 @@
-// No code: what the live tree's entry points answer and leave, and the theorems that say that this is right, stand in specs/ and proofs/.
+// Frozen sets over lent slices (docs/RULES.md, section 7).
+// The words: whether the slices fit, and what bins and headers say.
+pub mod bin;
+pub mod fit;
+// Acceptance.
+pub mod accept;
+mod below;
+mod headers;
+mod lists;
+mod trees;
+// lookup: the slot that has a pair.
+pub mod lookup;
+// The walk: a cursor that start makes and next moves on.
+mod place;
+pub mod walk;

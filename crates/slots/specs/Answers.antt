@@ -1,4 +1,4 @@
--- What a public routine answers, as 01 numbers it.
+-- What a public routine answers, as the rules number it.
 use mathlib.Core.Path.{_≡_}
 use Prim.Native.Nat.{ℕ}
 
@@ -7,7 +7,7 @@ pub data Value : Type 0 where
   none : Value
   some : ℕ → Value
 
--- 01's number, 0 where the call is not refused, and the value that comes with it.
+-- The number of the rules, 0 where the call is not refused, and the value that comes with it.
 pub record Answer : Type 0 where
   pub number : ℕ
   pub value : Value

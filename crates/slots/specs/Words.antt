@@ -9,6 +9,21 @@ abbrev pub pick : {A : Type 0} → Bool → A → A → A
 pick true a b = a
 pick false a b = b
 
+-- Two tests one after the other.
+infixr 30 _and_
+abbrev pub _and_ : Bool → Bool → Bool
+a and b = pick a b false
+
+-- The limits: slots of a tree or a set, also headers and the bins of a table; lines of a journal; the names of so many slots.
+abbrev pub mostSlots : ℕ
+mostSlots = 4096
+
+abbrev pub mostLines : ℕ
+mostLines = 1024
+
+abbrev pub mostNames : ℕ
+mostNames = 8192
+
 -- "Null is 4,294,967,295."
 abbrev pub null : ℕ
 null = 4294967295

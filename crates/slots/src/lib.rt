@@ -8,6 +8,15 @@ ghost use Rattle.slots.specs.Pairs.{before};
 
 pub const NULL: u32 = 4294967295;
 
+// The limits: slots of a tree or a set, lines of a journal; the names and cells of so many slots.
+pub const MOST_SLOTS: usize = 4096;
+
+pub const MOST_LINES: usize = 1024;
+
+pub const MOST_NAMES: usize = 8192;
+
+pub const MOST_CELLS: usize = 28672;
+
 // The fields of a slot, by their place in its seven words.
 pub const PLACE: u32 = 0;
 

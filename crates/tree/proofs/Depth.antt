@@ -12,9 +12,9 @@ use borrow.Author.Tests.{eqb-true, eqb-false, eq-eqb, ne-eqb, ltb-false}
 use Rattle.slots.specs.Words.{null, pick, state, left, right, cell}
 use Rattle.slots.specs.Answers.{Value, none, some}
 use Rattle.slots.proofs.Laws.{some-is}
-use Rattle.shape.specs.Find.{slotsOf}
-use Rattle.shape.specs.Rules.{then, stands, reached, risen, calmed, levelled, quietly}
-use Rattle.shape.proofs.Reaching.{refuted}
+use Rattle.tree_rules.specs.Find.{slotsOf}
+use Rattle.tree_rules.specs.Rules.{then, stands, reached, risen, calmed, levelled, quietly}
+use Rattle.tree_rules.proofs.Reaching.{refuted}
 use Rattle.tree.proofs.Ruling.{rise-null, calm-null, level-null}
 use Rattle.tree.specs.Rules.{Judged, breaks, together, judged, deepestOf}
 

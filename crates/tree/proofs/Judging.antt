@@ -9,10 +9,10 @@ use lib.Dec.{eqb}
 use borrow.Author.Tests.{eq-eqb, ne-eqb}
 use Rattle.slots.specs.Words.{null, pick, state, left, right, cell}
 use Rattle.slots.specs.Answers.{Value, none, some}
-use Rattle.shape.specs.Find.{slotsOf}
-use Rattle.shape.specs.Rules.{then, isSome, stands, reached, follows, risen, calmed, levelled, rises, coloured, level, obeyed, quietly}
-use Rattle.shape.proofs.Sizing.{obeyed-each}
-use Rattle.shape.proofs.Visits.{reached-within, reached-fuel, reach-null, reach-outside, reach-spent, reach-wrong, reach-on}
+use Rattle.tree_rules.specs.Find.{slotsOf}
+use Rattle.tree_rules.specs.Rules.{then, isSome, stands, reached, follows, risen, calmed, levelled, rises, coloured, level, obeyed, quietly}
+use Rattle.tree_rules.proofs.Sizing.{obeyed-each}
+use Rattle.tree_rules.proofs.Visits.{reached-within, reached-fuel, reach-null, reach-outside, reach-spent, reach-wrong, reach-on}
 use Rattle.tree.specs.Rules.{Judged, obeys, breaks, together, judged, deepestOf}
 use Rattle.tree.proofs.Depth.{no-rise, no-calm, no-level, deepest-enough}
 use Rattle.tree.proofs.Ruling.{rise-null, rise-zero, rise-on, calm-null, calm-on, level-null, level-on, level-bound}

@@ -11,8 +11,8 @@ use borrow.Author.Tests.{eq-eqb, ne-eqb}
 use Rattle.slots.specs.Words.{null, pick, state, left, right, cell}
 use Rattle.slots.specs.Answers.{Value, none, some}
 use Rattle.slots.proofs.Laws.{some-is}
-use Rattle.shape.specs.Rules.{then, follows, risen, calmed, levelled, quietly}
-use Rattle.shape.proofs.Reaching.{refuted}
+use Rattle.tree_rules.specs.Rules.{then, follows, risen, calmed, levelled, quietly}
+use Rattle.tree_rules.proofs.Reaching.{refuted}
 
 module _ (names cells : List ℕ) (m i : ℕ) where
   pub rise-null : (depth : ℕ) → i ≡ null → some m ≡ risen depth names cells m i

@@ -10,8 +10,8 @@ use lib.Dec.{eqb, ltb}
 use borrow.Author.Tests.{lt-ltb, le-ltb, ltb-false, eqb-true, eqb-false}
 use Rattle.slots.specs.Words.{null, pick, left, right, cell, nameOf, hashPart, keyPart}
 use Rattle.slots.specs.Answers.{Answer, given, nothing, refused}
-use Rattle.shape.specs.Find.{Look, here, on, byKey, decided, looked, Search, after, slotsOf, searched}
-use Rattle.shape.proofs.Searching.{at-null, out-of-range, visits-spent, at-slot}
+use Rattle.tree_rules.specs.Find.{Look, here, on, byKey, decided, looked, Search, after, slotsOf, searched}
+use Rattle.tree_rules.proofs.Searching.{at-null, out-of-range, visits-spent, at-slot}
 
 -- A look at a slot of another hash takes the side, at one of the same hash the keys decide.
 module _ (names cells : List ℕ) (p hash key : ℕ) where

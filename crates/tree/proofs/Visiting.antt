@@ -7,9 +7,9 @@ use Prim.Native.Nat.{ℕ, zero, suc, _<_, _≤_, _-_}
 use native.Mathlib.Numerals.{sub-one}
 use native.Mathlib.Omega.{arith}
 use Rattle.slots.specs.Words.{null, left, right, cell}
-use Rattle.shape.specs.Find.{slotsOf}
-use Rattle.shape.specs.Check.{linksIn, firstFailing, Walk, passed, failed, strayed, onward, walked}
-use Rattle.shape.proofs.Walking.{walk-null, walk-outside, walk-spent, walk-loose, walk-fails, walk-on, walked-fuel, walked-within}
+use Rattle.tree_rules.specs.Find.{slotsOf}
+use Rattle.tree_rules.specs.Check.{linksIn, firstFailing, Walk, passed, failed, strayed, onward, walked}
+use Rattle.tree_rules.proofs.Walking.{walk-null, walk-outside, walk-spent, walk-loose, walk-fails, walk-on, walked-fuel, walked-within}
 
 -- A visit whose tests pass goes on with the left subtree.
 left-first : (names cells : List ℕ) (i v : ℕ) → i ≢ null → i < slotsOf names → v ≢ 0 → linksIn (slotsOf names) cells i ≡ true → firstFailing names cells i ≡ 0

@@ -4,13 +4,13 @@ use mathlib.Core.List.{List}
 use Prim.Native.Nat.{ℕ}
 use Rattle.slots.specs.Words.{null}
 use Rattle.slots.specs.Answers.{OneAnswer}
-use Rattle.shape.specs.Rules.{obeyed, treeSize}
-use Rattle.shape.specs.Chain.{chained}
+use Rattle.tree_rules.specs.Rules.{obeyed, treeSize}
+use Rattle.tree_rules.specs.Chain.{chained}
 use Rattle.tree.specs.Rules.{restOf, sizeOf}
 use Rattle.tree.specs.declared.rules.Rest.{Rest}
 use Rattle.tree.specs.declared.rules.Size.{Size}
-use Rattle.shape.specs.Find.{found}
-use Rattle.shape.specs.Check.{checked, inRange, linksIn}
+use Rattle.tree_rules.specs.Find.{found}
+use Rattle.tree_rules.specs.Check.{checked, inRange, linksIn}
 use Rattle.tree.specs.Find.{answerOf}
 use Rattle.tree.specs.Check.{checkedOf}
 use Rattle.tree.specs.declared.check.Checked.{Checked}

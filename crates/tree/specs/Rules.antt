@@ -5,8 +5,8 @@ use Prim.Native.Nat.{ℕ}
 use lib.Dec.{ltb}
 use Rattle.slots.specs.Words.{pick}
 use Rattle.slots.specs.Answers.{Value, none, some}
-use Rattle.shape.specs.Find.{slotsOf}
-use Rattle.shape.specs.Rules.{reached, risen, calmed, levelled}
+use Rattle.tree_rules.specs.Find.{slotsOf}
+use Rattle.tree_rules.specs.Rules.{reached, risen, calmed, levelled}
 use Rattle.tree.specs.declared.rules.Rest.{Rest}
 use Rattle.tree.specs.declared.rules.Rest.the-variants.{Left, Wrong}
 use Rattle.tree.specs.declared.rules.Size.{Size}

@@ -6,7 +6,7 @@ use slots::PREV;
 use slots::get;
 ghost use mathlib.Core.Path.{_≡_};
 ghost use Rattle.slots.specs.Words.{null};
-ghost use Rattle.shape.specs.Chain.{chained};
+ghost use Rattle.tree_rules.specs.Chain.{chained};
 ghost use Rattle.tree.specs.Rules.{restOf};
 
 // The visits left of n, one a slot, after the chain from first; or that prev does not lead back, or the chain does not end.

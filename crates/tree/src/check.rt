@@ -10,9 +10,9 @@ use slots::get;
 use slots::is_red;
 use slots::name;
 ghost use mathlib.Core.Path.{_≡_};
-ghost use Rattle.shape.specs.Find.{slotsOf};
+ghost use Rattle.tree_rules.specs.Find.{slotsOf};
 ghost use Rattle.tree.specs.Check.{walkOf, checkedOf};
-ghost use Rattle.shape.specs.Check.{pointsBack, isChild, leftHash, rightHash, notAllRed, firstFailing, inRange, linksIn, walked, checked};
+ghost use Rattle.tree_rules.specs.Check.{pointsBack, isChild, leftHash, rightHash, notAllRed, firstFailing, inRange, linksIn, walked, checked};
 
 // The neighbour of i along the field f, if any, points back to i along the field g.
 fn points_back(cells: &[u32], i: u32, f: u32, g: u32) -> bool
@@ -223,10 +223,11 @@ fn visit(names: &[u64], cells: &[u32], i: u32, visits: usize) -> Walk
     }
 }
 
+// What the source's check of one tree answers.
 pub enum Checked {
     Passes,
     Fails(u32, u32),
-    Lost,
+    Lost, // 9
 }
 
 // The first failing test with its slot, or that all pass. Lost where the root or one of a visited slot's five links is out of

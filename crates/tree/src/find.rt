@@ -11,7 +11,7 @@ ghost use lib.ListN.{length};
 ghost use lib.Dec.{eqb, ltb};
 ghost use Rattle.slots.specs.Words.{null, pick, nameOf};
 ghost use Rattle.slots.specs.Answers.{nothing, refused};
-ghost use Rattle.shape.specs.Find.{byKey, slotsOf, looked, found};
+ghost use Rattle.tree_rules.specs.Find.{byKey, slotsOf, looked, found};
 ghost use Rattle.tree.specs.Find.{seenOf, answerOf};
 
 // What a look at a slot says: the pair is here, or the search goes on along a link.
@@ -70,10 +70,11 @@ fn look(names: &[u64], cells: &[u32], p: u32, hash: u64, key: u64) -> Seen
     by_key(own, left, right, key)
 }
 
+// What find_tree_node answers.
 pub enum Found {
     At(u32),
     Nothing,
-    Lost,
+    Lost, // 9
 }
 
 // A link that leads to no slot, or to one slot too many: null ends the search, any other is astray.

@@ -13,7 +13,7 @@ use slots::get;
 use slots::is_red;
 use slots::name;
 ghost use mathlib.Core.Path.{_≡_};
-ghost use Rattle.shape.specs.Rules.{stands, follows, obeyed, treeSize, inUse, quietly};
+ghost use Rattle.tree_rules.specs.Rules.{stands, follows, obeyed, treeSize, inUse, quietly};
 ghost use Rattle.tree.specs.Rules.{restOf, sizeOf, partOf, judged, deepestOf};
 
 // Slot i is black or red.

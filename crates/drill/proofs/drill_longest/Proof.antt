@@ -11,14 +11,11 @@ slice-aggregate-load c = search needs
 load-requires : tie.Need-load-requires
 load-requires c κs = search needs
 
-slice-reshare-prefix-record : tie.Need-slice-reshare-prefix-record
-slice-reshare-prefix-record c = search needs
+slice-aggregate-load-2 : tie.Need-slice-aggregate-load-2
+slice-aggregate-load-2 c = search needs
 
-slice-aggregate-record : tie.Need-slice-aggregate-record
-slice-aggregate-record c = simp length-take (omega arith)
-
-record-requires : tie.Need-record-requires
-record-requires c κs = search needs
+load-requires-2 : tie.Need-load-requires-2
+load-requires-2 c κs = search needs
 
 slice-reshare-prefix-try-cuts : tie.Need-slice-reshare-prefix-try-cuts
 slice-reshare-prefix-try-cuts c = search needs
@@ -53,6 +50,18 @@ slice-aggregate-print-3 c = search needs
 print-requires-3 : tie.Need-print-requires-3
 print-requires-3 c κs = search needs
 
+slice-aggregate-print-4 : tie.Need-slice-aggregate-print-4
+slice-aggregate-print-4 c = search needs
+
+print-requires-4 : tie.Need-print-requires-4
+print-requires-4 c κs = search needs
+
+slice-aggregate-print-5 : tie.Need-slice-aggregate-print-5
+slice-aggregate-print-5 c = search needs
+
+print-requires-5 : tie.Need-print-requires-5
+print-requires-5 c κs = search needs
+
 slice-aggregate-write-all : tie.Need-slice-aggregate-write-all
 slice-aggregate-write-all c = search needs
 
@@ -77,9 +86,8 @@ drill-longest-spec =
     (tie.spec
     slice-aggregate-load
     load-requires
-    slice-reshare-prefix-record
-    slice-aggregate-record
-    record-requires
+    slice-aggregate-load-2
+    load-requires-2
     slice-reshare-prefix-try-cuts
     slice-aggregate-try-cuts
     slice-reshare-prefix-try-cuts-2
@@ -91,6 +99,10 @@ drill-longest-spec =
     print-requires-2
     slice-aggregate-print-3
     print-requires-3
+    slice-aggregate-print-4
+    print-requires-4
+    slice-aggregate-print-5
+    print-requires-5
     slice-aggregate-write-all
     write-all-requires
     same-length

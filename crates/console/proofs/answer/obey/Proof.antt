@@ -1,7 +1,7 @@
 -- Each command by itself.
 use mathlib.Core.Path.{ap}
-use Rattle.dialogue.specs.Answers.{obeyed}
-use Rattle.phrases.specs.Meanings.{commandOf}
+use Rattle.script_rules.specs.Answers.{obeyed}
+use Rattle.console.specs.Phrases.{commandOf}
 use Rattle.console.proofs.Turns.{turn-of, read-turn}
 use borrow.Author.Needs.{needs}
 use Rattle.console.proofs.answer.obey.Statement.{statement}

@@ -1,6 +1,6 @@
 -- The call, its answer as a reply, and the reply printed.
-use Rattle.dialogue.specs.Text.{goneText}
-use Rattle.dialogue.specs.Answers.{obeyed}
+use Rattle.script_rules.specs.Text.{goneText}
+use Rattle.script_rules.specs.Answers.{obeyed}
 use Rattle.console.proofs.Turns.{said}
 use borrow.Author.Needs.{needs}
 use Rattle.console.proofs.answer.obey_remove.Statement.{statement}

@@ -1,8 +1,8 @@
 -- Each case by itself.
 use mathlib.Core.Path.{ap, sym}
-use Rattle.live.specs.declared.find.Found.{Found}
-use Rattle.live.specs.Answers.{foundOf}
-use Rattle.dialogue.specs.Answers.{told}
+use Rattle.index.specs.declared.find.Found.{Found}
+use Rattle.index.specs.Reads.{foundOf}
+use Rattle.script_rules.specs.Answers.{told}
 use borrow.Author.Needs.{needs}
 use Rattle.console.proofs.answer.of_found.Statement.{statement}
 use Rattle.console.proofs.answer.of_found.Tie as tie

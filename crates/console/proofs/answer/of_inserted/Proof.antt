@@ -1,8 +1,8 @@
 -- Each case by itself.
 use mathlib.Core.Path.{ap, sym}
 use Rattle.index.specs.declared.insert.Inserted.{Inserted}
-use Rattle.index.specs.Answers.{insertedOf}
-use Rattle.dialogue.specs.Answers.{told}
+use Rattle.index.specs.Calls.{insertedOf}
+use Rattle.script_rules.specs.Answers.{told}
 use borrow.Author.Needs.{needs}
 use Rattle.console.proofs.answer.of_inserted.Statement.{statement}
 use Rattle.console.proofs.answer.of_inserted.Tie as tie

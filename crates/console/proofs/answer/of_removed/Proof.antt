@@ -1,8 +1,8 @@
 -- Each case by itself.
 use mathlib.Core.Path.{ap, sym}
 use Rattle.index.specs.declared.remove.Removed.{Removed}
-use Rattle.index.specs.Answers.{removedOf}
-use Rattle.dialogue.specs.Answers.{told}
+use Rattle.index.specs.Calls.{removedOf}
+use Rattle.script_rules.specs.Answers.{told}
 use borrow.Author.Needs.{needs}
 use Rattle.console.proofs.answer.of_removed.Statement.{statement}
 use Rattle.console.proofs.answer.of_removed.Tie as tie

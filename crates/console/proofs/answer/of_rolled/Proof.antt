@@ -1,8 +1,8 @@
 -- Each case by itself.
 use mathlib.Core.Path.{ap, sym}
-use Rattle.undo.specs.declared.rollback.RolledBack.{RolledBack}
-use Rattle.undo.specs.Answers.{rolledOf}
-use Rattle.dialogue.specs.Answers.{told}
+use Rattle.index.specs.declared.rollback.RolledBack.{RolledBack}
+use Rattle.index.specs.Rolls.{rolledOf}
+use Rattle.script_rules.specs.Answers.{told}
 use borrow.Author.Needs.{needs}
 use Rattle.console.proofs.answer.of_rolled.Statement.{statement}
 use Rattle.console.proofs.answer.of_rolled.Tie as tie

@@ -1,6 +1,6 @@
 -- The three writes one after another.
 use denote.Ref.{now}
-use Rattle.dialogue.proofs.Typing.{word-number-end}
+use Rattle.script_rules.proofs.Typing.{word-number-end}
 use borrow.Author.Needs.{needs}
 use Rattle.console.proofs.answer.tell.Statement.{statement}
 use Rattle.console.proofs.answer.tell.Tie as tie

@@ -2,9 +2,9 @@
 use mathlib.Core.Path.{_≡_, sym, _∙_}
 use denote.Ref.{now}
 use lib.ListN.{length}
-use Rattle.dialogue.specs.Answers.{entryLines}
-use Rattle.dialogue.specs.Feeding.{typed}
-use Rattle.dialogue.proofs.Listing.{entries-on, entries-over}
+use Rattle.script_rules.specs.Answers.{entryLines}
+use Rattle.script_rules.specs.Feeding.{typed}
+use Rattle.script_rules.proofs.Listing.{entries-on, entries-over}
 use borrow.Author.Needs.{needs}
 use Rattle.console.proofs.answer.tell_entries.Statement.{statement}
 use Rattle.console.proofs.answer.tell_entries.Tie as tie

@@ -1,5 +1,5 @@
 -- The call, its answer as a reply, and the reply printed.
-use Rattle.dialogue.specs.Text.{atText}
+use Rattle.script_rules.specs.Text.{atText}
 use Rattle.console.proofs.Turns.{asked}
 use borrow.Author.Needs.{needs}
 use Rattle.console.proofs.answer.tell_find.Statement.{statement}

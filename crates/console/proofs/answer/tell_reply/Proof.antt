@@ -1,7 +1,7 @@
 -- A number with its word, or a refusal with its own.
 use mathlib.Core.Path.{ap, sym, _∙_}
 use denote.Ref.{now}
-use Rattle.dialogue.specs.Feeding.{typed}
+use Rattle.script_rules.specs.Feeding.{typed}
 use Rattle.console.specs.Meanings.{replyText}
 use Rattle.console.specs.declared.answer.Reply.{Reply}
 use borrow.Author.Needs.{needs}

@@ -4,8 +4,8 @@ use mathlib.Core.List.{List}
 use denote.Ref.{now}
 use Prim.Native.Nat.{ℕ, _-_, _^_, _<_, _≤_}
 use lib.ListN.{length, drop}
-use Rattle.dialogue.specs.Feeding.{Desk, feeding}
-use Rattle.dialogue.proofs.Feeding.{feeding-over, feeding-full, feeding-on, feeds-short, feeds-long, kept-within}
+use Rattle.script_rules.specs.Feeding.{Desk, feeding}
+use Rattle.script_rules.proofs.Feeding.{feeding-over, feeding-full, feeding-on, feeds-short, feeds-long, kept-within}
 use Rattle.console.specs.Meanings.{lineOf}
 use Rattle.console.specs.declared.feed.Line.{Line}
 use borrow.Author.Needs.{needs}

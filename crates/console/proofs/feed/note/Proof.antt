@@ -1,6 +1,6 @@
 -- The line is full, or the byte goes to its end.
 use borrow.Author.Tests.{lt-ltb, le-ltb}
-use Rattle.dialogue.specs.Feeding.{noted}
+use Rattle.script_rules.specs.Feeding.{noted}
 use borrow.Author.Needs.{needs}
 use Rattle.console.proofs.feed.note.Statement.{statement}
 use Rattle.console.proofs.feed.note.Tie as tie

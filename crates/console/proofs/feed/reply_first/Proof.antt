@@ -4,7 +4,7 @@ use denote.Ref.{now}
 use native.Mathlib.Omega.{arith}
 use lib.ListN.{length-take}
 use lib.Seq.{take-all}
-use Rattle.dialogue.specs.Commands.{spoken}
+use Rattle.script_rules.specs.Commands.{spoken}
 use Rattle.console.proofs.Turns.{turn-of}
 use borrow.Author.Needs.{needs}
 use Rattle.console.proofs.feed.reply_first.Statement.{statement}

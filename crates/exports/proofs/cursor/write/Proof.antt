@@ -1,7 +1,7 @@
 -- The eleven writes are those of the definition.
 use mathlib.Core.Path.{_∙_}
 use denote.Ref.{now}
-use Rattle.cursors.specs.Answers.{cursorOf}
+use Rattle.sets.specs.Cursors.{cursorOf}
 use Rattle.exports.proofs.Keeping.{writes}
 use borrow.Author.Needs.{needs}
 use Rattle.exports.proofs.cursor.write.Statement.{statement}

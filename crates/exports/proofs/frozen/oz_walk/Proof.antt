@@ -1,6 +1,6 @@
 -- A cursor of another length is refused; else the library takes a step, and the new cursor is kept.
 use mathlib.Core.Path.{ap, _∙_}
-use Rattle.walks.specs.Walk.{nexts}
+use Rattle.set_rules.specs.Walk.{nexts}
 use Rattle.exports.specs.Cursors.{walked}
 use Rattle.exports.proofs.Keeping.{short, long}
 use denote.Ref.{now}

@@ -3,7 +3,7 @@ use mathlib.Core.Path.{ap, sym, subst, _∙_}
 use Prim.Native.Nat.{_≤_}
 use native.Mathlib.Omega.{arith}
 use borrow.Author.Needs.{needs}
-use Rattle.live.specs.Answers.{checkedOf}
+use Rattle.index.specs.Reads.{checkedOf}
 use Rattle.exports.specs.Words.{checkWord}
 use Rattle.exports.proofs.reads.checked_word.Statement.{statement}
 use Rattle.exports.proofs.reads.checked_word.Tie as tie

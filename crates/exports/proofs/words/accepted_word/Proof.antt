@@ -1,7 +1,7 @@
 -- Each case has its own number and value.
 use mathlib.Core.Path.{ap, sym, _∙_}
 use borrow.Author.Needs.{needs}
-use Rattle.acceptance.specs.Answers.{acceptOf}
+use Rattle.sets.specs.Verdicts.{acceptOf}
 use Rattle.exports.specs.Words.{answerWord}
 use Rattle.exports.proofs.words.accepted_word.Statement.{statement}
 use Rattle.exports.proofs.words.accepted_word.Tie as tie

@@ -1,7 +1,7 @@
 -- Each case has its own number and value.
 use mathlib.Core.Path.{ap, sym, _∙_}
 use borrow.Author.Needs.{needs}
-use Rattle.cursors.specs.Answers.{givenOf}
+use Rattle.sets.specs.Cursors.{givenOf}
 use Rattle.exports.specs.Words.{answerWord}
 use Rattle.exports.proofs.words.given_word.Statement.{statement}
 use Rattle.exports.proofs.words.given_word.Tie as tie

@@ -1,7 +1,7 @@
 -- Each case has its own number and value.
 use mathlib.Core.Path.{ap, sym, _∙_}
 use borrow.Author.Needs.{needs}
-use Rattle.tables.specs.Answers.{lookedOf}
+use Rattle.sets.specs.Lookups.{lookedOf}
 use Rattle.exports.specs.Words.{answerWord}
 use Rattle.exports.proofs.words.looked_word.Statement.{statement}
 use Rattle.exports.proofs.words.looked_word.Tie as tie

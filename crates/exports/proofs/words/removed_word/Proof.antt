@@ -1,7 +1,7 @@
 -- Each case has its own number and value.
 use mathlib.Core.Path.{ap, sym, _∙_}
 use borrow.Author.Needs.{needs}
-use Rattle.index.specs.Answers.{removedOf}
+use Rattle.index.specs.Calls.{removedOf}
 use Rattle.exports.specs.Words.{answerWord}
 use Rattle.exports.proofs.words.removed_word.Statement.{statement}
 use Rattle.exports.proofs.words.removed_word.Tie as tie

@@ -1,7 +1,7 @@
 -- Each case has its own number and value.
 use mathlib.Core.Path.{ap, sym, _∙_}
 use borrow.Author.Needs.{needs}
-use Rattle.undo.specs.Answers.{rolledOf}
+use Rattle.index.specs.Rolls.{rolledOf}
 use Rattle.exports.specs.Words.{answerWord}
 use Rattle.exports.proofs.words.rolled_word.Statement.{statement}
 use Rattle.exports.proofs.words.rolled_word.Tie as tie

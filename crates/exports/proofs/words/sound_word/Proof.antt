@@ -1,7 +1,7 @@
 -- Each case has its own number and value.
 use mathlib.Core.Path.{ap, sym, _∙_}
 use borrow.Author.Needs.{needs}
-use Rattle.live.specs.Answers.{soundOf}
+use Rattle.index.specs.Reads.{soundOf}
 use Rattle.exports.specs.Words.{answerWord}
 use Rattle.exports.proofs.words.sound_word.Statement.{statement}
 use Rattle.exports.proofs.words.sound_word.Tie as tie

@@ -1,7 +1,7 @@
 -- Each case has its own number and value.
 use mathlib.Core.Path.{ap, sym, _∙_}
 use borrow.Author.Needs.{needs}
-use Rattle.cursors.specs.Answers.{startedOf}
+use Rattle.sets.specs.Cursors.{startedOf}
 use Rattle.exports.specs.Words.{answerWord}
 use Rattle.exports.proofs.words.started_word.Statement.{statement}
 use Rattle.exports.proofs.words.started_word.Tie as tie

@@ -1,8 +1,8 @@
--- The tests in 01's order settle the model's, and the answer is the one that they come to.
+-- The tests in the rules' order settle the model's, and the answer is the one that they come to.
 use mathlib.Core.Path.{sym, ap, _∙_}
 use native.Mathlib.Omega.{arith}
-use Rattle.demands.proofs.Fit.{fits-fit}
-use Rattle.drivers.specs.Answers.{freeOf}
+use Rattle.index_rules.proofs.Fit.{fits-fit}
+use Rattle.index.specs.Frees.{freeOf}
 use Rattle.index.proofs.Asking.{is-fit, is-unfit, tree-fits, is-sound, not-sound, sought-at, sought-not}
 use Rattle.index.proofs.Inserting.{unfit, damaged, present, full, journal-full, taken}
 use borrow.Author.Needs.{needs}

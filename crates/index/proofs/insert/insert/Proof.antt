@@ -1,7 +1,7 @@
 -- A refusal leaves all as it is; else the tree grows by the slot and the journal by a line, as the model says.
 use mathlib.Core.Path.{sym, ap, _∙_}
-use Rattle.drivers.proofs.Slots.{grown-is, appended-is}
-use Rattle.index.specs.Answers.{insertedOf}
+use Rattle.index.proofs.Room.{grown-is, appended-is}
+use Rattle.index.specs.Calls.{insertedOf}
 use Rattle.index.proofs.Asking.{kept, done, names-most, count-below, lines-most}
 use Rattle.index.proofs.Inserting.{settled, joined, not-at}
 use borrow.Author.Needs.{needs}

@@ -1,4 +1,4 @@
--- The tests in 01's order settle the model's, and the answer is the one that they come to.
+-- The tests in the rules' order settle the model's, and the answer is the one that they come to.
 use mathlib.Core.Path.{sym, _∙_}
 use Rattle.index.proofs.Asking.{is-fit, is-unfit, tree-fits, is-sound, not-sound, sought-at, sought-not}
 use Rattle.index.proofs.Removing.{unfit, damaged, absent, journal-full, freed}

@@ -1,7 +1,7 @@
 -- A refusal leaves all as it is; else the slot goes and the journal takes a line with its place, as the model says.
 use mathlib.Core.Path.{sym, ap, _∙_}
-use Rattle.drivers.proofs.Slots.{shrunk-is, appended-is}
-use Rattle.index.specs.Answers.{removedOf}
+use Rattle.index.proofs.Room.{shrunk-is, appended-is}
+use Rattle.index.specs.Calls.{removedOf}
 use Rattle.index.proofs.Asking.{kept, done, names-most, lines-most}
 use Rattle.index.proofs.Removing.{settled, left, not-at}
 use borrow.Author.Needs.{needs}

@@ -5,8 +5,8 @@ use Prim.Native.Nat.{ℕ, _<_, _≤_, _-_, _^_}
 use native.Mathlib.Omega.{arith}
 use borrow.Author.Needs.{needs}
 use Rattle.slots.specs.Words.{null}
-use Rattle.shape.specs.Chain.{chained}
-use Rattle.shape.proofs.Visits.{chain-null, chain-outside, chain-spent, chain-astray, chain-on}
+use Rattle.tree_rules.specs.Chain.{chained}
+use Rattle.tree_rules.proofs.Visits.{chain-null, chain-outside, chain-spent, chain-astray, chain-on}
 use Rattle.tree.proofs.chain.chain.Statement.{statement}
 use Rattle.tree.proofs.chain.chain.Tie as tie
 

@@ -4,7 +4,7 @@ use denote.Ref.{now}
 use native.Mathlib.Omega.{arith}
 use borrow.Author.Needs.{needs}
 use borrow.Author.Tests.{not-true, not-false}
-use Rattle.shape.proofs.Walking.{walked-within}
+use Rattle.tree_rules.proofs.Walking.{walked-within}
 use Rattle.tree.specs.Check.{walkOf}
 use Rattle.tree.proofs.Visiting.{absent, outside, spent, loose, fails, left-fails, left-strays, both}
 use Prim.Native.Nat.{ℕ, _<_, _-_}

@@ -1,6 +1,6 @@
 -- The answer is what the walk from the root comes to, with a visit for each slot.
 use mathlib.Core.Path.{sym, ap, _∙_}
-use Rattle.shape.specs.Check.{walkAnswer, checked}
+use Rattle.tree_rules.specs.Check.{walkAnswer, checked}
 use Rattle.tree.specs.Check.{walkOf}
 use borrow.Author.Needs.{needs}
 use Rattle.tree.proofs.check.check_invariants.Statement.{statement}

@@ -1,5 +1,5 @@
 -- Each way out closes by the reads and the tests that led there.
-use Rattle.shape.specs.Check.{isChild}
+use Rattle.tree_rules.specs.Check.{isChild}
 use borrow.Author.Tests.{eq-eqb, ne-eqb}
 use borrow.Author.Needs.{needs}
 use Rattle.tree.proofs.check.is_child.Statement.{statement}

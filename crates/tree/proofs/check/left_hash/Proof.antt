@@ -1,5 +1,5 @@
 -- Each way out closes by the reads and the tests that led there.
-use Rattle.shape.specs.Check.{leftHash}
+use Rattle.tree_rules.specs.Check.{leftHash}
 use borrow.Author.Tests.{eq-eqb, le-leb, lt-leb, ne-eqb}
 use borrow.Author.Needs.{needs}
 use Rattle.tree.proofs.check.left_hash.Statement.{statement}

@@ -1,5 +1,5 @@
 -- Each way out closes by the reads and the tests that led there.
-use Rattle.shape.specs.Check.{linksIn}
+use Rattle.tree_rules.specs.Check.{linksIn}
 use borrow.Author.Tests.{not-false, not-true}
 use borrow.Author.Needs.{needs}
 use Rattle.tree.proofs.check.links_in.Statement.{statement}

@@ -1,5 +1,5 @@
 -- Each way out closes by the reads and the tests that led there.
-use Rattle.shape.specs.Check.{notAllRed}
+use Rattle.tree_rules.specs.Check.{notAllRed}
 use borrow.Author.Tests.{eq-eqb, ne-eqb, not-false, not-true}
 use borrow.Author.Needs.{needs}
 use Rattle.tree.proofs.check.not_all_red.Statement.{statement}

@@ -1,5 +1,5 @@
 -- A null link is passed over; else the link back decides.
-use Rattle.shape.specs.Check.{pointsBack}
+use Rattle.tree_rules.specs.Check.{pointsBack}
 use borrow.Author.Tests.{eq-eqb, ne-eqb}
 use borrow.Author.Needs.{needs}
 use Rattle.tree.proofs.check.points_back.Statement.{statement}

@@ -3,7 +3,7 @@ use mathlib.Core.Path.{_≡_, sym, ap, _∙_}
 use denote.Ref.{now}
 use Prim.Native.Nat.{_<_, _≤_, _^_, _/_}
 use lib.ListN.{length}
-use Rattle.shape.specs.Find.{found, searched}
+use Rattle.tree_rules.specs.Find.{found, searched}
 use Rattle.tree.specs.Find.{seenOf}
 use Rattle.tree.proofs.Searching.{one-less, ended, outside, spent, met, onward}
 use borrow.Author.Needs.{needs}

@@ -1,5 +1,5 @@
 -- Each way out closes by the reads and the tests that led there.
-use Rattle.shape.specs.Rules.{stands}
+use Rattle.tree_rules.specs.Rules.{stands}
 use borrow.Author.Tests.{eq-eqb, ne-eqb, not-false, not-true}
 use borrow.Author.Needs.{needs}
 use Rattle.tree.proofs.rules.stand.Statement.{statement}

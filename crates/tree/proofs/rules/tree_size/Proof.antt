@@ -3,7 +3,7 @@ use mathlib.Core.Path.{sym, ap, _∙_}
 use denote.Ref.{now}
 use Prim.Native.Nat.{_/_}
 use lib.ListN.{length}
-use Rattle.shape.specs.Rules.{treeSize}
+use Rattle.tree_rules.specs.Rules.{treeSize}
 use Rattle.tree.specs.Rules.{restOf}
 use Rattle.tree.proofs.Judging.{obeyed-within}
 use borrow.Author.Needs.{needs}

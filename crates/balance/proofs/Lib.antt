@@ -1,3 +1,0 @@
-pub mod Rotating
-pub mod Balancing
-pub mod Claims

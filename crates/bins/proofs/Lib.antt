@@ -1,3 +1,0 @@
-pub mod Binned
-pub mod Sized
-pub mod Claims

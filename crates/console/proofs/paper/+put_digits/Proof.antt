@@ -1,0 +1,172 @@
+-- The digits before the last one come first, and there is one less of them.
+use denote.Ref.{now}
+use Rattle.script_rules.proofs.Typing.{digits-none, digits-last, digits-more}
+use borrow.Author.Needs.{needs}
+use borrow.Author.Needs.{needs}
+use Prim.Native.Nat.{ℕ, _<_}
+use borrow.Fn.Kinds.{In}
+use borrow.Fn.PlainCycle.{Measures, is, falls, and}
+use Rattle.console.proofs.paper.put_digits.Reads as put-digits
+use Rattle.console.proofs.paper.put_digits.Kinds as put-digits-kinds
+use Rattle.console.proofs.paper.+put_digits.Lts-put_digits as put-digits-lts
+use Rattle.console.proofs.paper.put_byte.Reads as put-byte-reads
+use Rattle.console.proofs.paper.+put_digits.{statement}
+use Rattle.console.proofs.paper.+put_digits.Tie.{close}
+
+abbrev μ-put-digits : Measures 1 put-digits-kinds.ps ℕ
+μ-put-digits κs a = a .1 .1 .1 .0
+
+abbrev put-digits-at : ℕ → In 1 put-digits-kinds.ps
+put-digits-at t =
+    and 1 put-digits-kinds.ps (is 1 put-digits-kinds.ps μ-put-digits t) put-digits.Pre
+
+abbrev put-digits-below : ℕ → In 1 put-digits-kinds.ps
+put-digits-below t =
+    and 1 put-digits-kinds.ps (falls 1 put-digits-kinds.ps _<_ μ-put-digits t) put-digits.Pre
+
+put-digits-returns : (t : ℕ) → put-digits-lts.Need-returns (
+  put-byte-reads.Asked,
+  put-byte-reads.Learnt,
+  put-digits-below t,
+  put-digits.Post,
+) (put-digits-at t) put-digits.Post
+put-digits-returns t c =
+    let a = c .before .before .args in
+    digits-none (record { bytes = now (a .out); at = a .at }) (a .most) (a .x) (c .if1 .taken)
+
+put-digits-cast-put-byte : (t : ℕ) → put-digits-lts.Need-cast-put-byte (
+  put-byte-reads.Asked,
+  put-byte-reads.Learnt,
+  put-digits-below t,
+  put-digits.Post,
+) (put-digits-at t) put-digits.Post
+put-digits-cast-put-byte t c = search needs
+
+put-digits-add-put-byte : (t : ℕ) → put-digits-lts.Need-add-put-byte (
+  put-byte-reads.Asked,
+  put-byte-reads.Learnt,
+  put-digits-below t,
+  put-digits.Post,
+) (put-digits-at t) put-digits.Post
+put-digits-add-put-byte t c = search needs
+
+put-digits-put-byte-requires : (t : ℕ) → put-digits-lts.Need-put-byte-requires (
+  put-byte-reads.Asked,
+  put-byte-reads.Learnt,
+  put-digits-below t,
+  put-digits.Post,
+) (put-digits-at t) put-digits.Post
+put-digits-put-byte-requires t c κs = search needs
+
+put-digits-same-length : (t : ℕ) → put-digits-lts.Need-same-length (
+  put-byte-reads.Asked,
+  put-byte-reads.Learnt,
+  put-digits-below t,
+  put-digits.Post,
+) (put-digits-at t) put-digits.Post
+put-digits-same-length t c = search needs
+
+put-digits-returns-2 : (t : ℕ) → put-digits-lts.Need-returns-2 (
+  put-byte-reads.Asked,
+  put-byte-reads.Learnt,
+  put-digits-below t,
+  put-digits.Post,
+) (put-digits-at t) put-digits.Post
+put-digits-returns-2 t c =
+    let c2 = c .before .before in
+    let c3 = c2 .before .before in
+    let a = c3 .before .before .before .args in
+    digits-last (record { bytes = now (a .out); at = a .at }) _ (a .most) (a .x) (c3 .before .if1 .left) (c3 .if2 .taken) (c2 .put-byte .ensures)
+
+put-digits-sub-put-digits : (t : ℕ) → put-digits-lts.Need-sub-put-digits (
+  put-byte-reads.Asked,
+  put-byte-reads.Learnt,
+  put-digits-below t,
+  put-digits.Post,
+) (put-digits-at t) put-digits.Post
+put-digits-sub-put-digits t c = search needs
+
+put-digits-put-digits-requires : (t : ℕ) → put-digits-lts.Need-put-digits-requires (
+  put-byte-reads.Asked,
+  put-byte-reads.Learnt,
+  put-digits-below t,
+  put-digits.Post,
+) (put-digits-at t) put-digits.Post
+put-digits-put-digits-requires t c κs = search needs
+
+put-digits-cast-put-byte-2 : (t : ℕ) → put-digits-lts.Need-cast-put-byte-2 (
+  put-byte-reads.Asked,
+  put-byte-reads.Learnt,
+  put-digits-below t,
+  put-digits.Post,
+) (put-digits-at t) put-digits.Post
+put-digits-cast-put-byte-2 t c = search needs
+
+put-digits-add-put-byte-2 : (t : ℕ) → put-digits-lts.Need-add-put-byte-2 (
+  put-byte-reads.Asked,
+  put-byte-reads.Learnt,
+  put-digits-below t,
+  put-digits.Post,
+) (put-digits-at t) put-digits.Post
+put-digits-add-put-byte-2 t c = search needs
+
+put-digits-put-byte-requires-2 : (t : ℕ) → put-digits-lts.Need-put-byte-requires-2 (
+  put-byte-reads.Asked,
+  put-byte-reads.Learnt,
+  put-digits-below t,
+  put-digits.Post,
+) (put-digits-at t) put-digits.Post
+put-digits-put-byte-requires-2 t c κs = search needs
+
+put-digits-same-length-2 : (t : ℕ) → put-digits-lts.Need-same-length-2 (
+  put-byte-reads.Asked,
+  put-byte-reads.Learnt,
+  put-digits-below t,
+  put-digits.Post,
+) (put-digits-at t) put-digits.Post
+put-digits-same-length-2 t c = search needs
+
+put-digits-returns-3 : (t : ℕ) → put-digits-lts.Need-returns-3 (
+  put-byte-reads.Asked,
+  put-byte-reads.Learnt,
+  put-digits-below t,
+  put-digits.Post,
+) (put-digits-at t) put-digits.Post
+put-digits-returns-3 t c =
+    let c2 = c .before .before in
+    let c4 = c2 .before .before .before .before in
+    let c5 = c4 .before .before in
+    let a = c5 .before .before .before .args in
+    digits-more
+    (record { bytes = now (a .out); at = a .at })
+    _
+    _
+    (a .most)
+    (a .x)
+    (c5 .before .if1 .left)
+    (c5 .if2 .left)
+    (c4 .put-digits .ensures)
+    (c2 .put-byte2 .ensures)
+
+pub +put-digits-spec : {M : Type 1} → statement M
++put-digits-spec = close μ-put-digits λ t. put-digits-lts.spec (
+  put-byte-reads.Asked,
+  put-byte-reads.Learnt,
+  put-digits-below t,
+  put-digits.Post,
+)
+    (put-digits-at t)
+    put-digits.Post
+    (put-digits-returns t)
+    (put-digits-cast-put-byte t)
+    (put-digits-add-put-byte t)
+    (put-digits-put-byte-requires t)
+    (put-digits-same-length t)
+    (put-digits-returns-2 t)
+    (put-digits-sub-put-digits t)
+    (put-digits-put-digits-requires t)
+    (put-digits-cast-put-byte-2 t)
+    (put-digits-add-put-byte-2 t)
+    (put-digits-put-byte-requires-2 t)
+    (put-digits-same-length-2 t)
+    (put-digits-returns-3 t)

@@ -1,0 +1,45 @@
+-- Each way out is a law of the byte that stands at the place.
+use mathlib.Core.Path.{sym, _∙_}
+use denote.Ref.{now}
+use Rattle.script_rules.proofs.Reading.{next-end, next-other, next-space}
+use borrow.Author.Needs.{needs}
+use Rattle.console.proofs.read.next_number.Statement.{statement}
+use Rattle.console.proofs.read.next_number.Tie as tie
+
+returns : tie.Need-returns
+returns c =
+    let a = c .before .before .args in
+    sym (next-end (a .most) (now (a .line)) (a .at) (c .if1 .taken))
+
+shared-slice-read-if2 : tie.Need-shared-slice-read-if2
+shared-slice-read-if2 c = search needs
+
+returns-2 : tie.Need-returns-2
+returns-2 c =
+    let c1 = c .before .before in
+    let a = c1 .before .before .args in
+    sym (next-other (a .most) (now (a .line)) (a .at) (c1 .if1 .left) (c .if2 .taken))
+
+add-first-number : tie.Need-add-first-number
+add-first-number c = search needs
+
+first-number-requires : tie.Need-first-number-requires
+first-number-requires c κs = search needs
+
+returns-3 : tie.Need-returns-3
+returns-3 c =
+    let c1 = c .before in
+    let c2 = c1 .before .before in
+    let a = c2 .before .before .args in
+    c .first-number .ensures ∙ sym (next-space (a .most) (now (a .line)) (a .at) (c2 .if1 .left) (c1 .if2 .left))
+
+pub next-number-spec : {M : Type 1} → statement M
+next-number-spec =
+    tie.close
+    (tie.spec
+    returns
+    shared-slice-read-if2
+    returns-2
+    add-first-number
+    first-number-requires
+    returns-3)

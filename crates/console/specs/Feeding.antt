@@ -1,0 +1,27 @@
+-- Of feed and finish beside their contracts: each public routine has one outcome, what it returns with all that is left in the
+-- lent slices.
+use mathlib.Core.Path.{_≡_}
+use mathlib.Core.List.{List}
+use Prim.Native.Nat.{ℕ}
+use Rattle.slots.specs.Answers.{OneAnswer}
+use Rattle.index_rules.specs.Index.{Index}
+use Rattle.script_rules.specs.Feeding.{Desk, blank as blankLine, feeds, ends}
+use Rattle.console.specs.Meanings.{lineOf, fedOf}
+use Rattle.console.specs.declared.feed.Fed.{Fed}
+
+-- What a call returns, and the words of the five slices after it.
+pub record Call : Type 0 where
+  pub fed : Fed
+  pub names : List ℕ
+  pub cells : List ℕ
+  pub head : List ℕ
+  pub lines : List ℕ
+  pub out : List ℕ
+
+abbrev pub indexOf : Call → Index
+indexOf c = record { live = record { names = c .names; cells = c .cells; head = c .head }; lines = c .lines }
+
+pub record Feeding : Type 0 where
+  pub blank-one : OneAnswer (λ l. lineOf l ≡ blankLine)
+  pub feed-one : (chunk : List ℕ) (d : Desk) → OneAnswer (λ c. fedOf (c .fed) (indexOf c) (c .out) ≡ feeds chunk d)
+  pub finish-one : (d : Desk) → OneAnswer (λ c. fedOf (c .fed) (indexOf c) (c .out) ≡ ends d)

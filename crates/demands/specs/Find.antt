@@ -1,9 +1,0 @@
--- find: 1 where the words are not fit, else what find_tree_node answers from the header's root.
-use Prim.Native.Nat.{ℕ}
-use Rattle.slots.specs.Words.{pick}
-use Rattle.slots.specs.Answers.{Answer, refused}
-use Rattle.shape.specs.Find.{found}
-use Rattle.demands.specs.Live.{Live, rootOf, fits}
-
-unfoldable pub finds : Live → ℕ → ℕ → Answer
-finds t hash key = pick (fits t) (found (t .names) (t .cells) (rootOf t) hash key .answer) (refused 1)

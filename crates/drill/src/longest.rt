@@ -1,0 +1,419 @@
+// The longest script, on a tree of 512 slots and a journal of 1,024 lines, so that a line is left when the tree is full. It runs once,
+// call by call. After every call its words are copied, and the copy is rolled back to a mark that varies with the cut. A second index
+// runs only the calls whose lines stand below that mark: no rollback comes up in it. The two have to hold the same pairs and places and
+// the same words of a journal. Then the copy is rolled back to 0, and all of the script runs again on it.
+use crate::play::Met;
+use crate::play::agrees;
+use crate::play::play;
+use crate::steps::all;
+use crate::steps::is_empty;
+use crate::steps::is_sound;
+use crate::steps::length;
+use crate::steps::line_end;
+use crate::steps::more;
+use crate::steps::one;
+use crate::steps::undid;
+use crate::table::clear_all;
+use console::feed::blank;
+use console::feed::feed;
+use index::find::Found;
+use index::find::find;
+use index::rollback::RolledBack;
+use index::rollback::rollback;
+use slots::FREE;
+use slots::HASH;
+use slots::KEY;
+use slots::NULL;
+use slots::PLACE;
+use slots::STATE;
+use slots::get;
+use slots::name;
+use slots::put;
+ghost use Prim.Native.Nat.{_≤_};
+ghost use lib.ListN.{length as size};
+
+const SLOTS: u32 = 512;
+
+// No slice of names or lines here has more words.
+const MOST_NAMES: u32 = 4097;
+
+// No slice of cells here has more words.
+const MOST_CELLS: u32 = 3584;
+
+// What came of the cuts: rollbacks accepted and refused at them, whole runs after them, and what was not as it has to be.
+pub struct Tally {
+    pub cuts: u32,
+    pub rollbacks: u32,
+    pub refused: u32,
+    pub runs: u32,
+    pub differences: u32,
+}
+
+// The call that starts at a place of the script.
+fn call_at(
+    script: &[u8],
+    at: usize,
+    names: &mut [u64],
+    cells: &mut [u32],
+    head: &mut [u32],
+    lines: &mut [u64],
+    out: &mut [u8],
+) {
+    if at < script.len() {
+        let end = line_end(script, at);
+        let start = blank();
+        feed(start, &script[at..end], names, cells, head, lines, out);
+    }
+}
+
+// The calls that made the lines below mark m, in their order.
+fn run_kept(
+    script: &[u8],
+    made: &[u32],
+    m: u32,
+    names: &mut [u64],
+    cells: &mut [u32],
+    head: &mut [u32],
+    lines: &mut [u64],
+    out: &mut [u8],
+) {
+    let mut k: u32 = 0;
+    while k < m {
+        let at = get(made, 0, k) as usize;
+        call_at(script, at, names, cells, head, lines, out);
+        k += 1;
+    }
+}
+
+// Whether slot i is free, or its pair has the same place in the other tree.
+fn is_held(
+    names: &[u64],
+    cells: &[u32],
+    i: u32,
+    other_names: &[u64],
+    other_cells: &[u32],
+    other_head: &[u32],
+) -> bool {
+    if get(cells, i, STATE) == FREE {
+        return true;
+    }
+    let hash = name(names, i, HASH);
+    let key = name(names, i, KEY);
+    match find(other_names, other_cells, other_head, hash, key) {
+        Found::At(slot) => get(other_cells, slot, PLACE) == get(cells, i, PLACE),
+        _ => false,
+    }
+}
+
+// Whether two sound trees have the same entries: the other has each entry of the one, and their counts are the same.
+fn same_entries(
+    names: &[u64],
+    cells: &[u32],
+    head: &[u32],
+    other_names: &[u64],
+    other_cells: &[u32],
+    other_head: &[u32],
+) -> bool {
+    let mut i: u32 = 0;
+    while i < SLOTS {
+        if !is_held(names, cells, i, other_names, other_cells, other_head) {
+            return false;
+        }
+        i += 1;
+    }
+    get(head, 0, 2) == get(other_head, 0, 2)
+}
+
+// Whether all words of two journals, or of the names of two trees, are the same.
+fn same_names(a: &[u64], b: &[u64]) -> bool {
+    let mut k: u32 = 0;
+    while k < MOST_NAMES {
+        if name(a, 0, k) != name(b, 0, k) {
+            return false;
+        }
+        k += 1;
+    }
+    true
+}
+
+// Whether all words of the cells or of the headers of two trees are the same.
+fn same_cells(a: &[u32], b: &[u32]) -> bool {
+    let mut k: u32 = 0;
+    while k < MOST_CELLS {
+        if get(a, 0, k) != get(b, 0, k) {
+            return false;
+        }
+        k += 1;
+    }
+    true
+}
+
+// Whether an index is what a second one is that ran to mark m and no further: both sound, with the same pairs and places, and with the
+// same words of the journal. The second has written no line past the mark, so those of the first have to be zero.
+fn as_at_mark(
+    script: &[u8],
+    made: &[u32],
+    m: u32,
+    names: &[u64],
+    cells: &[u32],
+    head: &[u32],
+    lines: &[u64],
+    out: &mut [u8],
+) -> bool {
+    let mut names_then = [0u64; 1024];
+    let mut cells_then = [NULL; 3584];
+    let mut head_then = [NULL, NULL, 0];
+    let mut lines_then = [0u64; 4097];
+    clear_all(&mut cells_then, SLOTS);
+    run_kept(
+        script,
+        made,
+        m,
+        &mut names_then,
+        &mut cells_then,
+        &mut head_then,
+        &mut lines_then,
+        out,
+    );
+    let rules = is_sound(names, cells, head);
+    let rules_then = is_sound(&names_then, &cells_then, &head_then);
+    let entries = same_entries(names, cells, head, &names_then, &cells_then, &head_then);
+    let journal = same_names(lines, &lines_then);
+    all(rules, rules_then, entries, journal)
+}
+
+// The mark for a cut, up to the journal's length; 0 at every eighth.
+fn mark_of(cut: u32, length: u32) -> u32 {
+    if cut % 8 == 0 {
+        return 0;
+    }
+    cut % 65536 * 37 % (length % 65536 + 1)
+}
+
+// Rolls back to the cut's mark: whether as many lines are undone as there were above it, and the index is as it was at the mark.
+fn back_to_mark(
+    cut: u32,
+    script: &[u8],
+    made: &[u32],
+    names: &mut [u64],
+    cells: &mut [u32],
+    head: &mut [u32],
+    lines: &mut [u64],
+    out: &mut [u8],
+) -> bool {
+    let count = length(lines);
+    let m = mark_of(cut, count);
+    let rolled = rollback(names, cells, head, lines, m);
+    let undone = undid(rolled, std::num::wrapping_sub_u32(count, m));
+    let same = as_at_mark(script, made, m, names, cells, head, lines, out);
+    all(undone, same, length(lines) == m, true)
+}
+
+// Rolls back the rest: whether it is accepted, and nothing is left.
+fn back_to_start(
+    names: &mut [u64],
+    cells: &mut [u32],
+    head: &mut [u32],
+    lines: &mut [u64],
+) -> bool {
+    let count = length(lines);
+    let rolled = rollback(names, cells, head, lines, 0);
+    let undone = undid(rolled, count);
+    let empty = is_empty(names, cells, head, lines);
+    all(undone, empty, true, true)
+}
+
+// Whether all of the script runs again with every answer right.
+fn again(
+    script: &[u8],
+    answers: &[u8],
+    names: &mut [u64],
+    cells: &mut [u32],
+    head: &mut [u32],
+    lines: &mut [u64],
+    out: &mut [u8],
+) -> bool {
+    let met = play(script, 65536, answers, names, cells, head, lines, out);
+    all(met.same, met.at == answers.len(), true, true)
+}
+
+// Whether a mark past the journal's length is refused as such.
+fn is_refused(
+    past: u32,
+    names: &mut [u64],
+    cells: &mut [u32],
+    head: &mut [u32],
+    lines: &mut [u64],
+) -> bool {
+    let mark = more(length(lines), more(past % 1024, 1));
+    match rollback(names, cells, head, lines, mark) {
+        RolledBack::BadMark => true,
+        _ => false,
+    }
+}
+
+// A call, and whether its answer is the one expected from a place on.
+fn call(
+    line: &[u8],
+    answers: &[u8],
+    said: usize,
+    names: &mut [u64],
+    cells: &mut [u32],
+    head: &mut [u32],
+    lines: &mut [u64],
+    out: &mut [u8],
+) -> Met
+    requires { ⌜ said ≤ size (now answers) ⌝ }
+    ensures { λ r. ⌜ r .at ≤ size (now (answers .entry)) ⌝ }
+{
+    let start = blank();
+    let fed = feed(start, line, names, cells, head, lines, out);
+    let written = fed.written;
+    agrees(answers, said, &out[..written])
+}
+
+// The tally with one more cut, whose answer, refusal and rollbacks were right or not.
+fn counted(t: Tally, answer: bool, refusal: bool, back: bool) -> Tally {
+    let right = all(answer, refusal, back, true);
+    Tally {
+        cuts: more(t.cuts, 1),
+        rollbacks: more(t.rollbacks, 2),
+        refused: more(t.refused, 1),
+        runs: more(t.runs, 1),
+        differences: more(t.differences, one(!right)),
+    }
+}
+
+// A cut: the copy of the index is rolled back to the cut's mark and then to 0, and the script runs again.
+fn try_cut(
+    cut: u32,
+    script: &[u8],
+    answers: &[u8],
+    made: &[u32],
+    names: &mut [u64],
+    cells: &mut [u32],
+    head: &mut [u32],
+    lines: &mut [u64],
+    out: &mut [u8],
+) -> bool {
+    let back = back_to_mark(cut, script, made, names, cells, head, lines, out);
+    let start = back_to_start(names, cells, head, lines);
+    let right = again(script, answers, names, cells, head, lines, out);
+    all(back, start, right, true)
+}
+
+// A copy of the index that was asked for a mark that it has to refuse: whether all its words are those of the index.
+fn is_as_it_was(
+    names: &[u64],
+    cells: &[u32],
+    head: &[u32],
+    lines: &[u64],
+    old_names: &[u64],
+    old_cells: &[u32],
+    old_head: &[u32],
+    old_lines: &[u64],
+) -> bool {
+    let a = same_names(names, old_names);
+    let b = same_cells(cells, old_cells);
+    let c = same_cells(head, old_head);
+    let d = same_names(lines, old_lines);
+    all(a, b, c, d)
+}
+
+// The tally with a cut of the index that the words are, at which the last answer was right or not. The words are copied for it.
+fn cut_once(
+    t: Tally,
+    answer: bool,
+    script: &[u8],
+    answers: &[u8],
+    made: &[u32],
+    names: [u64; 1024],
+    cells: [u32; 3584],
+    head: [u32; 3],
+    lines: [u64; 4097],
+    out: &mut [u8],
+) -> Tally {
+    let mut names_cut = names;
+    let mut cells_cut = cells;
+    let mut head_cut = head;
+    let mut lines_cut = lines;
+    let refused = is_refused(
+        t.cuts,
+        &mut names_cut,
+        &mut cells_cut,
+        &mut head_cut,
+        &mut lines_cut,
+    );
+    let kept = is_as_it_was(
+        &names_cut,
+        &cells_cut,
+        &head_cut,
+        &lines_cut,
+        &names,
+        &cells,
+        &head,
+        &lines,
+    );
+    let back = try_cut(
+        t.cuts,
+        script,
+        answers,
+        made,
+        &mut names_cut,
+        &mut cells_cut,
+        &mut head_cut,
+        &mut lines_cut,
+        out,
+    );
+    counted(t, answer, refused && kept, back)
+}
+
+// The script, cut after every call. `made` has for each line of the journal the place of the call that made it: a call that makes a line
+// makes the one whose number is the length before it.
+pub fn try_cuts(script: &[u8], answers: &[u8], out: &mut [u8]) -> Tally {
+    let mut names = [0u64; 1024];
+    let mut cells = [NULL; 3584];
+    let mut head = [NULL, NULL, 0];
+    let mut lines = [0u64; 4097];
+    let mut made = [0u32; 1024];
+    clear_all(&mut cells, SLOTS);
+    let mut t = Tally {
+        cuts: 0,
+        rollbacks: 0,
+        refused: 0,
+        runs: 0,
+        differences: 0,
+    };
+    let mut said = 0;
+    let mut at = 0;
+    while at < script.len() {
+        let end = line_end(script, at);
+        let number = length(&lines);
+        put(&mut made, 0, number, (at % 4294967296) as u32);
+        let met = call(
+            &script[at..end],
+            answers,
+            said,
+            &mut names,
+            &mut cells,
+            &mut head,
+            &mut lines,
+            out,
+        );
+        t = cut_once(
+            t,
+            met.same,
+            script,
+            answers,
+            &made,
+            names,
+            cells,
+            head,
+            lines,
+            out,
+        );
+        said = met.at;
+        at = end;
+    }
+    t
+}

@@ -1,0 +1,215 @@
+// The short script, cut after every call and rolled back to every mark.
+use crate::steps::all;
+use crate::steps::is_sound;
+use crate::steps::length;
+use crate::steps::line_end;
+use crate::steps::more;
+use crate::steps::one;
+use crate::steps::undid;
+use crate::table::clear_all;
+use crate::table::cut_at;
+use crate::table::note;
+use crate::table::same;
+use console::feed::blank;
+use console::feed::feed;
+use index::insert::Inserted;
+use index::insert::insert;
+use index::rollback::rollback;
+use slots::NULL;
+
+// What came of the cuts: rollbacks, those after which something differs, names planted, and planted names noticed.
+pub struct Tally {
+    pub cuts: u32,
+    pub rollbacks: u32,
+    pub differences: u32,
+    pub planted: u32,
+    pub noticed: u32,
+}
+
+// A call of the short script, with what the tree then holds noted where the call wrote a line. After any other call the row of an
+// earlier call stands, so that a refusal that writes, and a rollback that brings back something else, are noticed too.
+fn call_noted(
+    line: &[u8],
+    names: &mut [u64],
+    cells: &mut [u32],
+    head: &mut [u32],
+    lines: &mut [u64],
+    rows: &mut [u32],
+    out: &mut [u8],
+) {
+    let before = length(lines);
+    let start = blank();
+    feed(start, line, names, cells, head, lines, out);
+    let after = length(lines);
+    if before < after {
+        note(rows, after, names, cells, head);
+    }
+}
+
+// The short script up to a cut, call by call.
+fn run_noted(
+    part: &[u8],
+    names: &mut [u64],
+    cells: &mut [u32],
+    head: &mut [u32],
+    lines: &mut [u64],
+    rows: &mut [u32],
+    out: &mut [u8],
+) {
+    note(rows, 0, names, cells, head);
+    let mut at = 0;
+    while at < part.len() {
+        let end = line_end(part, at);
+        call_noted(&part[at..end], names, cells, head, lines, rows, out);
+        at = end;
+    }
+}
+
+// Plants a key that the script does not use, with a journal of its own; whether it went in.
+fn plant(names: &mut [u64], cells: &mut [u32], head: &mut [u32], k: u32) -> bool {
+    let mut lines = [0u64; 5];
+    let key = (24 + k % 24) as u64;
+    match insert(names, cells, head, &mut lines, key / 4, key, 4000000000) {
+        Inserted::At(_) => true,
+        _ => false,
+    }
+}
+
+// What a rollback to mark m leaves: whether it is what was noted at the mark.
+fn as_noted(
+    m: u32,
+    names: &mut [u64],
+    cells: &mut [u32],
+    head: &mut [u32],
+    lines: &mut [u64],
+    old: &[u64],
+    rows: &[u32],
+) -> bool {
+    let count = std::num::wrapping_sub_u32(length(old), m);
+    let rolled = rollback(names, cells, head, lines, m);
+    let back = undid(rolled, count);
+    let rules = is_sound(names, cells, head);
+    let held = same(rows, m, names, cells, head);
+    let cut = cut_at(lines, old, m);
+    all(back, rules, held, cut)
+}
+
+// What a rollback and the planting after it came to.
+struct Trial {
+    right: bool,
+    planted: bool,
+    noticed: bool,
+}
+
+// Rolls back to mark m, compares, plants a name, and compares again.
+fn roll_and_plant(
+    m: u32,
+    names: &mut [u64],
+    cells: &mut [u32],
+    head: &mut [u32],
+    lines: &mut [u64],
+    old: &[u64],
+    rows: &[u32],
+) -> Trial {
+    let right = as_noted(m, names, cells, head, lines, old, rows);
+    let planted = plant(names, cells, head, m);
+    let seen = !same(rows, m, names, cells, head);
+    let noticed = all(planted, seen, true, true);
+    Trial {
+        right,
+        planted,
+        noticed,
+    }
+}
+
+// The short script up to a cut, and a trial of mark m.
+fn try_mark(part: &[u8], m: u32, rows: &mut [u32], out: &mut [u8]) -> Trial {
+    let mut names = [0u64; 1024];
+    let mut cells = [NULL; 3584];
+    let mut head = [NULL, NULL, 0];
+    let mut lines = [0u64; 2049];
+    clear_all(&mut cells, 512);
+    run_noted(
+        part,
+        &mut names,
+        &mut cells,
+        &mut head,
+        &mut lines,
+        rows,
+        out,
+    );
+    let old = lines;
+    roll_and_plant(m, &mut names, &mut cells, &mut head, &mut lines, &old, rows)
+}
+
+// The tally with one more trial.
+fn tallied(t: Tally, tried: Trial) -> Tally {
+    Tally {
+        cuts: t.cuts,
+        rollbacks: more(t.rollbacks, 1),
+        differences: more(t.differences, one(!tried.right)),
+        planted: more(t.planted, one(tried.planted)),
+        noticed: more(t.noticed, one(tried.noticed)),
+    }
+}
+
+// How long the journal is at a cut of the short script.
+fn length_at(part: &[u8], rows: &mut [u32], out: &mut [u8]) -> u32 {
+    let mut names = [0u64; 1024];
+    let mut cells = [NULL; 3584];
+    let mut head = [NULL, NULL, 0];
+    let mut lines = [0u64; 2049];
+    clear_all(&mut cells, 512);
+    run_noted(
+        part,
+        &mut names,
+        &mut cells,
+        &mut head,
+        &mut lines,
+        rows,
+        out,
+    );
+    length(&lines)
+}
+
+// The tally with one more cut.
+fn cut_once(t: Tally) -> Tally {
+    Tally {
+        cuts: more(t.cuts, 1),
+        rollbacks: t.rollbacks,
+        differences: t.differences,
+        planted: t.planted,
+        noticed: t.noticed,
+    }
+}
+
+// A cut of the short script, rolled back to every mark.
+fn try_marks(t: Tally, part: &[u8], rows: &mut [u32], out: &mut [u8]) -> Tally {
+    let marks = more(length_at(part, rows, out), 1);
+    let mut after = t;
+    let mut m: u32 = 0;
+    while m < marks {
+        let tried = try_mark(part, m, rows, out);
+        after = tallied(after, tried);
+        m += 1;
+    }
+    cut_once(after)
+}
+
+// The short script, cut after every call.
+pub fn try_short(script: &[u8], rows: &mut [u32], out: &mut [u8]) -> Tally {
+    let mut after = Tally {
+        cuts: 0,
+        rollbacks: 0,
+        differences: 0,
+        planted: 0,
+        noticed: 0,
+    };
+    let mut at = 0;
+    while at < script.len() {
+        let end = line_end(script, at);
+        after = try_marks(after, &script[..end], rows, out);
+        at = end;
+    }
+    after
+}

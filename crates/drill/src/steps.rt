@@ -1,0 +1,69 @@
+// What both parts of the drill ask: the journal's length, what a rollback came to, what is left of the calls, and where a call ends.
+use index::journal::word;
+use index::rollback::RolledBack;
+use index::sound::Soundness;
+use index::sound::sound;
+use slots::get;
+ghost use Prim.Native.Nat.{_<_, _≤_};
+ghost use lib.ListN.{length as size};
+
+// A count that does not come near 32 bits, with some more.
+pub fn more(count: u32, by: u32) -> u32 {
+    std::num::wrapping_add_u32(count, by)
+}
+
+// 1 for yes, so that it can be counted.
+pub fn one(yes: bool) -> u32 {
+    if yes {
+        return 1;
+    }
+    0
+}
+
+// Whether four things are so.
+pub fn all(a: bool, b: bool, c: bool, d: bool) -> bool {
+    a && b && c && d
+}
+
+// The journal's length.
+pub fn length(lines: &[u64]) -> u32 {
+    (word(lines, 0) % 4294967296) as u32
+}
+
+// Whether the rollback undid so many lines.
+pub fn undid(rolled: RolledBack, count: u32) -> bool {
+    match rolled {
+        RolledBack::Lines(lines) => lines == count,
+        _ => false,
+    }
+}
+
+// Whether all rules of a tree hold, beside what it holds.
+pub fn is_sound(names: &[u64], cells: &[u32], head: &[u32]) -> bool {
+    match sound(names, cells, head) {
+        Soundness::Yes => true,
+        _ => false,
+    }
+}
+
+// Whether nothing is left of the calls: a sound tree with no slot, and a journal with no line.
+pub fn is_empty(names: &[u64], cells: &[u32], head: &[u32], lines: &[u64]) -> bool {
+    let rules = is_sound(names, cells, head);
+    let slots = get(head, 0, 2);
+    rules && slots == 0 && length(lines) == 0
+}
+
+// Where the line that starts at a place ends, its newline with it.
+pub fn line_end(script: &[u8], at: usize) -> usize
+    requires { ⌜ at < size (now script) ⌝ }
+    ensures { λ r. ⌜ (at < r) × (r ≤ size (now (script .entry))) ⌝ }
+{
+    let mut end = at;
+    while end < script.len() {
+        if script[end] == b'\n' {
+            return end + 1;
+        }
+        end += 1;
+    }
+    end
+}

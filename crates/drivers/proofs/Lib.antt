@@ -1,5 +1,0 @@
-pub mod Writing
-pub mod Growing
-pub mod Shrinking
-pub mod Slots
-pub mod Claims

@@ -1,0 +1,29 @@
+-- The library comes to what the model does, and its word is that answer's.
+use borrow.Author.Needs.{needs}
+use Rattle.exports.proofs.Telling.{tells}
+use Rattle.exports.proofs.writes.oz_fresh.Statement.{statement}
+use Rattle.exports.proofs.writes.oz_fresh.Tie as tie
+
+fresh-requires : tie.Need-fresh-requires
+fresh-requires c κs = search needs
+
+fresh-word-requires : tie.Need-fresh-word-requires
+fresh-word-requires c κs = search needs
+
+same-length : tie.Need-same-length
+same-length c = search needs
+
+same-length-2 : tie.Need-same-length-2
+same-length-2 c = search needs
+
+same-length-3 : tie.Need-same-length-3
+same-length-3 c = search needs
+
+same-length-4 : tie.Need-same-length-4
+same-length-4 c = search needs
+
+returns : tie.Need-returns
+returns c = tells (c .fresh-word .ensures) (c .before .before .before .before .before .before .before .before .before .fresh .ensures)
+
+pub oz-fresh-spec : {M : Type 1} → statement M
+oz-fresh-spec = tie.close (tie.spec fresh-requires fresh-word-requires same-length same-length-2 same-length-3 same-length-4 returns)

@@ -1,0 +1,83 @@
+-- What the steps of an insertion come to, on plain values: each law takes the equations that the calls give, in the order of the code.
+use mathlib.Core.Path.{_≡_, refl, sym, _∙_}
+use mathlib.Core.Logic.{_≢_}
+use mathlib.Core.List.{List}
+use Prim.Native.Nat.{ℕ, zero, suc, _+_, _-_, _<_, _≤_}
+use native.Mathlib.Numerals.{add-one, sub-one}
+use native.Mathlib.Omega.{arith}
+use lib.ListN.{length, set}
+use lib.Dec.{eqb}
+use borrow.Author.Tests.{eq-eqb, ne-eqb, le-leb, lt-leb}
+use Rattle.slots.specs.Words.{null, pick, place, state, prev, next, free, cell, write, rename, hashPart, keyPart}
+use Rattle.slots.specs.Answers.{some, none}
+use Rattle.redblack.specs.Links.{Links}
+use Rattle.redblack.specs.Hanging.{inserted, placed}
+use Rattle.index_rules.specs.Live.{Live, rootOf, firstOf, countOf, capacityOf}
+use Rattle.index_rules.specs.Insert.{freeFrom, fronted, headed, grown}
+use Rattle.index.specs.Frees.{slotOf, grownIf}
+
+abbrev pub links : List ℕ → ℕ → Links
+links cells root = record { cells = cells; root = root }
+
+free-step : (m : ℕ) → 0 < m → (cells : List ℕ) (k : ℕ) → freeFrom m cells k ≡ pick (eqb (cell cells k state) free) k (freeFrom (m - 1) cells (k + 1))
+unfolding freeFrom
+free-step zero h cells k = absurd (omega arith)
+free-step (suc m) h cells k = rw (sub-one, add-one)
+
+free-none : (m : ℕ) → m ≤ 0 → (cells : List ℕ) (k : ℕ) → freeFrom m cells k ≡ null
+unfolding freeFrom
+free-none zero h cells k = refl
+free-none (suc m) h cells k = absurd (omega arith)
+
+-- A turn of the search for a free slot: slot k is free, is not, there is none left.
+module _ (cells : List ℕ) (n k : ℕ) (same : freeFrom (n - k) cells k ≡ freeFrom n cells 0) where
+  pub free-here : {s : ℕ} → k < n → n ≤ null → s ≡ cell cells k state → s ≡ free → some k ≡ slotOf (freeFrom n cells 0)
+  free-here l h e f =
+      let z : freeFrom n cells 0 ≡ k = sym same ∙ rw (free-step (n - k) (omega arith), ← e, eq-eqb _ _ f) in
+      let d : k ≢ null = λ q. omega arith in
+      rw (z, ne-eqb k null d)
+
+  pub free-on : {s : ℕ} → k < n → s ≡ cell cells k state → s ≢ free → freeFrom (n - (k + 1)) cells (k + 1) ≡ freeFrom n cells 0
+  free-on l e f =
+      let z : n - k - 1 ≡ n - (k + 1) = omega arith in
+      let y : freeFrom (n - k) cells k ≡ freeFrom (n - (k + 1)) cells (k + 1) = rw (free-step (n - k) (omega arith), ← e, ne-eqb _ _ f, z) in
+      sym y ∙ same
+
+  pub free-end : n ≤ k → none ≡ slotOf (freeFrom n cells 0)
+  free-end l = rw (← same, free-none (n - k) (omega arith))
+
+module _ (cells : List ℕ) (x first : ℕ) where
+  pub front : {l1 l2 l3 : List ℕ} → l1 ≡ write cells x prev null → l2 ≡ write l1 x next first → l3 ≡ write l2 first prev x → l3 ≡ fronted cells x first
+  unfolding fronted
+  front e1 e2 e3 = rw (← e1, ← e2) e3
+
+module _ (head : List ℕ) (root first count : ℕ) where
+  pub heads : {l1 l2 l3 : List ℕ} → l1 ≡ set head 0 root → l2 ≡ set l1 1 first → l3 ≡ set l2 2 count → l3 ≡ headed head root first count
+  heads e1 e2 e3 = rw (← e1, ← e2) e3
+
+module _ (names : List ℕ) (x hash key : ℕ) where
+  pub pair : {l1 l2 : List ℕ} → l1 ≡ rename names x hashPart hash → l2 ≡ rename l1 x keyPart key → l2 ≡ rename (rename names x hashPart hash) x keyPart key
+  pair e1 e2 = rw (← e1) e2
+
+-- The names are too many, the count is null, or the slot joins.
+module _ (t : Live) (x hash key p : ℕ) where
+  pub grow-wide : 8192 < length (t .names) → t ≡ grownIf t x hash key p
+  grow-wide h = rw (lt-leb (length (t .names)) 8192 h)
+
+  module _ (h : length (t .names) ≤ 8192) {count : ℕ} (e1 : count ≡ countOf t) where
+    pub grow-null : count ≡ null → t ≡ grownIf t x hash key p
+    grow-null g = let z = sym e1 ∙ g in rw (le-leb (length (t .names)) 8192 h, eq-eqb (countOf t) null z)
+
+    pub grow : {root first : ℕ} {names c1 c2 head : List ℕ} {hung : Links}
+        → count ≢ null
+        → root ≡ rootOf t → first ≡ firstOf t
+        → names ≡ rename (rename (t .names) x hashPart hash) x keyPart key
+        → c1 ≡ write (t .cells) x place p → c2 ≡ fronted c1 x first
+        → hung ≡ inserted (capacityOf t) (links c2 root) x (placed (capacityOf t) names (links c2 root) hash key)
+        → head ≡ headed (t .head) (hung .root) x (count + 1)
+        → record { names = names; cells = hung .cells; head = head } ≡ grownIf t x hash key p
+    unfolding grown
+    grow {root} {first} {names} {c1} {c2} {head} {hung} n e2 e3 e4 e5 e6 e7 e8 =
+        let d : countOf t ≢ null = λ q. n (e1 ∙ q) in
+        let z : record { names = names; cells = hung .cells; head = head } ≡ grown t x hash key p = rw (← e1, ← e2, ← e3, ← e4, ← e5, ← e6, ← e7, ← e8) in
+        rw (le-leb (length (t .names)) 8192 h, ne-eqb (countOf t) null d) z

@@ -1,0 +1,224 @@
+-- What the steps of undoing come to, on plain values: each law takes what the calls and the tests gave, in the order of the code.
+use mathlib.Core.Path.{_≡_, refl, ap, sym, _∙_}
+use mathlib.Core.Logic.{_≢_}
+use mathlib.Core.Bool.{Bool, true, false}
+use mathlib.Core.List.{List, [], _∷_, _++_}
+use Prim.Native.Nat.{ℕ, zero, suc, _+_, _-_, _<_, _≤_}
+use native.Mathlib.Decide.{decLt}
+use native.Mathlib.Numerals.{add-one, sub-one}
+use native.Mathlib.Omega.{arith}
+use lib.ListN.{length, getD, set, take, length-set, List·getD-eq-default}
+use lib.Seq.{getD-set-same, take-suc, take-suc-set, take-all, take-length}
+use lib.Dec.{eqb, ltb}
+use borrow.Author.Tests.{eq-eqb, ne-eqb, lt-ltb, le-ltb}
+use Rattle.slots.specs.Words.{null, pick, place, cell}
+use Rattle.slots.specs.Answers.{Value, some, none}
+use Rattle.index_rules.specs.Live.{Live, countOf, capacityOf}
+use Rattle.index_rules.specs.Index.{lineWord, kindWord, hashWord, keyWord, placeWord}
+use Rattle.index_rules.specs.Insert.{freeFrom, lowestFree, soughtIn, headed, grown}
+use Rattle.index_rules.specs.Remove.{shrunk}
+use Rattle.index_rules.specs.Rollback.{Undo, stays, misfit, takenBack, putBack, undone, unrolled}
+use Rattle.index.specs.Frees.{slotOf}
+use Rattle.index.specs.Rolls.{undoOf}
+use Rattle.index.specs.declared.lines.Undoing.{Undoing}
+use Rattle.index.specs.declared.lines.Undoing.the-variants.{Done, Misfit}
+use Rattle.index.proofs.Room.{slot-some, slot-none}
+
+-- An insert line: its pair is not there, has another place, or goes.
+module _ (t : Live) (hash key p : ℕ) where
+  pub back-absent : soughtIn t hash key ≡ none → misfit ≡ takenBack t (soughtIn t hash key) p
+  back-absent s = rw s
+
+  module _ {x own : ℕ} (s : soughtIn t hash key ≡ some x) (e : own ≡ cell (t .cells) x place) where
+    pub back-other : own ≢ p → misfit ≡ takenBack t (soughtIn t hash key) p
+    back-other n = rw (s, ← e, ne-eqb own p n)
+
+    pub back-done : {u : Live} → own ≡ p → u ≡ shrunk t x → stays u ≡ takenBack t (soughtIn t hash key) p
+    back-done h g = rw (s, ← e, eq-eqb own p h, ← g)
+
+-- A remove line: its pair is there, no slot is free, its place is too wide, or it comes back.
+module _ (t : Live) (hash key p : ℕ) where
+  pub put-there : {x : ℕ} → soughtIn t hash key ≡ some x → misfit ≡ putBack t (soughtIn t hash key) hash key p
+  put-there s = rw s
+
+  module _ (s : soughtIn t hash key ≡ none) where
+    pub put-full : none ≡ slotOf (freeFrom (capacityOf t) (t .cells) 0) → misfit ≡ putBack t (soughtIn t hash key) hash key p
+    unfolding lowestFree
+    put-full v = rw (s, slot-none (freeFrom (capacityOf t) (t .cells) 0) v)
+
+    module _ {x : ℕ} (v : some x ≡ slotOf (freeFrom (capacityOf t) (t .cells) 0)) where
+      pub put-wide : 4294967296 ≤ p → misfit ≡ putBack t (soughtIn t hash key) hash key p
+      unfolding lowestFree
+      put-wide h = let w = slot-some (freeFrom (capacityOf t) (t .cells) 0) x v in rw (s, w .0, le-ltb p 4294967296 h)
+
+      pub put-done : {u : Live} → p < 4294967296 → u ≡ grown t x hash key p → stays u ≡ putBack t (soughtIn t hash key) hash key p
+      unfolding lowestFree
+      put-done h g = let w = slot-some (freeFrom (capacityOf t) (t .cells) 0) x v in rw (s, w .0, lt-ltb p 4294967296 h, ← w .1, ← g)
+
+-- A line of kind 1, of kind 2, of another kind.
+module _ (t : Live) (lines : List ℕ) (k : ℕ) {kind hash key p : ℕ}
+    (e1 : kind ≡ lineWord lines k kindWord) (e2 : hash ≡ lineWord lines k hashWord) (e3 : key ≡ lineWord lines k keyWord) (e4 : p ≡ lineWord lines k placeWord) where
+  pub line-insert : kind ≡ 1 → {o : Undo} → o ≡ takenBack t (soughtIn t hash key) p → o ≡ undone t lines k
+  unfolding undone
+  line-insert h e = rw (← e1, ← e2, ← e3, ← e4, eq-eqb kind 1 h) e
+
+  pub line-remove : kind ≢ 1 → kind ≡ 2 → {o : Undo} → o ≡ putBack t (soughtIn t hash key) hash key p → o ≡ undone t lines k
+  unfolding undone
+  line-remove n h e = rw (← e1, ← e2, ← e3, ← e4, ne-eqb kind 1 n, eq-eqb kind 2 h) e
+
+  pub line-other : kind ≢ 1 → kind ≢ 2 → misfit ≡ undone t lines k
+  unfolding undone
+  line-other n m = rw (← e1, ne-eqb kind 1 n, ne-eqb kind 2 m)
+
+-- A header with a count below null has its three words, and a line that is undone adds at most one to the count.
+counted : (h : List ℕ) (a b c : ℕ) → getD h 2 null < null → getD (headed h a b c) 2 null ≡ c
+counted h a b c l = go (decLt 2 (length h))
+  where
+    go : Dec (2 < length h) → getD (headed h a b c) 2 null ≡ c
+    go (yes m) = getD-set-same (set (set h 0 a) 1 b) 2 c null (simp length-set (omega arith))
+    go (no n) = absurd (let z : getD h 2 null ≡ null = List·getD-eq-default h null (omega arith) in omega arith)
+
+module _ (t u : Live) (l : countOf t < null) where
+  stays-is : {v : Live} → stays v ≡ stays u → v ≡ u
+  stays-is e = cc
+
+  not-stays : misfit ≡ stays u → ⊥
+  not-stays e = let z : _≡_ {A = ℕ} 0 1 = cc in omega arith
+
+  same-count : {v : Live} (n : ℕ) → stays v ≡ stays u → countOf v ≡ n → countOf u ≡ n
+  same-count n e h = ap (λ (w : Live). countOf w) (sym (stays-is e)) ∙ h
+
+  grown-count : (x hash key p : ℕ) → countOf (grown t x hash key p) ≡ countOf t + 1
+  unfolding grown
+  grown-count x hash key p = counted (t .head) _ _ _ l
+
+  shrunk-count : (x : ℕ) → countOf (shrunk t x) ≡ countOf t - 1
+  unfolding shrunk
+  shrunk-count x = counted (t .head) _ _ _ l
+
+  back-count : (v : Value) (p : ℕ) → takenBack t v p ≡ stays u → countOf u ≤ countOf t + 1
+  back-count none p e = absurd (not-stays e)
+  back-count (some x) p e = go (eqb (cell (t .cells) x place) p) e
+    where
+      go : (b : Bool) → pick b (stays (shrunk t x)) misfit ≡ stays u → countOf u ≤ countOf t + 1
+      go true e = omega (arith, same-count (countOf t - 1) e (shrunk-count x))
+      go false e = absurd (not-stays e)
+
+  put-count : (v : Value) (hash key p : ℕ) → putBack t v hash key p ≡ stays u → countOf u ≤ countOf t + 1
+  put-count (some x) hash key p e = absurd (not-stays e)
+  put-count none hash key p e = go (eqb (lowestFree t) null) (ltb p 4294967296) e
+    where
+      go : (a b : Bool) → pick a misfit (pick b (stays (grown t (lowestFree t) hash key p)) misfit) ≡ stays u → countOf u ≤ countOf t + 1
+      go true b e = absurd (not-stays e)
+      go false true e = omega (arith, same-count (countOf t + 1) e (grown-count (lowestFree t) hash key p))
+      go false false e = absurd (not-stays e)
+
+  undone-count : (lines : List ℕ) (k : ℕ) → undone t lines k ≡ stays u → countOf u ≤ countOf t + 1
+  unfolding undone
+  undone-count lines k e = go (eqb (lineWord lines k kindWord) 1) (eqb (lineWord lines k kindWord) 2) e
+    where
+      hash : ℕ
+      hash = lineWord lines k hashWord
+
+      key : ℕ
+      key = lineWord lines k keyWord
+
+      p : ℕ
+      p = lineWord lines k placeWord
+
+      go : (a b : Bool) → pick a (takenBack t (soughtIn t hash key) p) (pick b (putBack t (soughtIn t hash key) hash key p) misfit) ≡ stays u → countOf u ≤ countOf t + 1
+      go true b e = back-count (soughtIn t hash key) p e
+      go false true e = put-count (soughtIn t hash key) hash key p e
+      go false false e = absurd (not-stays e)
+
+-- A turn of the undoing: c lines are left, and what they leave decides the whole.
+pub record Turn (t₀ : Live) (lines : List ℕ) (m count : ℕ) (t : Live) (c : ℕ) : Type 0 where
+  pub same : unrolled c t lines m ≡ unrolled count t₀ lines m
+  pub small : countOf t + c < null
+  pub names : length (t .names) ≡ length (t₀ .names)
+  pub cells : length (t .cells) ≡ length (t₀ .cells)
+  pub head : length (t .head) ≡ length (t₀ .head)
+
+module _ (lines : List ℕ) (m : ℕ) (t : Live) where
+  unroll-on : (c : ℕ) {u : Live} → 0 < c → stays u ≡ undone t lines (m + (c - 1)) → unrolled (c - 1) u lines m ≡ unrolled c t lines m
+  unfolding unrolled
+  unroll-on zero h e = absurd (omega arith)
+  unroll-on (suc c) h e = let g = rw sub-one at e in rw (sub-one, ← g, unrolled)
+
+  unroll-not : (c : ℕ) → 0 < c → misfit ≡ undone t lines (m + (c - 1)) → misfit ≡ unrolled c t lines m
+  unfolding unrolled
+  unroll-not zero h e = absurd (omega arith)
+  unroll-not (suc c) h e = let g = rw sub-one at e in rw (← g, unrolled)
+
+  unroll-end : (c : ℕ) → c ≤ 0 → stays t ≡ unrolled c t lines m
+  unfolding unrolled
+  unroll-end zero h = refl
+  unroll-end (suc c) h = absurd (omega arith)
+
+module _ {t₀ : Live} {lines : List ℕ} {m count : ℕ} {t : Live} {c : ℕ} (turn : Turn t₀ lines m count t c) where
+  pub turn-on : {r : Undoing} {u : Live} → 0 < c → undoOf r u ≡ undone t lines (m + (c - 1)) → r ≡ Done
+      → length (u .names) ≡ length (t .names) → length (u .cells) ≡ length (t .cells) → length (u .head) ≡ length (t .head)
+      → Turn t₀ lines m count u (c - 1)
+  turn-on {r} {u} h e f n1 n2 n3 =
+      let g : stays u ≡ undone t lines (m + (c - 1)) = ap (λ (b : Undoing). undoOf b u) (sym f) ∙ e in
+      let l : countOf t < null = omega (arith, turn .small) in
+      record {
+        same = unroll-on lines m t c h g ∙ turn .same;
+        small = omega (arith, turn .small, undone-count t u l lines (m + (c - 1)) (sym g));
+        names = n1 ∙ turn .names;
+        cells = n2 ∙ turn .cells;
+        head = n3 ∙ turn .head;
+      }
+
+  pub turn-not : {r : Undoing} (u : Live) → 0 < c → undoOf r u ≡ undone t lines (m + (c - 1)) → r ≡ Misfit
+      → misfit ≡ unrolled count t₀ lines m
+  turn-not {r} u h e f = unroll-not lines m t c h (ap (λ (b : Undoing). undoOf b u) (sym f) ∙ e) ∙ turn .same
+
+  pub turn-end : c ≤ 0 → stays t ≡ unrolled count t₀ lines m
+  turn-end h = unroll-end lines m t c h ∙ turn .same
+
+-- A turn of a copy: one word more.
+pub copy-on : (src dst : List ℕ) (i : ℕ) → i < length src → i < length dst → take i dst ≡ take i src → take (i + 1) (set dst i (getD src i 0)) ≡ take (i + 1) src
+copy-on src dst i a b e =
+    rw (add-one) (take-suc-set dst i (getD src i 0) b ∙ ap (λ (l : List ℕ). l ++ (getD src i 0 ∷ [])) e ∙ sym (take-suc src i 0 a))
+
+-- Lines were undone, or they do not fit.
+pub undo-done : {r : Undoing} (u : Live) {o : Undo} → undoOf r u ≡ o → r ≡ Done → stays u ≡ o
+undo-done u e f = ap (λ (b : Undoing). undoOf b u) (sym f) ∙ e
+
+pub undo-not : {r : Undoing} (u : Live) {o : Undo} → undoOf r u ≡ o → r ≡ Misfit → misfit ≡ o
+undo-not u e f = ap (λ (b : Undoing). undoOf b u) (sym f) ∙ e
+
+pub done-not : Done ≡ Misfit → ⊥
+done-not e = let z : _≡_ {A = ℕ} 0 1 = cc in omega arith
+
+-- Words that were kept aside come back.
+pub words-back : {words after : List ℕ} (copy now : List ℕ)
+    → take (length words) copy ≡ take (length words) words → length now ≡ length words
+    → take (length now) after ≡ take (length now) copy → length after ≡ length now
+    → after ≡ words
+words-back {words} {after} copy now e1 n e2 l =
+    let z : length after ≤ length words = omega arith in
+    sym (take-all (length words) after z) ∙ rw n at e2 ∙ e1 ∙ take-length words
+
+data Three : List ℕ → Type 0 where
+  three : (a b c : ℕ) → Three (a ∷ b ∷ c ∷ [])
+
+to-three : (l : List ℕ) → length l ≡ 3 → Three l
+to-three [] e = absurd (omega arith)
+to-three (a ∷ []) e = absurd (omega arith)
+to-three (a ∷ b ∷ []) e = absurd (omega arith)
+to-three (a ∷ b ∷ c ∷ []) e = three a b c
+to-three (a ∷ b ∷ c ∷ d ∷ l) e = absurd (omega arith)
+
+pub head-back : {h l : List ℕ} (g : List ℕ) {root first count : ℕ} → length h ≡ 3 → length g ≡ length h
+    → root ≡ getD h 0 null → first ≡ getD h 1 null → count ≡ getD h 2 null
+    → l ≡ headed g root first count → l ≡ h
+head-back {h} g e f e1 e2 e3 e4 = e4 ∙ rw (e1, e2, e3) (go (to-three h e) (to-three g (f ∙ e)))
+  where
+    go : {h g : List ℕ} → Three h → Three g → headed g (getD h 0 null) (getD h 1 null) (getD h 2 null) ≡ h
+    go (three a b c) (three x y z) = refl
+
+pub tree-back : {n c h n′ c′ h′ : List ℕ} → n ≡ n′ → c ≡ c′ → h ≡ h′
+    → _≡_ {A = Live} (record { names = n; cells = c; head = h }) (record { names = n′; cells = c′; head = h′ })
+tree-back e1 e2 e3 = rw (e1, e2, e3)

@@ -1,0 +1,91 @@
+-- The test of fitness decides between 1 and the search, whose three answers are handed on.
+use mathlib.Core.Path.{sym, ap, _∙_}
+use borrow.Author.Needs.{needs}
+use borrow.Author.Tests.{not-true, not-false}
+use Rattle.tree.specs.Find.{answerOf}
+use Rattle.index.proofs.Gate.{find-unfit, find-fit}
+use Rattle.index.proofs.find.find.Statement.{statement}
+use Rattle.index.proofs.find.find.Tie as tie
+
+fit-requires : tie.Need-fit-requires
+fit-requires c κs = search needs
+
+returns : tie.Need-returns
+returns c =
+    let at-fit = c .before in
+    find-unfit _ (at-fit .fit .ensures) _ _ (not-true (at-fit .fit .result) (c .if1 .taken))
+
+word-requires : tie.Need-word-requires
+word-requires c κs = search needs
+
+find-tree-node-requires : tie.Need-find-tree-node-requires
+find-tree-node-requires c κs = search needs
+
+enum-known-found : tie.Need-enum-known-found
+enum-known-found c = search needs
+
+enum-told : tie.Need-enum-told
+enum-told c = search needs
+
+enum-told-2 : tie.Need-enum-told-2
+enum-told-2 c = search needs
+
+returns-2 : tie.Need-returns-2
+returns-2 c =
+    let at-search = c .before .before .before in
+    let at-word = at-search .before in
+    let at-test = at-word .before in
+    let at-fit = at-test .before in
+    find-fit
+    _
+    (at-fit .fit .ensures)
+    _
+    _
+    (not-false (at-fit .fit .result) (at-test .if1 .left))
+    (at-word .word .ensures)
+    (ap answerOf (sym (c .before .found .given .1)) ∙ at-search .find-tree-node .ensures)
+
+returns-3 : tie.Need-returns-3
+returns-3 c =
+    let at-search = c .before .before in
+    let at-word = at-search .before in
+    let at-test = at-word .before in
+    let at-fit = at-test .before in
+    find-fit
+    _
+    (at-fit .fit .ensures)
+    _
+    _
+    (not-false (at-fit .fit .result) (at-test .if1 .left))
+    (at-word .word .ensures)
+    (ap answerOf (sym (c .enum-told .given .1)) ∙ at-search .find-tree-node .ensures)
+
+returns-4 : tie.Need-returns-4
+returns-4 c =
+    let at-search = c .before .before in
+    let at-word = at-search .before in
+    let at-test = at-word .before in
+    let at-fit = at-test .before in
+    find-fit
+    _
+    (at-fit .fit .ensures)
+    _
+    _
+    (not-false (at-fit .fit .result) (at-test .if1 .left))
+    (at-word .word .ensures)
+    (ap answerOf (sym (c .enum-told2 .given .1)) ∙ at-search .find-tree-node .ensures)
+
+pub find-spec : {M : Type 1} → statement M
+find-spec =
+    tie.close
+    (tie.spec
+    fit-requires
+    returns
+    word-requires
+    find-tree-node-requires
+    enum-known-found
+    enum-told
+    enum-told-2
+    returns-2
+    returns-3
+    returns-4)

@@ -1,0 +1,103 @@
+-- A fit call makes the model's three writes: the slots, the header, the journal. That the lengths fit bounds the casts.
+use denote.Ref.{now}
+use mathlib.Core.Path.{_≡_, sym, _∙_}
+use native.Mathlib.Omega.{arith}
+use borrow.Author.Tests.{not-true, not-false}
+use Rattle.index_rules.proofs.Freshing.{lengths-fit}
+use Rattle.index.proofs.Freshening.{fresh-unfit, fresh-made}
+use borrow.Author.Needs.{needs}
+use Rattle.index.proofs.fresh.fresh.Statement.{statement}
+use Rattle.index.proofs.fresh.fresh.Tie as tie
+
+fit-lengths-requires : tie.Need-fit-lengths-requires
+fit-lengths-requires c κs = search needs
+
+same-length : tie.Need-same-length
+same-length c = search needs
+
+same-length-2 : tie.Need-same-length-2
+same-length-2 c = search needs
+
+same-length-3 : tie.Need-same-length-3
+same-length-3 c = search needs
+
+same-length-4 : tie.Need-same-length-4
+same-length-4 c = search needs
+
+returns : tie.Need-returns
+returns c =
+    let c1 = c .before in
+    let a = c1 .before .before .before .before .before .before .before .before .before .args in
+    fresh-unfit (now (a .names)) (now (a .cells)) (now (a .head)) (now (a .lines)) (c1 .fit-lengths .ensures) (not-true (c1 .fit-lengths .result) (c .if1 .taken))
+
+sub-capacity : tie.Need-sub-capacity
+sub-capacity c =
+    let c1 = c .before in
+    let fit = lengths-fit _ (sym (c1 .fit-lengths .ensures) ∙ not-false (c1 .fit-lengths .result) (c .if1 .left)) in
+    omega (arith, fit .four, fit .most, fit .tree .two, fit .tree .most)
+
+cast-bare : tie.Need-cast-bare
+cast-bare c =
+    let c1 = c .before .before .before .before in
+    let fit = lengths-fit _ (sym (c1 .fit-lengths .ensures) ∙ not-false (c1 .fit-lengths .result) (c .before .before .before .if1 .left)) in
+    omega (arith, fit .four, fit .most, fit .tree .two, fit .tree .most)
+
+bare-requires : tie.Need-bare-requires
+bare-requires c κs = search needs
+
+head-put-requires : tie.Need-head-put-requires
+head-put-requires c κs = search needs
+
+cast-cut : tie.Need-cast-cut
+cast-cut c =
+    let c1 = c .before .before .before .before .before .before .before .before .before .before .before .before .before .before in
+    let fit = lengths-fit _ (sym (c1 .fit-lengths .ensures) ∙ not-false (c1 .fit-lengths .result) (c .before .before .before .before .before .before .before .before .before .before .before .before .before .if1 .left)) in
+    omega (arith, fit .four, fit .most, fit .tree .two, fit .tree .most)
+
+cut-requires : tie.Need-cut-requires
+cut-requires c κs = search needs
+
+same-length-5 : tie.Need-same-length-5
+same-length-5 c = search needs
+
+same-length-6 : tie.Need-same-length-6
+same-length-6 c = search needs
+
+same-length-7 : tie.Need-same-length-7
+same-length-7 c = search needs
+
+same-length-8 : tie.Need-same-length-8
+same-length-8 c = search needs
+
+returns-2 : tie.Need-returns-2
+returns-2 c =
+    let c2 = c .before .before in
+    let c4 = c2 .before .before .before .before in
+    let c7 = c4 .before .before .before .before .before .before in
+    let c8 = c7 .before .before .before .before in
+    let c9 = c8 .before in
+    let a = c9 .before .before .before .before .before .before .before .before .before .args in
+    fresh-made (now (a .names)) (now (a .cells)) (now (a .head)) (now (a .lines)) (c9 .fit-lengths .ensures)
+    (not-false (c9 .fit-lengths .result) (c8 .if1 .left)) (c7 .bare .ensures) (c4 .head-put .ensures) (c2 .cut .ensures)
+
+pub fresh-spec : {M : Type 1} → statement M
+fresh-spec =
+    tie.close
+    (tie.spec
+    fit-lengths-requires
+    same-length
+    same-length-2
+    same-length-3
+    same-length-4
+    returns
+    sub-capacity
+    cast-bare
+    bare-requires
+    head-put-requires
+    cast-cut
+    cut-requires
+    same-length-5
+    same-length-6
+    same-length-7
+    same-length-8
+    returns-2)

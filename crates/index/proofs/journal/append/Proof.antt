@@ -1,0 +1,58 @@
+-- The line is written past the last, and the length is one more.
+use Rattle.index.proofs.Writing.{append, no-append}
+use denote.Ref.{now}
+use borrow.Author.Needs.{needs}
+use Rattle.index.proofs.journal.append.Statement.{statement}
+use Rattle.index.proofs.journal.append.Tie as tie
+
+word-requires : tie.Need-word-requires
+word-requires c κs = search needs
+
+same-length : tie.Need-same-length
+same-length c = search needs
+
+returns : tie.Need-returns
+returns c =
+    let c1 = c .before in
+    let a = c1 .before .before .before .args in
+    no-append (now (a .lines)) (a .kind) (a .hash) (a .key) (a .place)
+    (c1 .word .ensures)
+    (c .if1 .taken)
+
+put-line-requires : tie.Need-put-line-requires
+put-line-requires c κs = search needs
+
+add-put-word : tie.Need-add-put-word
+add-put-word c = search needs
+
+put-word-requires : tie.Need-put-word-requires
+put-word-requires c κs = search needs
+
+same-length-2 : tie.Need-same-length-2
+same-length-2 c = search needs
+
+returns-2 : tie.Need-returns-2
+returns-2 c =
+    let c1 = c .before .before in
+    let c2 = c1 .before .before .before .before in
+    let c3 = c2 .before .before in
+    let c4 = c3 .before in
+    let a = c4 .before .before .before .args in
+    append (now (a .lines)) (a .kind) (a .hash) (a .key) (a .place)
+    (c4 .word .ensures)
+    (c3 .if1 .left)
+    (c2 .put-line .ensures)
+    (c1 .put-word .ensures)
+
+pub append-spec : {M : Type 1} → statement M
+append-spec =
+    tie.close
+    (tie.spec
+    word-requires
+    same-length
+    returns
+    put-line-requires
+    add-put-word
+    put-word-requires
+    same-length-2
+    returns-2)

@@ -1,0 +1,93 @@
+-- The tests in the rules' order settle the model's, and the answer is the one that they come to.
+use native.Mathlib.Omega.{arith}
+use Rattle.index_rules.proofs.Journal.{fits-index}
+use Rattle.index.proofs.Asking.{is-fit, is-unfit, tree-fits, is-sound, not-sound}
+use Rattle.index.proofs.Rolling.{unfit, damaged, bad-mark, good-mark}
+use borrow.Author.Needs.{needs}
+use Rattle.index.proofs.rollback.ask.Statement.{statement}
+use Rattle.index.proofs.rollback.ask.Tie as tie
+
+fit-index-requires : tie.Need-fit-index-requires
+fit-index-requires c κs = search needs
+
+enum-told : tie.Need-enum-told
+enum-told c = search needs
+
+enum-told-2 : tie.Need-enum-told-2
+enum-told-2 c = search needs
+
+returns : tie.Need-returns
+returns c =
+    let c2 = c .before .before in
+    unfit _ _ (is-unfit _ (c2 .fit-index .ensures) (c .enum-told2 .given .1))
+
+sound-requires : tie.Need-sound-requires
+sound-requires c κs = search needs
+
+enum-told-3 : tie.Need-enum-told-3
+enum-told-3 c = search needs
+
+returns-2 : tie.Need-returns-2
+returns-2 c =
+    let c1 = c .before in
+    let c2 = c1 .before in
+    let c3 = c2 .before .before in
+    let f = is-fit _ (c3 .fit-index .ensures) (c2 .enum-told .given .1) in
+    damaged _ _ f (not-sound _ (tree-fits _ f) (c1 .sound .result) (c1 .sound .ensures) (c .match2 .keys2))
+
+word-requires : tie.Need-word-requires
+word-requires c κs = search needs
+
+returns-3 : tie.Need-returns-3
+returns-3 c =
+    let c1 = c .before in
+    let c2 = c1 .before in
+    let c4 = c2 .before .before in
+    let c5 = c4 .before in
+    let c6 = c5 .before .before in
+    let f = is-fit _ (c6 .fit-index .ensures) (c5 .enum-told .given .1) in
+    bad-mark _ _ f
+    (is-sound _ (tree-fits _ f) (c4 .sound .result) (c4 .sound .ensures) (c2 .enum-told3 .given .1))
+    (c1 .word .ensures)
+    (c .if1 .taken)
+
+sub-t11 : tie.Need-sub-t11
+sub-t11 c = search needs
+
+cast-t12 : tie.Need-cast-t12
+cast-t12 c =
+    let c1 = c .before in
+    let c5 = c1 .before .before .before .before in
+    let c6 = c5 .before .before in
+    let h = fits-index _ (is-fit _ (c6 .fit-index .ensures) (c5 .enum-told .given .1)) in
+    omega (arith, h .most, h .within, c1 .word .ensures)
+
+returns-4 : tie.Need-returns-4
+returns-4 c =
+    let c1 = c .before in
+    let c2 = c1 .before in
+    let c4 = c2 .before .before in
+    let c5 = c4 .before in
+    let c6 = c5 .before .before in
+    let f = is-fit _ (c6 .fit-index .ensures) (c5 .enum-told .given .1) in
+    good-mark _ _ f
+    (is-sound _ (tree-fits _ f) (c4 .sound .result) (c4 .sound .ensures) (c2 .enum-told3 .given .1))
+    (c1 .word .ensures)
+    (c .if1 .left)
+
+pub ask-spec : {M : Type 1} → statement M
+ask-spec =
+    tie.close
+    (tie.spec
+    fit-index-requires
+    enum-told
+    enum-told-2
+    returns
+    sound-requires
+    enum-told-3
+    returns-2
+    word-requires
+    returns-3
+    sub-t11
+    cast-t12
+    returns-4)

@@ -1,0 +1,39 @@
+-- Both links are read before either is written, as in `unchained`.
+use Rattle.index.proofs.Shrinking.{unchain}
+use denote.Ref.{now}
+use borrow.Author.Needs.{needs}
+use Rattle.index.proofs.shrink.unchain.Statement.{statement}
+use Rattle.index.proofs.shrink.unchain.Tie as tie
+
+get-requires : tie.Need-get-requires
+get-requires c κs = search needs
+
+get-requires-2 : tie.Need-get-requires-2
+get-requires-2 c κs = search needs
+
+put-requires : tie.Need-put-requires
+put-requires c κs = search needs
+
+put-requires-2 : tie.Need-put-requires-2
+put-requires-2 c κs = search needs
+
+same-length : tie.Need-same-length
+same-length c = search needs
+
+returns : tie.Need-returns
+returns c =
+    let c1 = c .before .before in
+    let c2 = c1 .before .before .before .before in
+    let c3 = c2 .before .before in
+    let c4 = c3 .before .before in
+    let a = c4 .before .before .before .args in
+    unchain (now (a .cells)) (a .x)
+    (c4 .get .ensures)
+    (c3 .get2 .ensures)
+    (c2 .put .ensures)
+    (c1 .put2 .ensures)
+
+pub unchain-spec : {M : Type 1} → statement M
+unchain-spec =
+    tie.close
+    (tie.spec get-requires get-requires-2 put-requires put-requires-2 same-length returns)

@@ -1,0 +1,110 @@
+-- Each way out closes by the reads and the tests that led there; the chain hands back at most its visits.
+use mathlib.Core.Path.{sym, ap, _∙_}
+use denote.Ref.{now}
+use Prim.Native.Nat.{_/_}
+use lib.ListN.{length}
+use Rattle.slots.specs.Words.{null}
+use Rattle.tree_rules.proofs.Visits.{chained-within}
+use Rattle.tree.specs.Rules.{restOf}
+use Rattle.index_rules.specs.Sound.{rule7}
+use borrow.Author.Tests.{eq-eqb, ne-eqb, not-false, not-true}
+use borrow.Author.Needs.{needs}
+use Rattle.index.proofs.sound.rule7.Statement.{statement}
+use Rattle.index.proofs.sound.rule7.Tie as tie
+
+word-requires : tie.Need-word-requires
+word-requires c κs = search needs
+
+not-free-requires : tie.Need-not-free-requires
+not-free-requires c κs = search needs
+
+returns : tie.Need-returns
+unfolding rule7
+returns c =
+    let c1 = c .before in
+    let c2 = c1 .before in
+    rw (← c2 .word .ensures, ← c1 .not-free .ensures, not-true (c1 .not-free .result) (c .if1 .taken))
+
+chain-requires : tie.Need-chain-requires
+chain-requires c κs = search needs
+
+enum-known-walk : tie.Need-enum-known-walk
+enum-known-walk c = search needs
+
+enum-told : tie.Need-enum-told
+enum-told c = search needs
+
+returns-2 : tie.Need-returns-2
+unfolding rule7
+returns-2 c =
+    let c1 = c .before in
+    let c2 = c1 .before in
+    let c3 = c2 .before in
+    let c4 = c3 .before in
+    let c5 = c4 .before in
+    rw (← c5 .word .ensures, ← c4 .not-free .ensures, not-false (c4 .not-free .result) (c3 .if1 .left), ← c2 .chain .ensures, c .enum-told .given .1)
+
+word-requires-2 : tie.Need-word-requires-2
+word-requires-2 c κs = search needs
+
+sub-if2 : tie.Need-sub-if2
+sub-if2 c =
+    let at-told = c .before .before in
+    let at-chain = at-told .before .before in
+    let at-first = at-chain .before .before .before in
+    let a = at-first .before .before .before .before .args in
+    let n = length (now (a .names)) / 2 in
+    chained-within
+    n
+    (now (a .cells))
+    n
+    null
+    (at-first .word .result)
+    (at-told .walk .given .0 .0)
+    (sym (at-chain .chain .ensures) ∙ ap restOf (at-told .walk .given .1))
+
+cast-if2 : tie.Need-cast-if2
+cast-if2 c = search needs
+
+returns-3 : tie.Need-returns-3
+unfolding rule7
+returns-3 c =
+    let c1 = c .before in
+    let c2 = c1 .before in
+    let c3 = c2 .before in
+    let c4 = c3 .before in
+    let c5 = c4 .before in
+    let c6 = c5 .before in
+    let c7 = c6 .before in
+    let c8 = c7 .before in
+    rw (← c8 .word .ensures, ← c7 .not-free .ensures, not-false (c7 .not-free .result) (c6 .if1 .left), ← c5 .chain .ensures, c3 .walk .given .1, ← c1 .word2 .ensures, ne-eqb _ _ (c .if2 .taken))
+
+returns-4 : tie.Need-returns-4
+unfolding rule7
+returns-4 c =
+    let c1 = c .before in
+    let c2 = c1 .before in
+    let c3 = c2 .before in
+    let c4 = c3 .before in
+    let c5 = c4 .before in
+    let c6 = c5 .before in
+    let c7 = c6 .before in
+    let c8 = c7 .before in
+    rw (← c8 .word .ensures, ← c7 .not-free .ensures, not-false (c7 .not-free .result) (c6 .if1 .left), ← c5 .chain .ensures, c3 .walk .given .1, ← c1 .word2 .ensures, eq-eqb _ _ (c .if2 .left))
+
+pub rule7-spec : {M : Type 1} → statement M
+rule7-spec =
+    tie.close
+    (tie.spec
+    word-requires
+    not-free-requires
+    returns
+    chain-requires
+    enum-known-walk
+    enum-told
+    returns-2
+    word-requires-2
+    sub-if2
+    cast-if2
+    returns-3
+    returns-4)

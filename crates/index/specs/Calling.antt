@@ -1,0 +1,41 @@
+-- Of insert, remove and fresh beside their contracts: their answers are told apart by their numbers and values, and each entry point has
+-- one outcome, the answer with all that is left in the lent slices.
+use mathlib.Core.Path.{_≡_}
+use mathlib.Core.List.{List}
+use Prim.Native.Nat.{ℕ}
+use Rattle.slots.specs.Answers.{Answer, OneAnswer}
+use Rattle.index_rules.specs.Index.{Index, Outcome, fitsIndex}
+use Rattle.index_rules.specs.Insert.{inserts}
+use Rattle.index_rules.specs.Remove.{removes}
+use Rattle.index_rules.specs.Fresh.{freshes}
+use Rattle.index.specs.Calls.{fitnessOf, insertedOf, removedOf}
+use Rattle.index.specs.Fresh.{freshOf}
+use Rattle.index.specs.declared.fit_index.Fitness.{Fitness}
+use Rattle.index.specs.declared.fresh.Freshness.{Freshness}
+use Rattle.index.specs.declared.insert.Inserted.{Inserted}
+use Rattle.index.specs.declared.remove.Removed.{Removed}
+
+-- What a call returns, and the words of the four slices after it.
+pub record Call (A : Type 0) : Type 0 where
+  pub answer : A
+  pub names : List ℕ
+  pub cells : List ℕ
+  pub head : List ℕ
+  pub lines : List ℕ
+
+abbrev pub outcomeOf : {A : Type 0} → (A → Answer) → Call A → Outcome
+outcomeOf f c =
+    record {
+      answer = f (c .answer);
+      left = record { live = record { names = c .names; cells = c .cells; head = c .head }; lines = c .lines };
+    }
+
+pub record Calling : Type 0 where
+  pub inserted-one-to-one : (a b : Inserted) → insertedOf a ≡ insertedOf b → a ≡ b
+  pub insert-one : (ix : Index) (hash key p : ℕ) → OneAnswer (λ c. outcomeOf insertedOf c ≡ inserts ix hash key p)
+  pub removed-one-to-one : (a b : Removed) → removedOf a ≡ removedOf b → a ≡ b
+  pub remove-one : (ix : Index) (hash key : ℕ) → OneAnswer (λ c. outcomeOf removedOf c ≡ removes ix hash key)
+  pub freshness-one-to-one : (a b : Freshness) → freshOf a ≡ freshOf b → a ≡ b
+  pub fresh-one : (ix : Index) → OneAnswer (λ c. outcomeOf freshOf c ≡ freshes ix)
+  pub fitness-one-to-one : (a b : Fitness) → fitnessOf a ≡ fitnessOf b → a ≡ b
+  pub fit-index-one : (ix : Index) → OneAnswer (λ r. fitnessOf r ≡ fitsIndex ix)

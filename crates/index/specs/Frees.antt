@@ -1,0 +1,34 @@
+-- What the values of this crate's enum mean, and what its routines leave on any words.
+use mathlib.Core.List.{List}
+use Prim.Native.Nat.{ℕ}
+use lib.ListN.{length}
+use lib.Dec.{eqb, leb}
+use Rattle.slots.specs.Words.{null, pick, mostLines, mostNames}
+use Rattle.slots.specs.Answers.{Value, some, none}
+use Rattle.index_rules.specs.Live.{Live, countOf}
+use Rattle.index_rules.specs.Index.{lengthOf, appended}
+use Rattle.index_rules.specs.Insert.{grown}
+use Rattle.index_rules.specs.Remove.{shrunk}
+use Rattle.index.specs.declared.grow.Free.{Free}
+use Rattle.index.specs.declared.grow.Free.the-variants.{At, None}
+
+-- A slot, or none.
+abbrev pub freeOf : Free → Value
+freeOf (At slot) = some slot
+freeOf None = none
+
+-- A link as a slot: null is none.
+abbrev pub slotOf : ℕ → Value
+slotOf i = pick (eqb i null) none (some i)
+
+-- A line more, where the length is one of a journal's: at most 1,024.
+abbrev pub appendedIf : List ℕ → ℕ → ℕ → ℕ → ℕ → List ℕ
+appendedIf lines kind hash key p = pick (leb (lengthOf lines) mostLines) (appended lines kind hash key p) lines
+
+-- A slot less, where the names are no more than 4,096 slots have.
+abbrev pub shrunkIf : Live → ℕ → Live
+shrunkIf t x = pick (leb (length (t .names)) mostNames) (shrunk t x) t
+
+-- A slot more, where the names are no more than 4,096 slots have and the count is a number.
+abbrev pub grownIf : Live → ℕ → ℕ → ℕ → ℕ → Live
+grownIf t x hash key p = pick (leb (length (t .names)) mostNames) (pick (eqb (countOf t) null) t (grown t x hash key p)) t

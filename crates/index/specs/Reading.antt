@@ -1,0 +1,28 @@
+-- Of the routines that only read beside their contracts: their answers are told apart by their numbers, and each public routine has one outcome.
+use mathlib.Core.Path.{_≡_}
+use mathlib.Core.List.{List}
+use Prim.Native.Nat.{ℕ}
+use lib.ListN.{getD}
+use Rattle.slots.specs.Words.{null}
+use Rattle.slots.specs.Answers.{OneAnswer}
+use Rattle.index_rules.specs.Live.{Live, fits}
+use Rattle.index_rules.specs.Find.{finds}
+use Rattle.index_rules.specs.Check.{checks}
+use Rattle.tree_rules.specs.Chain.{tally}
+use Rattle.index_rules.specs.Sound.{used, slotsFine, sounds}
+use Rattle.index.specs.Reads.{foundOf, checkedOf, soundOf}
+use Rattle.index.specs.declared.check.Checked.{Checked}
+use Rattle.index.specs.declared.find.Found.{Found}
+use Rattle.index.specs.declared.sound.Soundness.{Soundness}
+
+pub record Reading : Type 0 where
+  pub found-one-to-one : (a b : Found) → foundOf a ≡ foundOf b → a ≡ b
+  pub find-one : (t : Live) (hash key : ℕ) → OneAnswer (λ r. foundOf r ≡ finds t hash key)
+  pub checked-one-to-one : (a b : Checked) → checkedOf a ≡ checkedOf b → a ≡ b
+  pub check-one : (t : Live) → OneAnswer (λ r. checkedOf r ≡ checks t)
+  pub soundness-one-to-one : (a b : Soundness) → soundOf a ≡ soundOf b → a ≡ b
+  pub sound-one : (t : Live) → OneAnswer (λ r. soundOf r ≡ sounds t)
+  pub fit-one : (t : Live) → OneAnswer (λ r. r ≡ fits t)
+  pub word-one : (head : List ℕ) (k : ℕ) → OneAnswer (λ r. r ≡ getD head k null)
+  pub slots-fine-one : (t : Live) (n : ℕ) → OneAnswer (λ r. r ≡ slotsFine n n t)
+  pub used-slots-one : (cells : List ℕ) (n : ℕ) → OneAnswer (λ r. r ≡ tally n (used cells))

@@ -1,0 +1,32 @@
+-- The number and value of each answer of rollback, and what its steps answer.
+use Prim.Native.Nat.{ℕ, _-_}
+use lib.Dec.{ltb}
+use Rattle.slots.specs.Words.{pick}
+use Rattle.slots.specs.Answers.{Answer, given, refused}
+use Rattle.index_rules.specs.Live.{Live}
+use Rattle.index_rules.specs.Sound.{sound}
+use Rattle.index_rules.specs.Index.{Index, fitsIndex, lengthOf}
+use Rattle.index_rules.specs.Rollback.{Undo, stays, misfit}
+use Rattle.index.specs.declared.rollback.RolledBack.{RolledBack}
+use Rattle.index.specs.declared.rollback.RolledBack.the-variants.{Lines, Unfit, Damaged, BadMark, Misfit}
+use Rattle.index.specs.declared.lines.Undoing.{Undoing}
+use Rattle.index.specs.declared.lines.Undoing.the-variants.{Done, Misfit as LineMisfit}
+
+abbrev pub rolledOf : RolledBack → Answer
+rolledOf (Lines count) = given count
+rolledOf Unfit = refused 1
+rolledOf Damaged = refused 2
+rolledOf BadMark = refused 7
+rolledOf Misfit = refused 8
+
+-- What rollback answers if all its lines fit.
+unfoldable pub opened : Index → ℕ → Answer
+opened ix m =
+    pick (fitsIndex ix)
+    (pick (sound (ix .live)) (pick (ltb (lengthOf (ix .lines)) m) (refused 7) (given (lengthOf (ix .lines) - m))) (refused 2))
+    (refused 1)
+
+-- What came of undoing, with the tree that is left: where a line does not fit, nothing is said of it.
+abbrev pub undoOf : Undoing → Live → Undo
+undoOf Done t = stays t
+undoOf LineMisfit t = misfit

@@ -1,0 +1,71 @@
+// fresh: an empty index is written into slices of fit lengths, whatever their words are.
+use crate::fit::fit;
+use crate::grow::head_put;
+use crate::grow::put_pair;
+use crate::journal::cut;
+use crate::shrink::wipe;
+use slots::MOST_LINES;
+use slots::NULL;
+ghost use mathlib.Core.Path.{_≡_};
+ghost use lib.ListN.{length};
+ghost use Prim.Native.Nat.{_≤_, _*_};
+ghost use Rattle.index_rules.specs.Live.{lentTree};
+ghost use Rattle.index_rules.specs.Index.{outcome, lent};
+ghost use Rattle.index_rules.specs.Fresh.{fitsLengths, bared, freshes};
+ghost use Rattle.index.specs.Fresh.{freshOf};
+
+// Whether an empty index stands in the slices.
+pub enum Freshness {
+    Made,
+    Unfit,
+}
+
+// Whether the slices are as long as an index's.
+fn fit_lengths(names: &[u64], cells: &[u32], head: &[u32], lines: &[u64]) -> bool
+    ensures { λ r. ⌜ r ≡ fitsLengths (lent (now (names .entry)) (now (cells .entry)) (now (head .entry)) (now (lines .entry))) ⌝ }
+{
+    let tree = fit(names, cells, head);
+    if !tree {
+        return false;
+    }
+    let n = lines.len();
+    if n < 1 {
+        return false;
+    }
+    let capacity = (n - 1) / 4;
+    if MOST_LINES < capacity {
+        return false;
+    }
+    n == 1 + 4 * capacity
+}
+
+// The first n slots are cleared, their names too, from the last down.
+fn bare(names: &mut [u64], cells: &mut [u32], head: &[u32], n: u32)
+    ensures { λ _. ⌜ lentTree (now (names .exit)) (now (cells .exit)) (now (head .entry))
+        ≡ bared n (lentTree (now (names .entry)) (now (cells .entry)) (now (head .entry))) ⌝ }
+{
+    let mut k = n;
+    while 0 < k {
+        k -= 1;
+        put_pair(names, k, 0, 0);
+        wipe(cells, k);
+    }
+}
+
+// An empty index: every slot cleared, a header of nothing, every word of the journal 0. Unfit, and nothing written, where the lengths are
+// not an index's.
+pub fn fresh(names: &mut [u64], cells: &mut [u32], head: &mut [u32], lines: &mut [u64]) -> Freshness
+    ensures { λ r. ⌜ outcome (freshOf r) (lent (now (names .exit)) (now (cells .exit)) (now (head .exit)) (now (lines .exit)))
+        ≡ freshes (lent (now (names .entry)) (now (cells .entry)) (now (head .entry)) (now (lines .entry))) ⌝ }
+{
+    let fits = fit_lengths(names, cells, head, lines);
+    if !fits {
+        return Freshness::Unfit;
+    }
+    let n = names.len() / 2;
+    let capacity = (lines.len() - 1) / 4;
+    bare(names, cells, head, n as u32);
+    head_put(head, NULL, NULL, 0);
+    cut(lines, 0, capacity as u32);
+    Freshness::Made
+}

@@ -1,0 +1,112 @@
+// A free slot takes a pair and its place: "insert" after the check.
+use crate::fit::COUNT;
+use crate::fit::FIRST;
+use crate::fit::ROOT;
+use crate::fit::word;
+use links::hang::hang_slot;
+use slots::FREE;
+use slots::HASH;
+use slots::KEY;
+use slots::MOST_NAMES;
+use slots::NEXT;
+use slots::NULL;
+use slots::PLACE;
+use slots::PREV;
+use slots::STATE;
+use slots::get;
+use slots::put;
+use slots::put_name;
+ghost use mathlib.Core.Path.{_≡_};
+ghost use lib.ListN.{set};
+ghost use Rattle.slots.specs.Words.{rename, hashPart, keyPart};
+ghost use Rattle.index_rules.specs.Live.{lentTree};
+ghost use Rattle.index_rules.specs.Insert.{freeFrom, fronted, headed};
+ghost use Rattle.index.specs.Frees.{freeOf, slotOf, grownIf};
+
+// A free slot, or that there is none.
+pub enum Free {
+    At(u32),
+    None,
+}
+
+// The lowest free of the n slots.
+pub fn lowest_free(cells: &[u32], n: u32) -> Free
+    ensures { λ r. ⌜ freeOf r ≡ slotOf (freeFrom n (now (cells .entry)) 0) ⌝ }
+{
+    let mut k: u32 = 0;
+    while k < n {
+        let state = get(cells, k, STATE);
+        if state == FREE {
+            return Free::At(k);
+        }
+        k += 1;
+    }
+    Free::None
+}
+
+// Slot x stands before first in the chain.
+fn front(cells: &mut [u32], x: u32, first: u32)
+    ensures { λ _. ⌜ now (cells .exit) ≡ fronted (now (cells .entry)) x first ⌝ }
+{
+    put(cells, x, PREV, NULL);
+    put(cells, x, NEXT, first);
+    put(cells, first, PREV, x);
+}
+
+// Writes word k of the header; nothing where there is no such word.
+fn put_word(head: &mut [u32], k: usize, v: u32)
+    ensures { λ _. ⌜ now (head .exit) ≡ set (now (head .entry)) k v ⌝ }
+{
+    if k < head.len() {
+        head[k] = v;
+    }
+}
+
+// The header holds root, first and the count.
+pub fn head_put(head: &mut [u32], root: u32, first: u32, count: u32)
+    ensures { λ _. ⌜ now (head .exit) ≡ headed (now (head .entry)) root first count ⌝ }
+{
+    put_word(head, ROOT, root);
+    put_word(head, FIRST, first);
+    put_word(head, COUNT, count);
+}
+
+// Slot x has the pair.
+pub fn put_pair(names: &mut [u64], x: u32, hash: u64, key: u64)
+    ensures { λ _. ⌜ now (names .exit) ≡ rename (rename (now (names .entry)) x hashPart hash) x keyPart key ⌝ }
+{
+    put_name(names, x, HASH, hash);
+    put_name(names, x, KEY, key);
+}
+
+// The free slot x takes the pair and its place: it goes to the front of the chain, is hung where the order says, and counts.
+// Nothing where the names are more than 4,096 slots have, or the count is null.
+pub fn grow(
+    names: &mut [u64],
+    cells: &mut [u32],
+    head: &mut [u32],
+    x: u32,
+    hash: u64,
+    key: u64,
+    place: u32,
+)
+    ensures { λ _. ⌜ lentTree (now (names .exit)) (now (cells .exit)) (now (head .exit))
+        ≡ grownIf (lentTree (now (names .entry)) (now (cells .entry)) (now (head .entry))) x hash key place ⌝ }
+{
+    if MOST_NAMES < names.len() {
+        return;
+    }
+    let count = word(head, COUNT);
+    if count == NULL {
+        return;
+    }
+    let n = (names.len() / 2) as u32;
+    let root = word(head, ROOT);
+    let first = word(head, FIRST);
+    let more = count + 1;
+    put_pair(names, x, hash, key);
+    put(cells, x, PLACE, place);
+    front(cells, x, first);
+    let top = hang_slot(names, cells, root, x, hash, key, n);
+    head_put(head, top, x, more);
+}

@@ -1,0 +1,141 @@
+// A line of the journal is undone on the tree by the same drivers.
+use crate::fit::ROOT;
+use crate::fit::word;
+use crate::grow::Free;
+use crate::grow::grow;
+use crate::grow::lowest_free;
+use crate::journal::HASH;
+use crate::journal::INSERT;
+use crate::journal::KEY;
+use crate::journal::KIND;
+use crate::journal::PLACE;
+use crate::journal::REMOVE;
+use crate::journal::line_word;
+use crate::shrink::shrink;
+use slots::get;
+use tree::find::Found;
+use tree::find::find_tree_node;
+ghost use mathlib.Core.Path.{_≡_};
+ghost use Prim.Native.Nat.{_+_, _≤_, _<_};
+ghost use lib.ListN.{length, getD};
+ghost use Rattle.slots.specs.Words.{null, mostNames};
+ghost use Rattle.index_rules.specs.Live.{lentTree};
+ghost use Rattle.index_rules.specs.Insert.{soughtIn};
+ghost use Rattle.index_rules.specs.Rollback.{takenBack, putBack, undone, unrolled};
+ghost use Rattle.index.specs.Rolls.{undoOf};
+
+// What comes of undoing: it is done, or a line does not fit.
+pub(crate) enum Undoing {
+    Done,
+    Misfit,
+}
+
+// An insert line is undone by a removal: its pair is there with its place. Misfit where it is not.
+fn take_back(
+    names: &mut [u64],
+    cells: &mut [u32],
+    head: &mut [u32],
+    hash: u64,
+    key: u64,
+    place: u64,
+) -> Undoing
+    requires { ⌜ length (now names) ≤ mostNames ⌝ }
+    ensures { λ r. ⌜ undoOf r (lentTree (now (names .exit)) (now (cells .exit)) (now (head .exit)))
+        ≡ takenBack (lentTree (now (names .entry)) (now (cells .entry)) (now (head .entry)))
+        (soughtIn (lentTree (now (names .entry)) (now (cells .entry)) (now (head .entry))) hash key) place ⌝ }
+{
+    let root = word(head, ROOT);
+    let found = find_tree_node(names, cells, root, hash, key);
+    let Found::At(x) = found else {
+        return Undoing::Misfit;
+    };
+    let own = get(cells, x, slots::PLACE);
+    if own as u64 != place {
+        return Undoing::Misfit;
+    }
+    shrink(names, cells, head, x);
+    Undoing::Done
+}
+
+// A remove line is undone by an insert: its pair is not there, and there is a free slot. Misfit where that is not so, or where
+// the place is wider than 32 bits.
+fn put_back(
+    names: &mut [u64],
+    cells: &mut [u32],
+    head: &mut [u32],
+    hash: u64,
+    key: u64,
+    place: u64,
+) -> Undoing
+    requires { ⌜ length (now names) ≤ mostNames ⌝ }
+    requires { ⌜ getD (now head) 2 null < null ⌝ }
+    ensures { λ r. ⌜ undoOf r (lentTree (now (names .exit)) (now (cells .exit)) (now (head .exit)))
+        ≡ putBack (lentTree (now (names .entry)) (now (cells .entry)) (now (head .entry)))
+        (soughtIn (lentTree (now (names .entry)) (now (cells .entry)) (now (head .entry))) hash key) hash key place ⌝ }
+{
+    let root = word(head, ROOT);
+    let found = find_tree_node(names, cells, root, hash, key);
+    let Found::At(_) = found else {
+        let free = lowest_free(cells, (names.len() / 2) as u32);
+        let Free::At(x) = free else {
+            return Undoing::Misfit;
+        };
+        if 4294967296 <= place {
+            return Undoing::Misfit;
+        }
+        grow(names, cells, head, x, hash, key, place as u32);
+        return Undoing::Done;
+    };
+    Undoing::Misfit
+}
+
+// Line k is undone. Misfit where it does not fit; the slices are then left anyhow.
+fn undo_line(
+    names: &mut [u64],
+    cells: &mut [u32],
+    head: &mut [u32],
+    lines: &[u64],
+    k: usize,
+) -> Undoing
+    requires { ⌜ length (now names) ≤ mostNames ⌝ }
+    requires { ⌜ getD (now head) 2 null < null ⌝ }
+    ensures { λ r. ⌜ undoOf r (lentTree (now (names .exit)) (now (cells .exit)) (now (head .exit)))
+        ≡ undone (lentTree (now (names .entry)) (now (cells .entry)) (now (head .entry))) (now (lines .entry)) k ⌝ }
+{
+    let kind = line_word(lines, k, KIND);
+    let hash = line_word(lines, k, HASH);
+    let key = line_word(lines, k, KEY);
+    let place = line_word(lines, k, PLACE);
+    if kind == INSERT {
+        return take_back(names, cells, head, hash, key, place);
+    }
+    if kind == REMOVE {
+        return put_back(names, cells, head, hash, key, place);
+    }
+    Undoing::Misfit
+}
+
+// So many lines from m on are undone, from the last down. Misfit where one does not fit; the slices are then left anyhow.
+pub(crate) fn unroll(
+    names: &mut [u64],
+    cells: &mut [u32],
+    head: &mut [u32],
+    lines: &[u64],
+    m: u32,
+    count: u32,
+) -> Undoing
+    requires { ⌜ length (now names) ≤ mostNames ⌝ }
+    requires { ⌜ getD (now head) 2 null + count < null ⌝ }
+    ensures { λ r. ⌜ undoOf r (lentTree (now (names .exit)) (now (cells .exit)) (now (head .exit)))
+        ≡ unrolled count (lentTree (now (names .entry)) (now (cells .entry)) (now (head .entry))) (now (lines .entry)) m ⌝ }
+{
+    let mut c = count;
+    while 0 < c {
+        c -= 1;
+        let undone = undo_line(names, cells, head, lines, m as usize + c as usize);
+        let Undoing::Done = undone else {
+            return Undoing::Misfit;
+        };
+    }
+    Undoing::Done
+}

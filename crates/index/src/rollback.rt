@@ -1,0 +1,116 @@
+// rollback: the lines above a mark are undone, from the last down, and cleared.
+use crate::backup::copy_cells;
+use crate::backup::copy_names;
+use crate::fit::COUNT;
+use crate::fit::FIRST;
+use crate::fit::ROOT;
+use crate::fit::word;
+use crate::fit_index::Fitness;
+use crate::fit_index::fit_index;
+use crate::grow::head_put;
+use crate::journal::cut;
+use crate::journal::word as journal_word;
+use crate::lines::Undoing;
+use crate::lines::unroll;
+use crate::sound::Soundness;
+use crate::sound::sound;
+use slots::MOST_CELLS;
+use slots::MOST_NAMES;
+ghost use mathlib.Core.Path.{_≡_};
+ghost use Prim.Native.Nat.{_+_, _≤_, _<_};
+ghost use lib.ListN.{length, getD};
+ghost use Rattle.slots.specs.Words.{null, mostNames};
+ghost use Rattle.index_rules.specs.Live.{Live, lentTree};
+ghost use Rattle.index_rules.specs.Index.{lent, outcome};
+ghost use Rattle.index_rules.specs.Rollback.{unrolled, rolls};
+ghost use Rattle.index.specs.Rolls.{undoOf, opened, rolledOf};
+ghost use Rattle.index.specs.declared.lines.Undoing.the-variants.{Misfit};
+
+// What rollback answers, with the number of each refusal.
+pub enum RolledBack {
+    Lines(u32), // how many lines were undone
+    Unfit, // 1
+    Damaged, // 2
+    BadMark, // 7
+    Misfit, // 8
+}
+
+// What rollback answers before it looks at a line: the tests 1, 2, 7 in turn, else the number of lines to undo.
+fn ask(names: &[u64], cells: &[u32], head: &[u32], lines: &[u64], mark: u32) -> RolledBack
+    ensures { λ r. ⌜ rolledOf r ≡ opened (lent (now (names .entry)) (now (cells .entry)) (now (head .entry)) (now (lines .entry))) mark ⌝ }
+{
+    let fitness = fit_index(names, cells, head, lines);
+    let Fitness::Fit = fitness else {
+        return RolledBack::Unfit;
+    };
+    let verdict = sound(names, cells, head);
+    let Soundness::Yes = verdict else {
+        return RolledBack::Damaged;
+    };
+    let length = journal_word(lines, 0);
+    if length < mark as u64 {
+        return RolledBack::BadMark;
+    }
+    RolledBack::Lines((length - mark as u64) as u32)
+}
+
+// So many lines from m on are undone; or they do not fit, and the tree stays as it was: its words are kept aside meanwhile.
+fn undo(
+    names: &mut [u64],
+    cells: &mut [u32],
+    head: &mut [u32],
+    lines: &[u64],
+    m: u32,
+    count: u32,
+) -> Undoing
+    requires { ⌜ length (now names) ≤ mostNames ⌝ }
+    requires { ⌜ length (now cells) ≤ 28672 ⌝ }
+    requires { ⌜ length (now head) ≡ 3 ⌝ }
+    requires { ⌜ getD (now head) 2 null + count < null ⌝ }
+    ensures { λ r. ⌜ undoOf r (lentTree (now (names .exit)) (now (cells .exit)) (now (head .exit)))
+        ≡ unrolled count (lentTree (now (names .entry)) (now (cells .entry)) (now (head .entry))) (now (lines .entry)) m ⌝ }
+    ensures { λ r. ⌜ (r
+        ≡ Misfit → _≡_ {A = Live} (lentTree (now (names .exit)) (now (cells .exit)) (now (head .exit)))
+        (lentTree (now (names .entry)) (now (cells .entry)) (now (head .entry)))) ⌝ }
+{
+    let mut old_names = [0u64; MOST_NAMES];
+    let mut old_cells = [0u32; MOST_CELLS];
+    copy_names(names, &mut old_names, names.len());
+    copy_cells(cells, &mut old_cells, cells.len());
+    let root = word(head, ROOT);
+    let first = word(head, FIRST);
+    let entries = word(head, COUNT);
+    let unrolled = unroll(names, cells, head, lines, m, count);
+    let Undoing::Done = unrolled else {
+        let n = names.len();
+        let k = cells.len();
+        copy_names(&old_names, names, n);
+        copy_cells(&old_cells, cells, k);
+        head_put(head, root, first, entries);
+        return Undoing::Misfit;
+    };
+    Undoing::Done
+}
+
+// The lines from the last down to the mark are undone and cleared, and the length is the mark. A refusal writes nothing.
+pub fn rollback(
+    names: &mut [u64],
+    cells: &mut [u32],
+    head: &mut [u32],
+    lines: &mut [u64],
+    mark: u32,
+) -> RolledBack
+    ensures { λ r. ⌜ outcome (rolledOf r) (lent (now (names .exit)) (now (cells .exit)) (now (head .exit)) (now (lines .exit)))
+        ≡ rolls (lent (now (names .entry)) (now (cells .entry)) (now (head .entry)) (now (lines .entry))) mark ⌝ }
+{
+    let asked = ask(names, cells, head, lines, mark);
+    let RolledBack::Lines(count) = asked else {
+        return asked;
+    };
+    let undone = undo(names, cells, head, lines, mark, count);
+    let Undoing::Done = undone else {
+        return RolledBack::Misfit;
+    };
+    cut(lines, mark, count);
+    RolledBack::Lines(count)
+}

@@ -1,0 +1,285 @@
+// The full check of a live tree: T1 to T7, where one walk of the tree answers for T3 to T6.
+use crate::fit::COUNT;
+use crate::fit::FIRST;
+use crate::fit::ROOT;
+use crate::fit::fit;
+use crate::fit::word;
+use slots::FREE;
+use slots::HASH;
+use slots::KEY;
+use slots::LEFT;
+use slots::NEXT;
+use slots::NULL;
+use slots::PARENT;
+use slots::PLACE;
+use slots::PREV;
+use slots::RED;
+use slots::RIGHT;
+use slots::STATE;
+use slots::get;
+use slots::name;
+use tree::chain::chain;
+use tree::check::in_range;
+use tree::check::links_in;
+use tree::rules::Rest;
+use tree::rules::Size;
+use tree::rules::tree_size;
+ghost use mathlib.Core.Path.{_≡_};
+ghost use mathlib.Core.Bool.{true, false};
+ghost use mathlib.Core.List.{[]};
+ghost use Prim.Native.Nat.{_≤_};
+ghost use lib.ListN.{length};
+ghost use lib.Dec.{eqb};
+ghost use Rattle.slots.specs.Words.{null, pick, state, free, cell, mostNames};
+ghost use Rattle.tree_rules.specs.Chain.{tally};
+ghost use Rattle.index_rules.specs.Live.{lentTree};
+ghost use Rattle.index_rules.specs.Sound.{used, isCleared, slotFine, slotsFine, agree, sounds};
+ghost use Rattle.index_rules.specs.Sound.{rule1 as obeys1, rule2 as obeys2, rule7 as obeys7, sound as obeysAll};
+ghost use Rattle.index.specs.Reads.{soundOf};
+ghost use Rattle.index.specs.Sound.{treeRules};
+
+// Slot i is cleared: all zero with null links.
+fn is_cleared(names: &[u64], cells: &[u32], i: u32) -> bool
+    ensures { λ r. ⌜ r ≡ isCleared (lentTree (now (names .entry)) (now (cells .entry)) []) i ⌝ }
+{
+    let hash = name(names, i, HASH);
+    if hash != 0 {
+        return false;
+    }
+    let key = name(names, i, KEY);
+    if key != 0 {
+        return false;
+    }
+    let place = get(cells, i, PLACE);
+    if place != 0 {
+        return false;
+    }
+    let parent = get(cells, i, PARENT);
+    if parent != NULL {
+        return false;
+    }
+    let left = get(cells, i, LEFT);
+    if left != NULL {
+        return false;
+    }
+    let right = get(cells, i, RIGHT);
+    if right != NULL {
+        return false;
+    }
+    let prev = get(cells, i, PREV);
+    if prev != NULL {
+        return false;
+    }
+    let next = get(cells, i, NEXT);
+    if next != NULL {
+        return false;
+    }
+    true
+}
+
+// T1 of slot i: its links are null or name one of n slots, its state is 0, 1 or 2, and it is cleared if it is free.
+fn slot_fine(names: &[u64], cells: &[u32], n: usize, i: u32) -> bool
+    ensures { λ r. ⌜ r ≡ slotFine n (lentTree (now (names .entry)) (now (cells .entry)) []) i ⌝ }
+{
+    let named = links_in(n, cells, i);
+    if !named {
+        return false;
+    }
+    let state = get(cells, i, STATE);
+    if state == FREE {
+        return is_cleared(names, cells, i);
+    }
+    if state <= RED {
+        return true;
+    }
+    false
+}
+
+// T1 of each of the n slots.
+pub fn slots_fine(names: &[u64], cells: &[u32], n: u32) -> bool
+    ensures { λ r. ⌜ r ≡ slotsFine n n (lentTree (now (names .entry)) (now (cells .entry)) []) ⌝ }
+{
+    let mut k = n;
+    while 0 < k {
+        k -= 1;
+        let fine = slot_fine(names, cells, n as usize, k);
+        if !fine {
+            return false;
+        }
+    }
+    true
+}
+
+// 1 for a slot that is not free, 0 for a free one.
+fn used_slot(cells: &[u32], i: u32) -> u32
+    ensures { λ r. ⌜ r ≡ used (now (cells .entry)) i ⌝ }
+{
+    let state = get(cells, i, STATE);
+    if state == FREE {
+        return 0;
+    }
+    1
+}
+
+// The number of the n slots that are not free.
+pub fn used_slots(cells: &[u32], n: u32) -> u32
+    ensures { λ r. ⌜ r ≡ tally n (used (now (cells .entry))) ⌝ }
+{
+    let mut count: u32 = 0;
+    let mut k = n;
+    while 0 < k {
+        k -= 1;
+        let one = used_slot(cells, k);
+        count += one;
+    }
+    count
+}
+
+// T1: links are null or name a slot; states are 0, 1 or 2; free slots are cleared; the count is the number of slots not free.
+fn rule1(names: &[u64], cells: &[u32], head: &[u32]) -> bool
+    requires { ⌜ length (now names) ≤ mostNames ⌝ }
+    ensures { λ r. ⌜ r ≡ obeys1 (lentTree (now (names .entry)) (now (cells .entry)) (now (head .entry))) ⌝ }
+{
+    let n = names.len() / 2;
+    let fine = slots_fine(names, cells, n as u32);
+    if !fine {
+        return false;
+    }
+    let root = in_range(n, word(head, ROOT));
+    if !root {
+        return false;
+    }
+    let first = in_range(n, word(head, FIRST));
+    if !first {
+        return false;
+    }
+    let count = word(head, COUNT);
+    let counted = used_slots(cells, n as u32);
+    if count != counted {
+        return false;
+    }
+    true
+}
+
+// The link is null exactly if the count is 0.
+fn null_if_none(link: u32, count: u32) -> bool
+    ensures { λ r. ⌜ r ≡ agree (eqb link null) (eqb count 0) ⌝ }
+{
+    if link == NULL {
+        if count == 0 {
+            return true;
+        }
+        return false;
+    }
+    if count == 0 {
+        return false;
+    }
+    true
+}
+
+// T2: root and first are null exactly if the count is 0.
+fn rule2(head: &[u32]) -> bool
+    ensures { λ r. ⌜ r ≡ obeys2 (lentTree [] [] (now (head .entry))) ⌝ }
+{
+    let count = word(head, COUNT);
+    let root = null_if_none(word(head, ROOT), count);
+    if !root {
+        return false;
+    }
+    null_if_none(word(head, FIRST), count)
+}
+
+// T3 to T6 in one walk: the tree from the root obeys them, and has as many slots as the count says.
+fn rules_of_the_tree(names: &[u64], cells: &[u32], head: &[u32]) -> bool
+    ensures { λ r. ⌜
+        r ≡ treeRules (record { names = now (names .entry); cells = now (cells .entry); head = now (head .entry) })
+        ⌝ }
+{
+    let root = word(head, ROOT);
+    let size = tree_size(names, cells, root);
+    let Size::Slots(m) = size else {
+        return false;
+    };
+    let count = word(head, COUNT);
+    if m != count as usize {
+        return false;
+    }
+    true
+}
+
+// A link is null or its slot is not free.
+fn not_free(cells: &[u32], link: u32) -> bool
+    ensures { λ r. ⌜ r ≡ pick (eqb link null) true (pick (eqb (cell (now (cells .entry)) link state) free) false true) ⌝ }
+{
+    if link == NULL {
+        return true;
+    }
+    let state = get(cells, link, STATE);
+    if state == FREE {
+        return false;
+    }
+    true
+}
+
+// T7: first is not free, prev is the reverse of next, null at first, and next visits as many slots from first as the count says.
+fn rule7(names: &[u64], cells: &[u32], head: &[u32]) -> bool
+    ensures { λ r. ⌜ r ≡ obeys7 (lentTree (now (names .entry)) (now (cells .entry)) (now (head .entry))) ⌝ }
+{
+    let n = names.len() / 2;
+    let first = word(head, FIRST);
+    let occupied = not_free(cells, first);
+    if !occupied {
+        return false;
+    }
+    let walk = chain(n, cells, first);
+    let Rest::Left(rest) = walk else {
+        return false;
+    };
+    let count = word(head, COUNT);
+    if n - rest != count as usize {
+        return false;
+    }
+    true
+}
+
+// The tree obeys T1 to T7.
+fn is_sound(names: &[u64], cells: &[u32], head: &[u32]) -> bool
+    requires { ⌜ length (now names) ≤ mostNames ⌝ }
+    ensures { λ r. ⌜ r ≡ obeysAll (lentTree (now (names .entry)) (now (cells .entry)) (now (head .entry))) ⌝ }
+{
+    let first = rule1(names, cells, head);
+    if !first {
+        return false;
+    }
+    let second = rule2(head);
+    if !second {
+        return false;
+    }
+    let hung = rules_of_the_tree(names, cells, head);
+    if !hung {
+        return false;
+    }
+    rule7(names, cells, head)
+}
+
+// What the full check answers.
+pub enum Soundness {
+    Yes,
+    No,
+    Unfit, // 1
+}
+
+// Whether the tree is sound, by the full check of T1 to T7. Unfit where the slices are not a live tree's.
+pub fn sound(names: &[u64], cells: &[u32], head: &[u32]) -> Soundness
+    ensures { λ r. ⌜ soundOf r ≡ sounds (lentTree (now (names .entry)) (now (cells .entry)) (now (head .entry))) ⌝ }
+{
+    let fits = fit(names, cells, head);
+    if !fits {
+        return Soundness::Unfit;
+    }
+    let obeys = is_sound(names, cells, head);
+    if !obeys {
+        return Soundness::No;
+    }
+    Soundness::Yes
+}

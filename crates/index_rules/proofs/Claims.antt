@@ -1,0 +1,25 @@
+-- Every claim of the crate holds: the laws of the other files, put together.
+use Rattle.index_rules.specs.Claims.{Claims}
+use Rattle.index_rules.proofs.Reading.{find-claims, check-claims}
+use Rattle.index_rules.proofs.Sounding.{sound-claims}
+use Rattle.index_rules.proofs.Finding.{find-sound-claims, hold-claims}
+use Rattle.index_rules.proofs.Inserting.{insert-claims}
+use Rattle.index_rules.proofs.Removing.{remove-claims}
+use Rattle.index_rules.proofs.Rolling.{rollback-claims}
+use Rattle.index_rules.proofs.Freshing.{freshes-claims}
+use Rattle.index_rules.proofs.Demanding.{demand-three}
+
+pub claims : Claims
+claims =
+    record {
+      find = find-claims;
+      check = check-claims;
+      sound = sound-claims;
+      find-sound = λ t fit h hash key. find-sound-claims fit h hash key;
+      holds = hold-claims;
+      insert = insert-claims;
+      remove = remove-claims;
+      rollback = rollback-claims;
+      fresh = freshes-claims;
+      demand3 = λ ix fit h words calls allowed. demand-three ix h fit words calls allowed;
+    }

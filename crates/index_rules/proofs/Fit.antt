@@ -1,0 +1,52 @@
+-- The test of fitness holds exactly of fit words: half the names is the only capacity that can be.
+use mathlib.Core.Path.{_≡_, refl, sym, _∙_}
+use mathlib.Core.Logic.{_≢_}
+use mathlib.Core.Bool.{Bool, true, false, false≢true}
+use Prim.Native.Nat.{_*_}
+use native.Mathlib.Omega.{arith}
+use lib.ListN.{length}
+use lib.Dec.{eqb, leb}
+use borrow.Author.Tests.{eqb-true, leb-true, eq-eqb, le-leb}
+use Rattle.slots.specs.Words.{pick}
+use Rattle.index_rules.specs.Live.{Live, Fit, capacityOf, fits}
+
+-- A chain of tests is true where each is.
+pub both : (a b : Bool) → pick a b false ≡ true → (a ≡ true) × (b ≡ true)
+both true b e = (refl, e)
+both false b e = absurd (false≢true e)
+
+-- The capacity is half the names.
+pub half : {t : Live} (h : Fit t) → capacityOf t ≡ h .capacity
+half h = omega (arith, h .two)
+
+pub fit-fits : (t : Live) → Fit t → fits t ≡ true
+unfolding fits
+fit-fits t h =
+    simp (
+      half h,
+      le-leb 1 (h .capacity) (h .least),
+      le-leb (h .capacity) 4096 (h .most),
+      eq-eqb (length (t .names)) (2 * h .capacity) (h .two),
+      eq-eqb (length (t .cells)) (7 * h .capacity) (h .seven),
+      eq-eqb (length (t .head)) 3 (h .three),
+    )
+
+pub fits-fit : (t : Live) → fits t ≡ true → Fit t
+unfolding fits
+fits-fit t e =
+    let n = capacityOf t in
+    let h1 = both (leb 1 n) _ e in
+    let h2 = both (leb n 4096) _ (h1 .1) in
+    let h3 = both (eqb (length (t .names)) (2 * n)) _ (h2 .1) in
+    let h4 = both (eqb (length (t .cells)) (7 * n)) _ (h3 .1) in
+    record {
+      capacity = n;
+      least = leb-true 1 n (h1 .0);
+      most = leb-true n 4096 (h2 .0);
+      two = eqb-true (length (t .names)) (2 * n) (h3 .0);
+      seven = eqb-true (length (t .cells)) (7 * n) (h4 .0);
+      three = eqb-true (length (t .head)) 3 (h4 .1);
+    }
+
+pub unfit : (t : Live) → fits t ≡ false → Fit t → ⊥
+unfit t e h = false≢true (sym e ∙ fit-fits t h)

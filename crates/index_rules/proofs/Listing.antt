@@ -1,0 +1,239 @@
+-- Entries in order: in a list whose pairs strictly rise an entry has one place, so that to put it in and to take it out undo each other.
+use mathlib.Core.Path.{_≡_, refl, ap, sym, _∙_, subst}
+use mathlib.Core.Logic.{_⊎_, inl, inr}
+use mathlib.Core.Bool.{Bool, true, false}
+use mathlib.Core.List.{List, [], _∷_, _++_, map}
+use Prim.Native.Nat.{ℕ, suc}
+use lib.ListN.{length, length-append}
+use native.Mathlib.Decide.{ℕ-discrete}
+use native.Mathlib.Omega.{arith}
+use borrow.Author.Tests.{eq-eqb, ne-eqb}
+use Rattle.slots.specs.Words.{pick}
+use Rattle.slots.specs.Pairs.{Pair, pair, pairOf, Less, before}
+use Rattle.slots.proofs.Order.{less-irreflexive, less-transitive, before-less}
+use Rattle.tree_rules.specs.Tree.{Below, Rising}
+use Rattle.index_rules.specs.Live.{Live}
+use Rattle.index_rules.specs.Contents.{Entry, entryOf, put, isPair, without, In, first, later, Lacks, empty, other}
+
+abbrev pub pairIn : Entry → Pair
+pairIn e = pair (e .hash) (e .key)
+
+-- Every entry of the list lies above e; the list strictly rises.
+pub data Above (e : Entry) : List Entry → Type 0 where
+  none : Above e []
+  more : {x : Entry} {l : List Entry} → Less (pairIn e) (pairIn x) → Above e l → Above e (x ∷ l)
+
+pub data Ascends : List Entry → Type 0 where
+  flat : Ascends []
+  step : {x : Entry} {l : List Entry} → Above x l → Ascends l → Ascends (x ∷ l)
+
+-- A rising list of slots gives a rising list of entries.
+above-map : (t : Live) (i : ℕ) {l : List ℕ} → Below (t .names) (pairOf (t .names) i) l → Above (entryOf t i) (map (entryOf t) l)
+above-map t i Below.last = none
+above-map t i (Below.before h b) = more h (above-map t i b)
+
+pub ascends-map : (t : Live) {l : List ℕ} → Rising (t .names) l → Ascends (map (entryOf t) l)
+ascends-map t Rising.empty = flat
+ascends-map t (Rising.rise {i} b r) = step (above-map t i b) (ascends-map t r)
+
+above-mid : {e : Entry} (y : Entry) (a b : List Entry) → Above e (a ++ (y ∷ b)) → Less (pairIn e) (pairIn y)
+above-mid y [] b (more h r) = h
+above-mid y (x ∷ a) b (more h r) = above-mid y a b r
+
+above-weak : {e : Entry} (y : Entry) (a b : List Entry) → Above e (a ++ (y ∷ b)) → Above e (a ++ b)
+above-weak y [] b (more h r) = r
+above-weak y (x ∷ a) b (more h r) = more h (above-weak y a b r)
+
+pub ascends-weak : (y : Entry) (a b : List Entry) → Ascends (a ++ (y ∷ b)) → Ascends (a ++ b)
+ascends-weak y [] b (step h r) = r
+ascends-weak y (x ∷ a) b (step h r) = step (above-weak y a b h) (ascends-weak y a b r)
+
+-- The tests of the order and of the pair.
+goes-before : (e x : Entry) → Less (pairIn e) (pairIn x) → before (e .hash) (e .key) (x .hash) (x .key) ≡ true
+goes-before e x h = before-less (e .hash) (e .key) (x .hash) (x .key) .1 h
+
+not-before : (e x : Entry) → Less (pairIn x) (pairIn e) → before (e .hash) (e .key) (x .hash) (x .key) ≡ false
+not-before e x h = go (before (e .hash) (e .key) (x .hash) (x .key)) refl
+  where
+    go : (b : Bool) → before (e .hash) (e .key) (x .hash) (x .key) ≡ b → before (e .hash) (e .key) (x .hash) (x .key) ≡ false
+    go true z = absurd (less-irreflexive (pairIn e) (less-transitive (pairIn e) (pairIn x) (pairIn e) (before-less (e .hash) (e .key) (x .hash) (x .key) .0 z) h))
+    go false z = z
+
+pub is-pair : (hash key : ℕ) (x : Entry) → x .hash ≡ hash → x .key ≡ key → isPair hash key x ≡ true
+is-pair hash key x e f = rw (eq-eqb (x .hash) hash e, eq-eqb (x .key) key f)
+
+pub not-pair : (hash key : ℕ) (x : Entry) → (x .hash ≡ hash → x .key ≡ key → ⊥) → isPair hash key x ≡ false
+not-pair hash key x n = go (ℕ-discrete (x .hash) hash) (ℕ-discrete (x .key) key)
+  where
+    go : Dec (x .hash ≡ hash) → Dec (x .key ≡ key) → isPair hash key x ≡ false
+    go (yes e) (yes f) = absurd (n e f)
+    go (yes e) (no f) = rw (eq-eqb (x .hash) hash e, ne-eqb (x .key) key f)
+    go (no e) f = rw (ne-eqb (x .hash) hash e)
+
+-- A pair below another is another pair.
+less-other : (e x : Entry) → Less (pairIn x) (pairIn e) → x .hash ≡ e .hash → x .key ≡ e .key → ⊥
+unfolding Less
+less-other e x (inl h) p q = omega arith
+less-other e x (inr h) p q = omega (arith, h .1)
+
+more-other : (e x : Entry) → Less (pairIn e) (pairIn x) → x .hash ≡ e .hash → x .key ≡ e .key → ⊥
+unfolding Less
+more-other e x (inl h) p q = omega arith
+more-other e x (inr h) p q = omega (arith, h .1)
+
+-- To put e in, where e stands between a and b in order.
+pub put-at : (e : Entry) (a b : List Entry) → Ascends (a ++ (e ∷ b)) → put e (a ++ b) ≡ a ++ (e ∷ b)
+unfolding put
+put-at e [] [] r = refl
+put-at e [] (x ∷ b) (step (more h k) r) = rw (goes-before e x h)
+put-at e (x ∷ a) b (step h r) = rw (not-before e x (above-mid e a b h)) (ap (λ (l : List Entry). x ∷ l) (put-at e a b r))
+
+-- To take its pair out.
+pub without-at : (e : Entry) (a b : List Entry) → Ascends (a ++ (e ∷ b)) → without (e .hash) (e .key) (a ++ (e ∷ b)) ≡ a ++ b
+unfolding without
+without-at e [] b r = rw (is-pair (e .hash) (e .key) e refl refl)
+without-at e (x ∷ a) b (step h r) = rw (not-pair (e .hash) (e .key) x (less-other e x (above-mid e a b h))) (ap (λ (l : List Entry). x ∷ l) (without-at e a b r))
+
+pub in-at : (e : Entry) (a b : List Entry) → In e (a ++ (e ∷ b))
+in-at e [] b = first
+in-at e (x ∷ a) b = later (in-at e a b)
+
+above-lacks : (e : Entry) {l : List Entry} → Above e l → Lacks (e .hash) (e .key) l
+above-lacks e none = empty
+above-lacks e (more {x} h r) = other (more-other e x h) (above-lacks e r)
+
+pub lacks-at : (e : Entry) (a b : List Entry) → Ascends (a ++ (e ∷ b)) → Lacks (e .hash) (e .key) (a ++ b)
+lacks-at e [] b (step h r) = above-lacks e h
+lacks-at e (x ∷ a) b (step h r) = other (less-other e x (above-mid e a b h)) (lacks-at e a b r)
+
+-- An entry of a rising list stands at one place, which its pair tells.
+pub record Placed (e : Entry) (l : List Entry) : Type 0 where
+  pub lower : List Entry
+  pub upper : List Entry
+  pub is : l ≡ lower ++ (e ∷ upper)
+
+pub in-placed : {e : Entry} {l : List Entry} → In e l → Placed e l
+in-placed {e} (first {l}) = record { lower = []; upper = l; is = refl }
+in-placed (later {x} i) = let h = in-placed i in record { lower = x ∷ h .lower; upper = h .upper; is = ap (λ (l : List Entry). x ∷ l) (h .is) }
+
+lacks-in : {hash key : ℕ} {e : Entry} {l : List Entry} → Lacks hash key l → In e l → e .hash ≡ hash → e .key ≡ key → ⊥
+lacks-in (other n k) first p q = n p q
+lacks-in (other n k) (later i) p q = lacks-in k i p q
+
+pub in-lacks : {hash key : ℕ} {e : Entry} {l : List Entry} → In e l → Lacks hash key l → e .hash ≡ hash → e .key ≡ key → ⊥
+in-lacks i k p q = lacks-in k i p q
+
+-- To put an entry in: it is there, the others stay, and to take its pair out gives the list back.
+pub in-put : (e : Entry) (l : List Entry) → In e (put e l)
+unfolding put
+in-put e [] = first
+in-put e (x ∷ l) = go (before (e .hash) (e .key) (x .hash) (x .key)) (in-put e l)
+  where
+    go : (b : Bool) → In e (put e l) → In e (pick b (e ∷ (x ∷ l)) (x ∷ put e l))
+    go true i = first
+    go false i = later i
+
+pub without-put : (e : Entry) (l : List Entry) → Lacks (e .hash) (e .key) l → without (e .hash) (e .key) (put e l) ≡ l
+unfolding put without
+without-put e [] k = rw (is-pair (e .hash) (e .key) e refl refl)
+without-put e (x ∷ l) (other n k) = go (before (e .hash) (e .key) (x .hash) (x .key)) (without-put e l k)
+  where
+    go : (b : Bool) → without (e .hash) (e .key) (put e l) ≡ l → without (e .hash) (e .key) (pick b (e ∷ (x ∷ l)) (x ∷ put e l)) ≡ x ∷ l
+    go true q = rw (is-pair (e .hash) (e .key) e refl refl)
+    go false q = rw (not-pair (e .hash) (e .key) x n) (ap (λ (r : List Entry). x ∷ r) q)
+
+-- What stands in a list that was put to, or taken from.
+in-case : {e : Entry} {m : List Entry} → In e m → (x : Entry) (l : List Entry) → m ≡ x ∷ l → (e ≡ x) ⊎ In e l
+in-case {e} (first {l = k}) x l q = let z : e ≡ x = cc in inl z
+in-case {e} (later {x = y} {l = k} i) x l q = let z : k ≡ l = cc in inr (subst (λ (r : List Entry). In e r) z i)
+
+pub put-all : (P : Entry → Type 0) (e : Entry) (l : List Entry) → P e → ((x : Entry) → In x l → P x) → (x : Entry) → In x (put e l) → P x
+unfolding put
+put-all P e [] p h x i = go (in-case i e [] refl)
+  where
+    go : (x ≡ e) ⊎ In x [] → P x
+    go (inl q) = rw q p
+    go (inr j) = h x j
+put-all P e (y ∷ l) p h x i = go (before (e .hash) (e .key) (y .hash) (y .key)) i (λ j. put-all P e l p (λ z w. h z (later w)) x j)
+  where
+    head : (x ≡ e) ⊎ In x (y ∷ l) → P x
+    head (inl q) = rw q p
+    head (inr j) = h x j
+
+    rest : (In x (put e l) → P x) → (x ≡ y) ⊎ In x (put e l) → P x
+    rest again (inl q) = h x (subst (λ (r : Entry). In r (y ∷ l)) (sym q) first)
+    rest again (inr j) = again j
+
+    go : (b : Bool) → In x (pick b (e ∷ (y ∷ l)) (y ∷ put e l)) → (In x (put e l) → P x) → P x
+    go true j again = head (in-case j e (y ∷ l) refl)
+    go false j again = rest again (in-case j y (put e l) refl)
+
+pub without-in : (hash key : ℕ) (l : List Entry) (x : Entry) → In x (without hash key l) → In x l
+unfolding without
+without-in hash key [] x i = i
+without-in hash key (y ∷ l) x i = go (isPair hash key y) i (λ j. without-in hash key l x j)
+  where
+    rest : (In x (without hash key l) → In x l) → (x ≡ y) ⊎ In x (without hash key l) → In x (y ∷ l)
+    rest again (inl q) = subst (λ (r : Entry). In r (y ∷ l)) (sym q) first
+    rest again (inr j) = later (again j)
+
+    go : (b : Bool) → In x (pick b l (y ∷ without hash key l)) → (In x (without hash key l) → In x l) → In x (y ∷ l)
+    go true j again = later j
+    go false j again = rest again (in-case j y (without hash key l) refl)
+
+-- To take an entry of a rising list out: its pair is gone, and to put it back gives the list again.
+module _ (e : Entry) (l : List Entry) (r : Ascends l) (i : In e l) where
+  split-at : Placed e l
+  split-at = in-placed i
+
+  rises : Ascends (split-at .lower ++ (e ∷ split-at .upper))
+  rises = rw (split-at .is) at r
+
+  less : without (e .hash) (e .key) l ≡ split-at .lower ++ split-at .upper
+  less = ap (without (e .hash) (e .key)) (split-at .is) ∙ without-at e (split-at .lower) (split-at .upper) rises
+
+  pub lacks-without : Lacks (e .hash) (e .key) (without (e .hash) (e .key) l)
+  lacks-without = rw less (lacks-at e (split-at .lower) (split-at .upper) rises)
+
+  pub put-without : put e (without (e .hash) (e .key) l) ≡ l
+  put-without = ap (put e) less ∙ put-at e (split-at .lower) (split-at .upper) rises ∙ sym (split-at .is)
+
+  pub length-without : suc (length (without (e .hash) (e .key) l)) ≡ length l
+  length-without =
+      omega (arith, ap length less, ap length (split-at .is), length-append (split-at .lower) (split-at .upper), length-append (split-at .lower) (e ∷ split-at .upper))
+
+-- Two rising lists with the same entries are one list.
+above-in : {e x : Entry} {l : List Entry} → Above e l → In x l → Less (pairIn e) (pairIn x)
+above-in (more h r) first = h
+above-in (more h r) (later i) = above-in r i
+
+not-both : (x y : Entry) → Less (pairIn x) (pairIn y) → Less (pairIn y) (pairIn x) → ⊥
+not-both x y h k = less-irreflexive (pairIn x) (less-transitive (pairIn x) (pairIn y) (pairIn x) h k)
+
+nothing-in : {x : Entry} {m : List Entry} → In x m → m ≡ [] → ⊥
+nothing-in (first {l = k}) q = omega (arith, ap length q)
+nothing-in (later {l = k} i) q = omega (arith, ap length q)
+
+pub ascends-same : (l m : List Entry) → Ascends l → Ascends m → ((e : Entry) → In e l → In e m) → ((e : Entry) → In e m → In e l) → l ≡ m
+ascends-same [] [] a b f g = refl
+ascends-same [] (y ∷ m) a b f g = absurd (nothing-in (g y first) refl)
+ascends-same (x ∷ l) [] a b f g = absurd (nothing-in (f x first) refl)
+ascends-same (x ∷ l) (y ∷ m) (step a r) (step b s) f g =
+    let e = heads (in-case (f x first) y m refl) (in-case (g y first) x l refl) in
+    let to : (z : Entry) → In z l → In z m = λ z i. rest (in-case (f z (later i)) y m refl) (λ q. away z i a (q ∙ sym e)) in
+    let from : (z : Entry) → In z m → In z l = λ z i. rest (in-case (g z (later i)) x l refl) (λ q. away z i b (q ∙ e)) in
+    let t = ascends-same l m r s to from in
+    λ i. e i ∷ t i
+  where
+    heads : (x ≡ y) ⊎ In x m → (y ≡ x) ⊎ In y l → x ≡ y
+    heads (inl e) j = e
+    heads (inr i) (inl e) = sym e
+    heads (inr i) (inr j) = absurd (not-both x y (above-in a j) (above-in b i))
+
+    -- what stands above an entry is another
+    away : {w : Entry} {k : List Entry} (z : Entry) → In z k → Above w k → z ≡ w → ⊥
+    away {w} z i h q = less-irreflexive (pairIn w) (subst (λ (v : Entry). Less (pairIn w) (pairIn v)) q (above-in h i))
+
+    rest : {z w : Entry} {k : List Entry} → (z ≡ w) ⊎ In z k → (z ≡ w → ⊥) → In z k
+    rest (inl q) n = absurd (n q)
+    rest (inr i) n = i

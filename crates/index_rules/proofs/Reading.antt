@@ -1,0 +1,84 @@
+-- find and check answer 1 exactly where the words are not fit; on fit words they are the search and the walk, whose answers are none of them 1.
+use mathlib.Core.Path.{_≡_, refl, sym, _∙_}
+use mathlib.Core.Logic.{_↔_}
+use mathlib.Core.Bool.{Bool, true, false}
+use mathlib.Core.List.{List}
+use Prim.Native.Nat.{ℕ}
+use native.Mathlib.Omega.{arith}
+use Rattle.slots.specs.Words.{pick}
+use Rattle.slots.specs.Answers.{Answer, none, refused}
+use Rattle.slots.proofs.Laws.{number}
+use Rattle.tree_rules.specs.Find.{found, slotsOf}
+use Rattle.tree_rules.specs.Check.{checked, walked, Walk, walkAnswer, passed, failed, strayed}
+use Rattle.tree_rules.specs.Claims.{Finds as Searches, Checks as Walkings}
+use Rattle.tree_rules.proofs.Claims.{claims}
+use Rattle.index_rules.specs.Live.{Live, Fit, rootOf, fits}
+use Rattle.index_rules.specs.Find.{finds}
+use Rattle.index_rules.specs.Check.{checks}
+use Rattle.index_rules.specs.Claims.{Finds, Checks}
+use Rattle.index_rules.proofs.Fit.{fits-fit, fit-fits}
+
+-- An answer given on fit words only, with 1 on others.
+module _ (t : Live) (inner : Answer) where
+  abbrev pub gated : Answer
+  gated = pick (fits t) inner (refused 1)
+
+  pub on-fit : Fit t → gated ≡ inner
+  on-fit h = simp (fit-fits t h)
+
+  pub off-fit : (Fit t → ⊥) → gated ≡ refused 1
+  off-fit n = go (fits t) refl
+    where
+      go : (b : Bool) → fits t ≡ b → pick (fits t) inner (refused 1) ≡ refused 1
+      go true z = absurd (n (fits-fit t z))
+      go false z = simp z
+
+  pub one-only : (inner ≡ refused 1 → ⊥) → (gated ≡ refused 1) ↔ (Fit t → ⊥)
+  one-only n = (λ e h. n (sym (on-fit h) ∙ e), off-fit)
+
+  pub others : {a : Answer} → (a ≡ refused 1 → ⊥) → {P : Type 0} → (inner ≡ a) ↔ P → (gated ≡ a) ↔ (Fit t × P)
+  others {a} n {P} h = (λ e. go (fits t) refl e, λ f. on-fit (f .0) ∙ h .1 (f .1))
+    where
+      go : (b : Bool) → fits t ≡ b → gated ≡ a → Fit t × P
+      go true z e = let f = fits-fit t z in (f, h .0 (sym (on-fit f) ∙ e))
+      go false z e = absurd (n (sym e ∙ simp z))
+
+module _ (t : Live) (hash key : ℕ) where
+  at-root : Searches (t .names) (t .cells) (rootOf t) hash key
+  at-root = claims .finds (t .names) (t .cells) (rootOf t) hash key
+
+  pub find-claims : Finds t hash key
+  unfolding finds
+  find-claims =
+      let a = found (t .names) (t .cells) (rootOf t) hash key .answer in
+      record {
+        one = one-only t a (λ e. omega (arith, at-root .only-nine 1 (omega arith) e));
+        nine = others t a (λ e. omega (arith, number e)) (at-root .nine);
+        at = λ slot. others t a (λ e. omega (arith, number e)) (at-root .at slot);
+        none = others t a (λ e. omega (arith, number e)) (at-root .none);
+      }
+
+-- The walk's answer is never 1.
+walk-not-one : (o : Walk) → walkAnswer o ≡ refused 1 → ⊥
+walk-not-one (passed v) e = omega (arith, number e)
+walk-not-one (failed u i) e = omega (arith, number e)
+walk-not-one strayed e = omega (arith, number e)
+
+check-not-one : (names cells : List ℕ) (root : ℕ) → checked names cells root ≡ refused 1 → ⊥
+unfolding checked
+check-not-one names cells root e = walk-not-one (walked (slotsOf names) names cells root (slotsOf names)) e
+
+module _ (t : Live) where
+  from-root : Walkings (t .names) (t .cells) (rootOf t)
+  from-root = claims .checks (t .names) (t .cells) (rootOf t)
+
+  pub check-claims : Checks t
+  unfolding checks
+  check-claims =
+      let a = checked (t .names) (t .cells) (rootOf t) in
+      record {
+        one = one-only t a (check-not-one (t .names) (t .cells) (rootOf t));
+        nine = others t a (λ e. omega (arith, number e)) (from-root .nine);
+        passes = others t a (λ e. omega (arith, number e)) (from-root .passes);
+        fails = λ test slot. others t a (λ e. omega (arith, number e)) (from-root .fails test slot);
+      }

@@ -1,0 +1,100 @@
+-- The full check says yes exactly of sound trees: the seven tests in turn, each with its rule.
+use mathlib.Core.Path.{_≡_, refl, sym, _∙_}
+use mathlib.Core.Logic.{_↔_}
+use mathlib.Core.Bool.{Bool, true, false, false≢true}
+use native.Mathlib.Omega.{arith}
+use Rattle.slots.specs.Words.{pick}
+use Rattle.slots.specs.Answers.{Answer, given, refused}
+use Rattle.slots.proofs.Laws.{given-is, number}
+use Rattle.index_rules.specs.Live.{Live, Fit}
+use Rattle.index_rules.specs.Sound.{Sound, rule1, rule2, rule3, rule4, rule5, rule6, sound, sounds}
+use Rattle.index_rules.specs.Claims.{Sounds}
+use Rattle.index_rules.proofs.Fit.{both}
+use Rattle.index_rules.proofs.Rules.{and, rule-one, rule-two, rule-three, rule-four, rule-five, rule-six, rule-seven}
+use Rattle.index_rules.proofs.Passing.{sound-passes}
+use Rattle.index_rules.proofs.Reading.{one-only, others}
+
+module _ {t : Live} (fit : Fit t) where
+  pub sound-yes : Sound t → sound t ≡ true
+  unfolding sound
+  sound-yes h =
+      and (rule-one t .1 (h .t1)) (and (rule-two t .1 (h .t2)) (and (rule-three fit (h .t1) .1 (h .tree, h .t3))
+      (and (rule-four fit (h .t1) (h .t3) .1 (h .t4)) (and (rule-five fit (h .t1) (h .t3) .1 (h .t5)) (and (rule-six fit (h .t1) (h .t3) .1 (h .t6)) (rule-seven fit (h .t1) .1 (h .chain, h .t7)))))))
+
+  pub yes-sound : sound t ≡ true → Sound t
+  unfolding sound
+  yes-sound e =
+      let h1 = both (rule1 t) _ e in
+      let h2 = both (rule2 t) _ (h1 .1) in
+      let h3 = both (rule3 t) _ (h2 .1) in
+      let h4 = both (rule4 t) _ (h3 .1) in
+      let h5 = both (rule5 t) _ (h4 .1) in
+      let h6 = both (rule6 t) _ (h5 .1) in
+      let one = rule-one t .0 (h1 .0) in
+      let three = rule-three fit one .0 (h3 .0) in
+      let seven = rule-seven fit one .0 (h6 .1) in
+      record {
+        tree = three .0;
+        chain = seven .0;
+        t1 = one;
+        t2 = rule-two t .0 (h2 .0);
+        t3 = three .1;
+        t4 = rule-four fit one (three .1) .0 (h4 .0);
+        t5 = rule-five fit one (three .1) .0 (h5 .0);
+        t6 = rule-six fit one (three .1) .0 (h6 .0);
+        t7 = seven .1;
+      }
+
+  pub unsound : sound t ≡ false → Sound t → ⊥
+  unsound e h = false≢true (sym e ∙ sound-yes h)
+
+-- yes is 1 and no is 0.
+pub verdict : (b : Bool) → (pick b (given 1) (given 0) ≡ given 1) ↔ (b ≡ true)
+verdict true = (λ e. refl, λ e. refl)
+verdict false = (λ e. absurd (omega (arith, given-is e)), λ e. absurd (false≢true e))
+
+pub verdict-no : (b : Bool) → (pick b (given 1) (given 0) ≡ given 0) ↔ (b ≡ false)
+verdict-no true = (λ e. absurd (omega (arith, given-is e)), λ e. absurd (false≢true (sym e)))
+verdict-no false = (λ e. refl, λ e. refl)
+
+pub not-one : (b : Bool) → pick b (given 1) (given 0) ≡ refused 1 → ⊥
+not-one true e = omega (arith, number e)
+not-one false e = omega (arith, number e)
+
+module _ (t : Live) where
+  abbrev inner : Answer
+  inner = pick (sound t) (given 1) (given 0)
+
+  pub sound-claims : Sounds t
+  unfolding sounds
+  sound-claims =
+      record {
+        one = one-only t inner (not-one (sound t));
+        yes = yes-exactly;
+        no = no-exactly;
+        passes-too = λ f h. sound-passes f h;
+        rule-one = rule-one t;
+        rule-two = rule-two t;
+        rule-three = λ f one. rule-three f one;
+        rule-four = λ f one three. rule-four f one three;
+        rule-five = λ f one three. rule-five f one three;
+        rule-six = λ f one three. rule-six f one three;
+        rule-seven = λ f one. rule-seven f one;
+      }
+    where
+      yes-exactly : (sounds t ≡ given 1) ↔ (Fit t × Sound t)
+      yes-exactly =
+          let h = others t inner (λ e. omega (arith, number e)) (verdict (sound t)) in
+          (λ e. (let k = h .0 e in (k .0, yes-sound (k .0) (k .1))), λ k. h .1 (k .0, sound-yes (k .0) (k .1)))
+
+      no-exactly : (sounds t ≡ given 0) ↔ (Fit t × (Sound t → ⊥))
+      no-exactly =
+          let h = others t inner (λ e. omega (arith, number e)) (verdict-no (sound t)) in
+          (λ e. (let k = h .0 e in (k .0, unsound (k .0) (k .1))), λ k. h .1 (k .0, false-of (λ e. k .1 (yes-sound (k .0) e))))
+        where
+          false-of : (sound t ≡ true → ⊥) → sound t ≡ false
+          false-of n = go (sound t) refl
+            where
+              go : (b : Bool) → sound t ≡ b → sound t ≡ false
+              go true e = absurd (n e)
+              go false e = e

@@ -1,0 +1,88 @@
+-- Calls on a live tree and its journal, one after another.
+use mathlib.Core.Path.{_≡_}
+use mathlib.Core.List.{List, [], _∷_}
+use mathlib.Core.Logic.{_≢_}
+use Prim.Native.Nat.{ℕ, _+_, _<_, _≤_}
+use lib.ListN.{length, getD}
+use Rattle.slots.specs.Words.{place, state, free, cell}
+use Rattle.slots.specs.Pairs.{pair, pairOf}
+use Rattle.index_rules.specs.Live.{Live, capacityOf}
+use Rattle.index_rules.specs.Index.{Index, Outcome, lengthOf, lineWord, at, kindWord, hashWord, keyWord, placeWord}
+use Rattle.index_rules.specs.Insert.{inserts}
+use Rattle.index_rules.specs.Remove.{removes}
+use Rattle.index_rules.specs.Rollback.{rolls}
+use Rattle.index_rules.specs.Contents.{Entry, In}
+
+pub data Call : Type 0 where
+  insertCall : ℕ → ℕ → ℕ → Call
+  removeCall : ℕ → ℕ → Call
+  rollbackCall : ℕ → Call
+
+abbrev pub called : Call → Index → Outcome
+called (insertCall hash key p) ix = inserts ix hash key p
+called (removeCall hash key) ix = removes ix hash key
+called (rollbackCall m) ix = rolls ix m
+
+-- "Make any inserts and removes on them, refused ones too, and rollbacks to that mark or later ones": what is left of the two.
+unfoldable pub after : List Call → Index → Index
+after [] ix = ix
+after (c ∷ cs) ix = after cs (called c ix .left)
+
+-- A rollback is to the mark m or a later one; a place is a 32-bit word, as the call takes it.
+pub data Allowed (m : ℕ) : List Call → Type 0 where
+  nothing : Allowed m []
+  inserting : {hash key p : ℕ} {cs : List Call} → p < 4294967296 → Allowed m cs → Allowed m (insertCall hash key p ∷ cs)
+  removing : {hash key : ℕ} {cs : List Call} → Allowed m cs → Allowed m (removeCall hash key ∷ cs)
+  rolling : {mark : ℕ} {cs : List Call} → m ≤ mark → Allowed m cs → Allowed m (rollbackCall mark ∷ cs)
+
+-- The places of a tree are 32-bit words, as the slice of cells holds them.
+abbrev pub Places : List Entry → Type 0
+Places l = (e : Entry) → In e l → e .at < 4294967296
+
+-- There is a free slot, and x is the lowest.
+pub record Lowest (t : Live) (x : ℕ) : Type 0 where
+  pub inside : x < capacityOf t
+  pub unused : cell (t .cells) x state ≡ free
+  pub lower : (k : ℕ) → k < x → cell (t .cells) k state ≢ free
+
+abbrev pub NoneFree : Live → Type 0
+NoneFree t = (k : ℕ) → k < capacityOf t → cell (t .cells) k state ≢ free
+
+-- The slot y has in u the pair and the place that it has in t.
+pub record Alike (t u : Live) (y : ℕ) : Type 0 where
+  pub pairs : pairOf (u .names) y ≡ pairOf (t .names) y
+  pub places : cell (u .cells) y place ≡ cell (t .cells) y place
+
+-- Every slot but x keeps its pair and its place.
+abbrev pub OthersStay : Live → Live → ℕ → Type 0
+OthersStay t u x = (y : ℕ) → y ≢ x → Alike t u y
+
+-- The slot x takes the pair and its place, and the others stay.
+pub record Takes (t u : Live) (x hash key p : ℕ) : Type 0 where
+  pub named : pairOf (u .names) x ≡ pair hash key
+  pub placed : cell (u .cells) x place ≡ p
+  pub others : OthersStay t u x
+
+-- The slot x is free after, and the others stay.
+pub record Frees (t u : Live) (x : ℕ) : Type 0 where
+  pub freed : cell (u .cells) x state ≡ free
+  pub others : OthersStay t u x
+
+-- "Each accepted insert or remove appends one": the length, this line, and every other word as it was.
+pub record OneLine (lines lines′ : List ℕ) (kind hash key p : ℕ) : Type 0 where
+  pub long : length lines′ ≡ length lines
+  pub count : lengthOf lines′ ≡ lengthOf lines + 1
+  pub kinds : lineWord lines′ (lengthOf lines) kindWord ≡ kind
+  pub hashes : lineWord lines′ (lengthOf lines) hashWord ≡ hash
+  pub keys : lineWord lines′ (lengthOf lines) keyWord ≡ key
+  pub places : lineWord lines′ (lengthOf lines) placeWord ≡ p
+  pub below : (j : ℕ) → 0 < j → j < at (lengthOf lines) 0 → getD lines′ j 0 ≡ getD lines j 0
+  pub past : (j : ℕ) → at (lengthOf lines) 3 < j → getD lines′ j 0 ≡ getD lines j 0
+
+-- The journal rolled back to m: the kept lines are the old ones, the lines undone are zero, and the words past them as they were.
+pub record BackTo (m : ℕ) (lines lines′ : List ℕ) : Type 0 where
+  pub long : length lines′ ≡ length lines
+  pub count : lengthOf lines′ ≡ m
+  pub below : (j : ℕ) → 0 < j → j < at m 0 → getD lines′ j 0 ≡ getD lines j 0
+  pub zeros : (j : ℕ) → at m 0 ≤ j → j < at (lengthOf lines) 0 → getD lines′ j 0 ≡ 0
+  pub past : (j : ℕ) → at (lengthOf lines) 0 ≤ j → getD lines′ j 0 ≡ getD lines j 0

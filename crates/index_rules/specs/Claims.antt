@@ -1,0 +1,177 @@
+-- What crate `index_rules` proves of the live tree, in one record. Every statement of the crate stands here.
+use mathlib.Core.Path.{_≡_}
+use mathlib.Core.Logic.{_≢_, _↔_}
+use mathlib.Core.Bool.{true}
+use mathlib.Core.List.{List, [], _∷_}
+use Prim.Native.Nat.{ℕ, _+_, _-_, _<_, _≤_}
+use lib.ListN.{length, getD}
+use Rattle.slots.specs.Words.{place, cell}
+use Rattle.slots.specs.Pairs.{pair, pairOf}
+use Rattle.slots.specs.Answers.{some, given, nothing, refused}
+use Rattle.tree_rules.specs.Find.{Lost, Here, Missed}
+use Rattle.tree_rules.specs.Check.{passed, failed, strayed, Walks}
+use Rattle.index_rules.specs.Live.{Live, Fit, rootOf, countOf, capacityOf}
+use Rattle.index_rules.specs.Find.{finds}
+use Rattle.index_rules.specs.Check.{checks}
+use Rattle.index_rules.specs.Sound.{Sound, T1, T2, T3, T4, T5, T6, T7, rule1, rule2, rule3, rule4, rule5, rule6, rule7, sounds}
+use Rattle.tree_rules.specs.Tree.{Tree, slots, Rising}
+use Rattle.redblack.specs.Balance.{Less}
+use Rattle.redblack.specs.Holding.{Stands, Has}
+use Rattle.index_rules.specs.Index.{Index, FitIndex, lengthOf, linesOf, at}
+use Rattle.index_rules.specs.Insert.{inserts}
+use Rattle.index_rules.specs.Remove.{removes}
+use Rattle.index_rules.specs.Rollback.{rolls}
+use Rattle.index_rules.specs.Fresh.{FitLengths, freshes}
+use Rattle.index_rules.specs.Contents.{entry, contents, HoldSame, put, without}
+use Rattle.index_rules.specs.Undoing.{Undoes, Fits}
+use Rattle.index_rules.specs.Calls.{Call, after, Allowed, Places, Lowest, NoneFree, Takes, Frees, OneLine, BackTo}
+
+-- find on any words, for any pair.
+pub record Finds (t : Live) (hash key : ℕ) : Type 0 where
+  -- 1 Unfit, "slice lengths disagree, a capacity .. breaks its rule": exactly then
+  pub one : (finds t hash key ≡ refused 1) ↔ (Fit t → ⊥)
+  -- 9 Lost: exactly where the words are fit and the search is lost
+  pub nine : (finds t hash key ≡ refused 9) ↔ (Fit t × Lost (t .names) (t .cells) (rootOf t) hash key)
+  -- the slot, and Nothing, exactly where the words are fit and the search comes to them
+  pub at : (slot : ℕ) → (finds t hash key ≡ given slot) ↔ (Fit t × Here (t .names) (t .cells) (rootOf t) hash key slot)
+  pub none : (finds t hash key ≡ nothing) ↔ (Fit t × Missed (t .names) (t .cells) (rootOf t) hash key)
+
+-- check, the source's own, on any words.
+pub record Checks (t : Live) : Type 0 where
+  pub one : (checks t ≡ refused 1) ↔ (Fit t → ⊥)
+  -- "9": the root or one of a node's own five links out of range, or more visits than slots, where the walk comes to it
+  pub nine : (checks t ≡ refused 9) ↔ (Fit t × Walks (t .names) (t .cells) (rootOf t) (capacityOf t) strayed)
+  -- "Passes, or the first failing test with its slot"
+  pub passes : (checks t ≡ nothing) ↔ (Fit t × ((v : ℕ) × Walks (t .names) (t .cells) (rootOf t) (capacityOf t) (passed v)))
+  pub fails : (test slot : ℕ) → (checks t ≡ record { number = 100 + test; value = some slot }) ↔ (Fit t × Walks (t .names) (t .cells) (rootOf t) (capacityOf t) (failed test slot))
+
+-- The full check on any words: "yes exactly if sound", and each rule's own test exactly where the rule holds, given those before it.
+pub record Sounds (t : Live) : Type 0 where
+  pub one : (sounds t ≡ refused 1) ↔ (Fit t → ⊥)
+  pub yes : (sounds t ≡ given 1) ↔ (Fit t × Sound t)
+  pub no : (sounds t ≡ given 0) ↔ (Fit t × (Sound t → ⊥))
+  -- "Passing check_invariants is not soundness", but a sound tree passes
+  pub passes-too : Fit t → Sound t → checks t ≡ nothing
+  pub rule-one : (rule1 t ≡ true) ↔ T1 t
+  pub rule-two : (rule2 t ≡ true) ↔ T2 t
+  pub rule-three : Fit t → T1 t → (rule3 t ≡ true) ↔ ((tree : Tree) × T3 t tree)
+  pub rule-four : Fit t → T1 t → {tree : Tree} → T3 t tree → (rule4 t ≡ true) ↔ T4 t tree
+  pub rule-five : Fit t → T1 t → {tree : Tree} → T3 t tree → (rule5 t ≡ true) ↔ T5 tree
+  pub rule-six : Fit t → T1 t → {tree : Tree} → T3 t tree → (rule6 t ≡ true) ↔ T6 tree
+  pub rule-seven : Fit t → T1 t → (rule7 t ≡ true) ↔ ((chain : List ℕ) × T7 t chain)
+
+-- find on a sound tree: the slot exactly where the pair is, Nothing exactly where it is not, never 9.
+pub record FindsSound (t : Live) (fit : Fit t) (h : Sound t) (hash key : ℕ) : Type 0 where
+  pub at : (slot : ℕ) → (finds t hash key ≡ given slot) ↔ (Stands slot (h .tree) × (pairOf (t .names) slot ≡ pair hash key))
+  pub none : (finds t hash key ≡ nothing) ↔ (Has (t .names) (h .tree) hash key → ⊥)
+  pub never-nine : finds t hash key ≡ refused 9 → ⊥
+
+-- The contents of a sound tree are one list, and it strictly rises: two trees have equal contents exactly if they hold the same.
+pub record Holds (t : Live) (fit : Fit t) : Type 0 where
+  pub one : (h g : Sound t) → contents h ≡ contents g
+  pub rising : (h : Sound t) → Rising (t .names) (slots (h .tree))
+  pub many : (h : Sound t) → length (contents h) ≡ countOf t
+  pub same : (h : Sound t) (u : Live) (g : Sound u) → HoldSame h g ↔ (contents h ≡ contents g)
+
+-- insert on any words: each refusal exactly when the rules' table says and no earlier number holds.
+pub record Inserts (ix : Index) (hash key p : ℕ) : Type 0 where
+  -- 1 Unfit, "slice lengths disagree, a capacity .. breaks its rule, or the journal's length passes its capacity"
+  pub one : (inserts ix hash key p .answer ≡ refused 1) ↔ (FitIndex ix → ⊥)
+  -- 2 Damaged, "the tree is not sound"
+  pub two : (inserts ix hash key p .answer ≡ refused 2) ↔ (FitIndex ix × (Sound (ix .live) → ⊥))
+  -- 3 Present, "the pair is there; its slot is returned too"
+  pub three : (slot : ℕ) → (inserts ix hash key p .answer ≡ record { number = 3; value = some slot })
+      ↔ (FitIndex ix × ((h : Sound (ix .live)) × Stands slot (h .tree) × (pairOf (ix .live .names) slot ≡ pair hash key)))
+  -- 5 Full, "no free slot"
+  pub five : (inserts ix hash key p .answer ≡ refused 5)
+      ↔ (FitIndex ix × ((h : Sound (ix .live)) × (Has (ix .live .names) (h .tree) hash key → ⊥) × NoneFree (ix .live)))
+  -- 6 Journal full, "no line left"
+  pub six : (inserts ix hash key p .answer ≡ refused 6)
+      ↔ (FitIndex ix × ((h : Sound (ix .live)) × (Has (ix .live .names) (h .tree) hash key → ⊥) × ((x : ℕ) × Lowest (ix .live) x) × (lengthOf (ix .lines) ≡ linesOf (ix .lines))))
+  -- accepted exactly else, and it answers the lowest free slot
+  pub accepted : (x : ℕ) → (inserts ix hash key p .answer ≡ given x)
+      ↔ (FitIndex ix × ((h : Sound (ix .live)) × (Has (ix .live .names) (h .tree) hash key → ⊥) × Lowest (ix .live) x × (lengthOf (ix .lines) < linesOf (ix .lines))))
+  -- "A refusal .. writes nothing."
+  pub nothing-written : (inserts ix hash key p .answer .number ≢ 0) → inserts ix hash key p .left ≡ ix
+  -- accepted: sound after, with exactly this entry more; the chain is the new slot and then the old chain; exactly one line more, of kind 1;
+  -- the slot answered is the one that took the pair
+  pub done : (x : ℕ) → inserts ix hash key p .answer ≡ given x → (h : Sound (ix .live))
+      → (g : Sound (inserts ix hash key p .left .live)) × FitIndex (inserts ix hash key p .left)
+      × (contents g ≡ put (entry hash key p) (contents h)) × (g .chain ≡ x ∷ h .chain)
+      × OneLine (ix .lines) (inserts ix hash key p .left .lines) 1 hash key p × (capacityOf (inserts ix hash key p .left .live) ≡ capacityOf (ix .live))
+      × Takes (ix .live) (inserts ix hash key p .left .live) x hash key p
+
+-- remove on any words.
+pub record Removes (ix : Index) (hash key : ℕ) : Type 0 where
+  pub one : (removes ix hash key .answer ≡ refused 1) ↔ (FitIndex ix → ⊥)
+  pub two : (removes ix hash key .answer ≡ refused 2) ↔ (FitIndex ix × (Sound (ix .live) → ⊥))
+  -- 4 Absent, "it is not" there
+  pub four : (removes ix hash key .answer ≡ refused 4) ↔ (FitIndex ix × ((h : Sound (ix .live)) × (Has (ix .live .names) (h .tree) hash key → ⊥)))
+  pub six : (removes ix hash key .answer ≡ refused 6)
+      ↔ (FitIndex ix × ((h : Sound (ix .live)) × Has (ix .live .names) (h .tree) hash key × (lengthOf (ix .lines) ≡ linesOf (ix .lines))))
+  -- accepted exactly else, and it answers the slot freed
+  pub accepted : (x : ℕ) → (removes ix hash key .answer ≡ given x)
+      ↔ (FitIndex ix × ((h : Sound (ix .live)) × Stands x (h .tree) × (pairOf (ix .live .names) x ≡ pair hash key) × (lengthOf (ix .lines) < linesOf (ix .lines))))
+  pub nothing-written : (removes ix hash key .answer .number ≢ 0) → removes ix hash key .left ≡ ix
+  -- accepted: sound after, with exactly this pair's entry gone; the chain without the slot; exactly one line more, of kind 2, with the
+  -- place it had; the slot answered is free
+  pub done : (x : ℕ) → removes ix hash key .answer ≡ given x → (h : Sound (ix .live))
+      → (g : Sound (removes ix hash key .left .live)) × FitIndex (removes ix hash key .left)
+      × (contents g ≡ without hash key (contents h)) × Less x (h .chain) (g .chain)
+      × OneLine (ix .lines) (removes ix hash key .left .lines) 2 hash key (cell (ix .live .cells) x place) × (capacityOf (removes ix hash key .left .live) ≡ capacityOf (ix .live))
+      × Frees (ix .live) (removes ix hash key .left .live) x
+
+-- rollback on any words.
+pub record Rolls (ix : Index) (m : ℕ) : Type 0 where
+  pub one : (rolls ix m .answer ≡ refused 1) ↔ (FitIndex ix → ⊥)
+  pub two : (rolls ix m .answer ≡ refused 2) ↔ (FitIndex ix × (Sound (ix .live) → ⊥))
+  -- 7 Bad mark, "mark above the length"
+  pub seven : (rolls ix m .answer ≡ refused 7) ↔ (FitIndex ix × Sound (ix .live) × (lengthOf (ix .lines) < m))
+  -- 8 Misfit, "the lines do not fit"
+  pub eight : (rolls ix m .answer ≡ refused 8)
+      ↔ (FitIndex ix × (m ≤ lengthOf (ix .lines)) × ((h : Sound (ix .live)) × (Fits (capacityOf (ix .live)) (ix .lines) m (lengthOf (ix .lines)) (contents h) → ⊥)))
+  -- accepted exactly else, and it answers the lines undone
+  pub accepted : (c : ℕ) → (rolls ix m .answer ≡ given c)
+      ↔ (FitIndex ix × (m ≤ lengthOf (ix .lines)) × (c ≡ lengthOf (ix .lines) - m)
+      × ((h : Sound (ix .live)) × Fits (capacityOf (ix .live)) (ix .lines) m (lengthOf (ix .lines)) (contents h)))
+  pub nothing-written : (rolls ix m .answer .number ≢ 0) → rolls ix m .left ≡ ix
+  -- accepted: sound after, the contents are those that undoing gives, and the journal is back at the mark
+  pub done : (c : ℕ) → rolls ix m .answer ≡ given c → (h : Sound (ix .live))
+      → (g : Sound (rolls ix m .left .live)) × FitIndex (rolls ix m .left)
+      × Undoes (capacityOf (ix .live)) (ix .lines) m (lengthOf (ix .lines)) (contents h) (contents g)
+      × BackTo m (ix .lines) (rolls ix m .left .lines) × (capacityOf (rolls ix m .left .live) ≡ capacityOf (ix .live))
+
+-- An empty index is written into any slices of fit lengths, whatever their words were.
+pub record Freshes (ix : Index) : Type 0 where
+  pub one : (freshes ix .answer ≡ refused 1) ↔ (FitLengths ix → ⊥)
+  pub made : (freshes ix .answer ≡ given 1) ↔ FitLengths ix
+  pub nothing-written : (freshes ix .answer .number ≢ 0) → freshes ix .left ≡ ix
+  -- sound, with no entry, and every word of the journal 0
+  pub done : FitLengths ix
+      → (g : Sound (freshes ix .left .live)) × FitIndex (freshes ix .left) × (contents g ≡ []) × (lengthOf (freshes ix .left .lines) ≡ 0)
+      × ((j : ℕ) → getD (freshes ix .left .lines) j 0 ≡ 0) × (capacityOf (freshes ix .left .live) ≡ capacityOf (ix .live))
+
+-- Demand 3: "Take a sound tree and a journal within .. limits, and note the journal's length. Make any inserts and removes on them,
+-- refused ones too, and rollbacks to that mark or later ones; nothing else writes the two. A rollback to the mark is then accepted, the tree
+-- is sound and holds the very pairs and places it held at the mark, and the journal's kept lines are the old ones."
+pub record Demand3 (ix : Index) (fit : FitIndex ix) (h : Sound (ix .live)) (words : Places (contents h)) (calls : List Call) (allowed : Allowed (lengthOf (ix .lines)) calls) : Type 0 where
+  pub accepted : rolls (after calls ix) (lengthOf (ix .lines)) .answer ≡ given (lengthOf (after calls ix .lines) - lengthOf (ix .lines))
+  pub sound : Sound (rolls (after calls ix) (lengthOf (ix .lines)) .left .live)
+  pub holds : contents sound ≡ contents h
+  -- the lines below the mark are word for word the old ones
+  pub kept : (j : ℕ) → 0 < j → j < at (lengthOf (ix .lines)) 0 → getD (rolls (after calls ix) (lengthOf (ix .lines)) .left .lines) j 0 ≡ getD (ix .lines) j 0
+  -- the length is the mark, the lines undone are zero, and the words past the length just before are untouched
+  pub journal : BackTo (lengthOf (ix .lines)) (after calls ix .lines) (rolls (after calls ix) (lengthOf (ix .lines)) .left .lines)
+
+pub record Claims : Type 0 where
+  pub find : (t : Live) (hash key : ℕ) → Finds t hash key
+  pub check : (t : Live) → Checks t
+  pub sound : (t : Live) → Sounds t
+  pub find-sound : (t : Live) (fit : Fit t) (h : Sound t) (hash key : ℕ) → FindsSound t fit h hash key
+  pub holds : (t : Live) (fit : Fit t) → Holds t fit
+  pub insert : (ix : Index) (hash key p : ℕ) → Inserts ix hash key p
+  pub remove : (ix : Index) (hash key : ℕ) → Removes ix hash key
+  pub rollback : (ix : Index) (m : ℕ) → Rolls ix m
+  pub fresh : (ix : Index) → Freshes ix
+  pub demand3 : (ix : Index) (fit : FitIndex ix) (h : Sound (ix .live)) (words : Places (contents h)) (calls : List Call) (allowed : Allowed (lengthOf (ix .lines)) calls)
+      → Demand3 ix fit h words calls allowed

@@ -1,0 +1,40 @@
+-- An empty index is written into lent slices: only their lengths decide whether they can be one.
+use mathlib.Core.Bool.{Bool}
+use mathlib.Core.Path.{_≡_}
+use Prim.Native.Nat.{ℕ, zero, suc, _+_, _*_, _≤_}
+use lib.ListN.{length, set}
+use lib.Dec.{eqb, leb}
+use Rattle.slots.specs.Words.{null, pick, rename, hashPart, keyPart, _and_, mostLines}
+use Rattle.slots.specs.Answers.{given, refused}
+use Rattle.index_rules.specs.Live.{Live, Fit, fits, capacityOf}
+use Rattle.index_rules.specs.Index.{Index, index, Outcome, outcome, linesOf}
+use Rattle.index_rules.specs.Insert.{headed}
+use Rattle.index_rules.specs.Remove.{wiped}
+use Rattle.index_rules.specs.Rollback.{blanked}
+
+-- The four slices are as long as an index's, whatever their words are.
+pub record FitLengths (ix : Index) : Type 0 where
+  pub tree : Fit (ix .live)
+  pub capacity : ℕ
+  pub most : capacity ≤ mostLines
+  pub four : length (ix .lines) ≡ 1 + 4 * capacity
+
+unfoldable pub fitsLengths : Index → Bool
+fitsLengths ix =
+    let c = linesOf (ix .lines) in
+    fits (ix .live) and leb c mostLines and eqb (length (ix .lines)) (1 + 4 * c)
+
+-- The first so many slots cleared, their names too.
+unfoldable pub bared : ℕ → Live → Live
+bared zero t = t
+bared (suc k) t =
+    bared k (record { names = rename (rename (t .names) k hashPart 0) k keyPart 0; cells = wiped (t .cells) k; head = t .head })
+
+-- Every slot cleared, a header of nothing, and a journal of zeros; 1 where the lengths do not fit, and nothing is written.
+unfoldable pub freshes : Index → Outcome
+freshes ix =
+    let t = bared (capacityOf (ix .live)) (ix .live) in
+    pick (fitsLengths ix)
+    (outcome (given 1)
+    (index (record { names = t .names; cells = t .cells; head = headed (t .head) null null 0 }) (set (blanked (linesOf (ix .lines)) (ix .lines) 0) 0 0)))
+    (outcome (refused 1) ix)

@@ -1,0 +1,56 @@
+-- "Insert takes the lowest free slot, hangs it where the order says, puts it at the front of the chain, then balances."
+use mathlib.Core.List.{List}
+use Prim.Native.Nat.{ℕ, zero, suc, _+_}
+use lib.ListN.{set}
+use lib.Dec.{eqb}
+use Rattle.slots.specs.Words.{null, pick, place, state, prev, next, free, cell, write, rename, hashPart, keyPart}
+use Rattle.slots.specs.Answers.{Value, some, none, given, refused}
+use Rattle.tree_rules.specs.Find.{found}
+use Rattle.redblack.specs.Links.{Links}
+use Rattle.redblack.specs.Hanging.{inserted, placed}
+use Rattle.index_rules.specs.Live.{Live, rootOf, firstOf, countOf, capacityOf}
+use Rattle.index_rules.specs.Sound.{sound}
+use Rattle.index_rules.specs.Index.{Index, index, Outcome, outcome, fitsIndex, lengthOf, linesOf, appended}
+
+-- The lowest free slot of so many from k on, null where there is none.
+unfoldable pub freeFrom : ℕ → List ℕ → ℕ → ℕ
+freeFrom zero cells k = null
+freeFrom (suc m) cells k = pick (eqb (cell cells k state) free) k (freeFrom m cells (suc k))
+
+unfoldable pub lowestFree : Live → ℕ
+lowestFree t = freeFrom (capacityOf t) (t .cells) 0
+
+-- The slot that has the pair, where there is one.
+unfoldable pub soughtIn : Live → ℕ → ℕ → Value
+soughtIn t hash key = found (t .names) (t .cells) (rootOf t) hash key .answer .value
+
+-- The slot x before first in the chain.
+unfoldable pub fronted : List ℕ → ℕ → ℕ → List ℕ
+fronted cells x first = write (write (write cells x prev null) x next first) first prev x
+
+abbrev pub headed : List ℕ → ℕ → ℕ → ℕ → List ℕ
+headed head root first count = set (set (set head 0 root) 1 first) 2 count
+
+-- After the check: the free slot x takes the pair and its place.
+unfoldable pub grown : Live → ℕ → ℕ → ℕ → ℕ → Live
+grown t x hash key p =
+    let names = rename (rename (t .names) x hashPart hash) x keyPart key in
+    let links : Links = record { cells = fronted (write (t .cells) x place p) x (firstOf t); root = rootOf t } in
+    let hung = inserted (capacityOf t) links x (placed (capacityOf t) names links hash key) in
+    record { names = names; cells = hung .cells; head = headed (t .head) (hung .root) x (countOf t + 1) }
+
+-- "insert 1, 2, 3, 5, 6": a refusal writes nothing.
+unfoldable pub inserts : Index → ℕ → ℕ → ℕ → Outcome
+inserts ix hash key p =
+    let t = ix .live in
+    let x = lowestFree t in
+    pick (fitsIndex ix)
+    (pick (sound t)
+    (elim (soughtIn t hash key) [
+      | some slot ↦ outcome (record { number = 3; value = some slot }) ix
+      | none ↦ pick (eqb x null) (outcome (refused 5) ix)
+          (pick (eqb (lengthOf (ix .lines)) (linesOf (ix .lines))) (outcome (refused 6) ix)
+          (outcome (given x) (index (grown t x hash key p) (appended (ix .lines) 1 hash key p))))
+    ])
+    (outcome (refused 2) ix))
+    (outcome (refused 1) ix)

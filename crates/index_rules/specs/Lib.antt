@@ -1,0 +1,13 @@
+pub mod Live
+pub mod Find
+pub mod Check
+pub mod Sound
+pub mod Index
+pub mod Insert
+pub mod Remove
+pub mod Rollback
+pub mod Fresh
+pub mod Contents
+pub mod Undoing
+pub mod Calls
+pub mod Claims

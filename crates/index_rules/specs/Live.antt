@@ -1,0 +1,45 @@
+-- A live tree: the words that its entry points are lent.
+use mathlib.Core.Bool.{Bool}
+use mathlib.Core.List.{List}
+use mathlib.Core.Path.{_≡_}
+use Prim.Native.Nat.{ℕ, _*_, _/_, _≤_}
+use lib.ListN.{length, getD}
+use lib.Dec.{eqb, leb}
+use Rattle.slots.specs.Words.{null, _and_, mostSlots}
+
+pub record Live : Type 0 where
+  pub names : List ℕ
+  pub cells : List ℕ
+  pub head : List ℕ
+
+-- The tree that three lent slices are.
+abbrev pub lentTree : List ℕ → List ℕ → List ℕ → Live
+lentTree names cells head = record { names = names; cells = cells; head = head }
+
+-- "A header holds root, first and the count."
+abbrev pub rootOf : Live → ℕ
+rootOf t = getD (t .head) 0 null
+
+abbrev pub firstOf : Live → ℕ
+firstOf t = getD (t .head) 1 null
+
+abbrev pub countOf : Live → ℕ
+countOf t = getD (t .head) 2 null
+
+-- "Capacity 1 to 4,096 slots": a hash and a key to a slot, seven cells to a slot, three words of header. What is not fit is 1.
+pub record Fit (t : Live) : Type 0 where
+  pub capacity : ℕ
+  pub least : 1 ≤ capacity
+  pub most : capacity ≤ mostSlots
+  pub two : length (t .names) ≡ 2 * capacity
+  pub seven : length (t .cells) ≡ 7 * capacity
+  pub three : length (t .head) ≡ 3
+
+abbrev pub capacityOf : Live → ℕ
+capacityOf t = length (t .names) / 2
+
+-- The test of it.
+unfoldable pub fits : Live → Bool
+fits t =
+    let n = capacityOf t in
+    leb 1 n and leb n mostSlots and eqb (length (t .names)) (2 * n) and eqb (length (t .cells)) (7 * n) and eqb (length (t .head)) 3

@@ -1,0 +1,50 @@
+-- "Remove unlinks from the chain", takes the slot out of the tree, and clears it.
+use mathlib.Core.List.{List}
+use Prim.Native.Nat.{ℕ, _-_}
+use lib.Dec.{eqb}
+use Rattle.slots.specs.Words.{null, pick, place, state, parent, left, right, prev, next, free, cell, write, rename, hashPart, keyPart}
+use Rattle.slots.specs.Answers.{some, none, given, refused}
+use Rattle.redblack.specs.Removal.{removed}
+use Rattle.index_rules.specs.Live.{Live, rootOf, firstOf, countOf, capacityOf}
+use Rattle.index_rules.specs.Sound.{sound}
+use Rattle.index_rules.specs.Index.{Index, index, Outcome, outcome, fitsIndex, lengthOf, linesOf, appended}
+use Rattle.index_rules.specs.Insert.{soughtIn, headed}
+
+-- The slot x out of the chain: what stood before it leads to what stood after, and back.
+unfoldable pub unchained : List ℕ → ℕ → List ℕ
+unchained cells x =
+    let p = cell cells x prev in
+    let q = cell cells x next in
+    write (write cells p next q) q prev p
+
+abbrev pub newFirst : Live → ℕ → ℕ
+newFirst t x = pick (eqb (cell (t .cells) x prev) null) (cell (t .cells) x next) (firstOf t)
+
+-- The slot is "all zero with null links" again.
+unfoldable pub wiped : List ℕ → ℕ → List ℕ
+wiped cells x =
+    write (write (write (write (write (write (write cells x place 0) x state free) x parent null) x left null) x right null) x prev null) x next null
+
+-- After the check: the slot x goes.
+unfoldable pub shrunk : Live → ℕ → Live
+shrunk t x =
+    let gone = removed (capacityOf t) (record { cells = unchained (t .cells) x; root = rootOf t }) x in
+    record {
+      names = rename (rename (t .names) x hashPart 0) x keyPart 0;
+      cells = wiped (gone .cells) x;
+      head = headed (t .head) (gone .root) (newFirst t x) (countOf t - 1);
+    }
+
+-- "remove 1, 2, 4, 6": a refusal writes nothing.
+unfoldable pub removes : Index → ℕ → ℕ → Outcome
+removes ix hash key =
+    let t = ix .live in
+    pick (fitsIndex ix)
+    (pick (sound t)
+    (elim (soughtIn t hash key) [
+      | none ↦ outcome (refused 4) ix
+      | some x ↦ pick (eqb (lengthOf (ix .lines)) (linesOf (ix .lines))) (outcome (refused 6) ix)
+          (outcome (given x) (index (shrunk t x) (appended (ix .lines) 2 hash key (cell (t .cells) x place))))
+    ])
+    (outcome (refused 2) ix))
+    (outcome (refused 1) ix)

@@ -1,0 +1,29 @@
+-- The slot is painted red, and the rest is the loop's.
+use denote.Ref.{now}
+use Rattle.links.specs.Turns.{links}
+use Rattle.links.proofs.Balancing.{started}
+use borrow.Author.Needs.{needs}
+use Rattle.links.proofs.balance.balance_insertion.Statement.{statement}
+use Rattle.links.proofs.balance.balance_insertion.Tie as tie
+
+paint-requires : tie.Need-paint-requires
+paint-requires c κs = search needs
+
+insertion-turns-requires : tie.Need-insertion-turns-requires
+insertion-turns-requires c κs = search needs
+
+same-length : tie.Need-same-length
+same-length c = search needs
+
+returns : tie.Need-returns
+returns c =
+    let c1 = c .before .before in
+    let c2 = c1 .before .before .before .before in
+    let a = c2 .before .before .before .args in
+    started (a .budget) (links (now (a .cells)) (a .root)) (a .x)
+    (c2 .paint .ensures)
+    (c1 .insertion-turns .ensures)
+
+pub balance-insertion-spec : {M : Type 1} → statement M
+balance-insertion-spec =
+    tie.close (tie.spec paint-requires insertion-turns-requires same-length returns)

@@ -1,0 +1,156 @@
+-- `deletion_turn` goes as `deletionTurn` does: one law for each of its six ways out.
+use denote.Ref.{now}
+use Rattle.links.specs.Turns.{links}
+use Rattle.links.proofs.Balancing.{nowhere, at-root, rootless, red-slot, from-left, from-right}
+use borrow.Author.Needs.{needs}
+use Rattle.links.proofs.balance.deletion_turn.Statement.{statement}
+use Rattle.links.proofs.balance.deletion_turn.Tie as tie
+
+returns : tie.Need-returns
+returns c =
+    let a = c .before .before .args in
+    nowhere (links (now (a .cells)) (a .root)) (a .x)
+    (c .if1 .taken)
+
+returns-2 : tie.Need-returns-2
+returns-2 c =
+    let c1 = c .before in
+    let a = c1 .before .before .args in
+    at-root (links (now (a .cells)) (a .root)) (a .x)
+    (c1 .if1 .left)
+    (c .if2 .taken)
+
+get-requires : tie.Need-get-requires
+get-requires c κs = search needs
+
+paint-requires : tie.Need-paint-requires
+paint-requires c κs = search needs
+
+same-length : tie.Need-same-length
+same-length c = search needs
+
+returns-3 : tie.Need-returns-3
+returns-3 c =
+    let c1 = c .before .before in
+    let c2 = c1 .before .before in
+    let c3 = c2 .before in
+    let c4 = c3 .before .before in
+    let c5 = c4 .before in
+    let a = c5 .before .before .args in
+    rootless (links (now (a .cells)) (a .root)) (a .x)
+    (c5 .if1 .left)
+    (c4 .if2 .left)
+    (c3 .get .ensures)
+    (c2 .if3 .taken)
+    (c1 .paint .ensures)
+
+is-red-requires : tie.Need-is-red-requires
+is-red-requires c κs = search needs
+
+paint-requires-2 : tie.Need-paint-requires-2
+paint-requires-2 c κs = search needs
+
+same-length-2 : tie.Need-same-length-2
+same-length-2 c = search needs
+
+returns-4 : tie.Need-returns-4
+returns-4 c =
+    let c1 = c .before .before in
+    let c2 = c1 .before .before in
+    let c3 = c2 .before in
+    let c4 = c3 .before .before in
+    let c5 = c4 .before in
+    let c6 = c5 .before .before in
+    let c7 = c6 .before in
+    let a = c7 .before .before .args in
+    red-slot (links (now (a .cells)) (a .root)) (a .x)
+    (c7 .if1 .left)
+    (c6 .if2 .left)
+    (c5 .get .ensures)
+    (c4 .if3 .left)
+    (c3 .is-red .ensures)
+    (c2 .if4 .taken)
+    (c1 .paint2 .ensures)
+
+get-requires-2 : tie.Need-get-requires-2
+get-requires-2 c κs = search needs
+
+sink-requires : tie.Need-sink-requires
+sink-requires c κs = search needs
+
+same-length-3 : tie.Need-same-length-3
+same-length-3 c = search needs
+
+returns-5 : tie.Need-returns-5
+returns-5 c =
+    let c1 = c .before .before in
+    let c2 = c1 .before .before in
+    let c3 = c2 .before in
+    let c4 = c3 .before .before in
+    let c5 = c4 .before in
+    let c6 = c5 .before .before in
+    let c7 = c6 .before in
+    let c8 = c7 .before .before in
+    let c9 = c8 .before in
+    let a = c9 .before .before .args in
+    from-left (links (now (a .cells)) (a .root)) (a .x)
+    (c9 .if1 .left)
+    (c8 .if2 .left)
+    (c7 .get .ensures)
+    (c6 .if3 .left)
+    (c5 .is-red .ensures)
+    (c4 .if4 .left)
+    (c3 .get2 .ensures)
+    (c2 .if5 .taken)
+    (c1 .sink .ensures)
+
+sink-requires-2 : tie.Need-sink-requires-2
+sink-requires-2 c κs = search needs
+
+same-length-4 : tie.Need-same-length-4
+same-length-4 c = search needs
+
+returns-6 : tie.Need-returns-6
+returns-6 c =
+    let c1 = c .before .before in
+    let c2 = c1 .before .before in
+    let c3 = c2 .before in
+    let c4 = c3 .before .before in
+    let c5 = c4 .before in
+    let c6 = c5 .before .before in
+    let c7 = c6 .before in
+    let c8 = c7 .before .before in
+    let c9 = c8 .before in
+    let a = c9 .before .before .args in
+    from-right (links (now (a .cells)) (a .root)) (a .x)
+    (c9 .if1 .left)
+    (c8 .if2 .left)
+    (c7 .get .ensures)
+    (c6 .if3 .left)
+    (c5 .is-red .ensures)
+    (c4 .if4 .left)
+    (c3 .get2 .ensures)
+    (c2 .if5 .left)
+    (c1 .sink2 .ensures)
+
+pub deletion-turn-spec : {M : Type 1} → statement M
+deletion-turn-spec =
+    tie.close
+    (tie.spec
+    returns
+    returns-2
+    get-requires
+    paint-requires
+    same-length
+    returns-3
+    is-red-requires
+    paint-requires-2
+    same-length-2
+    returns-4
+    get-requires-2
+    sink-requires
+    same-length-3
+    returns-5
+    sink-requires-2
+    same-length-4
+    returns-6)

@@ -1,0 +1,124 @@
+-- `ease` goes as `eased` does: one law for each way through its two tests.
+use denote.Ref.{now}
+use Rattle.links.specs.Turns.{links}
+use Rattle.links.proofs.Balancing.{outer-red, inner-red, none-red}
+use borrow.Author.Needs.{needs}
+use Rattle.links.proofs.balance.ease.Statement.{statement}
+use Rattle.links.proofs.balance.ease.Tie as tie
+
+get-requires : tie.Need-get-requires
+get-requires c κs = search needs
+
+is-red-requires : tie.Need-is-red-requires
+is-red-requires c κs = search needs
+
+settle-requires : tie.Need-settle-requires
+settle-requires c κs = search needs
+
+same-length : tie.Need-same-length
+same-length c = search needs
+
+returns : tie.Need-returns
+returns c =
+    let c1 = c .before .before in
+    let c2 = c1 .before .before in
+    let c3 = c2 .before in
+    let c4 = c3 .before .before in
+    let a = c4 .before .before .before .args in
+    outer-red (a .near) (a .far) (links (now (a .cells)) (a .root)) (a .x) (a .xp) (a .y)
+    (c4 .get .ensures)
+    (c3 .is-red .ensures)
+    (c2 .if1 .taken)
+    (c1 .settle .ensures)
+
+get-requires-2 : tie.Need-get-requires-2
+get-requires-2 c κs = search needs
+
+is-red-requires-2 : tie.Need-is-red-requires-2
+is-red-requires-2 c κs = search needs
+
+tuck-requires : tie.Need-tuck-requires
+tuck-requires c κs = search needs
+
+get-requires-3 : tie.Need-get-requires-3
+get-requires-3 c κs = search needs
+
+get-requires-4 : tie.Need-get-requires-4
+get-requires-4 c κs = search needs
+
+settle-requires-2 : tie.Need-settle-requires-2
+settle-requires-2 c κs = search needs
+
+same-length-2 : tie.Need-same-length-2
+same-length-2 c = search needs
+
+returns-2 : tie.Need-returns-2
+returns-2 c =
+    let c1 = c .before .before in
+    let c2 = c1 .before .before in
+    let c3 = c2 .before .before in
+    let c4 = c3 .before .before .before .before in
+    let c5 = c4 .before .before in
+    let c6 = c5 .before in
+    let c7 = c6 .before .before in
+    let c8 = c7 .before .before in
+    let c9 = c8 .before in
+    let c10 = c9 .before .before in
+    let a = c10 .before .before .before .args in
+    inner-red (a .near) (a .far) (links (now (a .cells)) (a .root)) (a .x) (a .xp) (a .y)
+    (c10 .get .ensures)
+    (c9 .is-red .ensures)
+    (c8 .if1 .left)
+    (c7 .get2 .ensures)
+    (c6 .is-red2 .ensures)
+    (c5 .if2 .taken)
+    (c4 .tuck .ensures)
+    (c3 .get3 .ensures)
+    (c2 .get4 .ensures)
+    (c1 .settle2 .ensures)
+
+paint-requires : tie.Need-paint-requires
+paint-requires c κs = search needs
+
+same-length-3 : tie.Need-same-length-3
+same-length-3 c = search needs
+
+returns-3 : tie.Need-returns-3
+returns-3 c =
+    let c1 = c .before .before in
+    let c2 = c1 .before .before in
+    let c3 = c2 .before in
+    let c4 = c3 .before .before in
+    let c5 = c4 .before .before in
+    let c6 = c5 .before in
+    let c7 = c6 .before .before in
+    let a = c7 .before .before .before .args in
+    none-red (a .near) (a .far) (links (now (a .cells)) (a .root)) (a .x) (a .xp) (a .y)
+    (c7 .get .ensures)
+    (c6 .is-red .ensures)
+    (c5 .if1 .left)
+    (c4 .get2 .ensures)
+    (c3 .is-red2 .ensures)
+    (c2 .if2 .left)
+    (c1 .paint .ensures)
+
+pub ease-spec : {M : Type 1} → statement M
+ease-spec =
+    tie.close
+    (tie.spec
+    get-requires
+    is-red-requires
+    settle-requires
+    same-length
+    returns
+    get-requires-2
+    is-red-requires-2
+    tuck-requires
+    get-requires-3
+    get-requires-4
+    settle-requires-2
+    same-length-2
+    returns-2
+    paint-requires
+    same-length-3
+    returns-3)

@@ -1,0 +1,76 @@
+-- `lift` goes as `lifted` does, on each side of its test.
+use denote.Ref.{now}
+use Rattle.links.specs.Turns.{links}
+use Rattle.links.proofs.Balancing.{uncle-red, uncle-black}
+use borrow.Author.Needs.{needs}
+use Rattle.links.proofs.balance.lift.Statement.{statement}
+use Rattle.links.proofs.balance.lift.Tie as tie
+
+get-requires : tie.Need-get-requires
+get-requires c κs = search needs
+
+is-red-requires : tie.Need-is-red-requires
+is-red-requires c κs = search needs
+
+paint-requires : tie.Need-paint-requires
+paint-requires c κs = search needs
+
+paint-requires-2 : tie.Need-paint-requires-2
+paint-requires-2 c κs = search needs
+
+paint-requires-3 : tie.Need-paint-requires-3
+paint-requires-3 c κs = search needs
+
+same-length : tie.Need-same-length
+same-length c = search needs
+
+returns : tie.Need-returns
+returns c =
+    let c1 = c .before .before in
+    let c2 = c1 .before .before .before .before in
+    let c3 = c2 .before .before .before .before in
+    let c4 = c3 .before .before in
+    let c5 = c4 .before in
+    let c6 = c5 .before .before in
+    let a = c6 .before .before .before .args in
+    uncle-red (a .near) (a .far) (links (now (a .cells)) (a .root)) (a .x) (a .xp) (a .xpp)
+    (c6 .get .ensures)
+    (c5 .is-red .ensures)
+    (c4 .if1 .taken)
+    (c3 .paint .ensures)
+    (c2 .paint2 .ensures)
+    (c1 .paint3 .ensures)
+
+straighten-requires : tie.Need-straighten-requires
+straighten-requires c κs = search needs
+
+same-length-2 : tie.Need-same-length-2
+same-length-2 c = search needs
+
+returns-2 : tie.Need-returns-2
+returns-2 c =
+    let c1 = c .before .before in
+    let c2 = c1 .before .before in
+    let c3 = c2 .before in
+    let c4 = c3 .before .before in
+    let a = c4 .before .before .before .args in
+    uncle-black (a .near) (a .far) (links (now (a .cells)) (a .root)) (a .x) (a .xp) (a .xpp)
+    (c4 .get .ensures)
+    (c3 .is-red .ensures)
+    (c2 .if1 .left)
+    (c1 .straighten .ensures)
+
+pub lift-spec : {M : Type 1} → statement M
+lift-spec =
+    tie.close
+    (tie.spec
+    get-requires
+    is-red-requires
+    paint-requires
+    paint-requires-2
+    paint-requires-3
+    same-length
+    returns
+    straighten-requires
+    same-length-2
+    returns-2)

@@ -1,0 +1,94 @@
+-- `sink` goes as `sunk` does, on each side of its test.
+use denote.Ref.{now}
+use Rattle.links.specs.Turns.{links}
+use Rattle.links.proofs.Balancing.{sibling-red, sibling-black}
+use borrow.Author.Needs.{needs}
+use Rattle.links.proofs.balance.sink.Statement.{statement}
+use Rattle.links.proofs.balance.sink.Tie as tie
+
+get-requires : tie.Need-get-requires
+get-requires c κs = search needs
+
+is-red-requires : tie.Need-is-red-requires
+is-red-requires c κs = search needs
+
+paint-requires : tie.Need-paint-requires
+paint-requires c κs = search needs
+
+paint-requires-2 : tie.Need-paint-requires-2
+paint-requires-2 c κs = search needs
+
+rotate-requires : tie.Need-rotate-requires
+rotate-requires c κs = search needs
+
+get-requires-2 : tie.Need-get-requires-2
+get-requires-2 c κs = search needs
+
+get-requires-3 : tie.Need-get-requires-3
+get-requires-3 c κs = search needs
+
+ease-requires : tie.Need-ease-requires
+ease-requires c κs = search needs
+
+same-length : tie.Need-same-length
+same-length c = search needs
+
+returns : tie.Need-returns
+returns c =
+    let c1 = c .before .before in
+    let c2 = c1 .before .before in
+    let c3 = c2 .before .before in
+    let c4 = c3 .before .before .before .before in
+    let c5 = c4 .before .before .before .before in
+    let c6 = c5 .before .before .before .before in
+    let c7 = c6 .before .before in
+    let c8 = c7 .before in
+    let c9 = c8 .before .before in
+    let a = c9 .before .before .before .args in
+    sibling-red (a .near) (a .far) (links (now (a .cells)) (a .root)) (a .x) (a .xp)
+    (c9 .get .ensures)
+    (c8 .is-red .ensures)
+    (c7 .if1 .taken)
+    (c6 .paint .ensures)
+    (c5 .paint2 .ensures)
+    (c4 .rotate .ensures)
+    (c3 .get2 .ensures)
+    (c2 .get3 .ensures)
+    (c1 .ease .ensures)
+
+ease-requires-2 : tie.Need-ease-requires-2
+ease-requires-2 c κs = search needs
+
+same-length-2 : tie.Need-same-length-2
+same-length-2 c = search needs
+
+returns-2 : tie.Need-returns-2
+returns-2 c =
+    let c1 = c .before .before in
+    let c2 = c1 .before .before in
+    let c3 = c2 .before in
+    let c4 = c3 .before .before in
+    let a = c4 .before .before .before .args in
+    sibling-black (a .near) (a .far) (links (now (a .cells)) (a .root)) (a .x) (a .xp)
+    (c4 .get .ensures)
+    (c3 .is-red .ensures)
+    (c2 .if1 .left)
+    (c1 .ease2 .ensures)
+
+pub sink-spec : {M : Type 1} → statement M
+sink-spec =
+    tie.close
+    (tie.spec
+    get-requires
+    is-red-requires
+    paint-requires
+    paint-requires-2
+    rotate-requires
+    get-requires-2
+    get-requires-3
+    ease-requires
+    same-length
+    returns
+    ease-requires-2
+    same-length-2
+    returns-2)

@@ -1,0 +1,40 @@
+-- The two writes and the rotation are those of `tucked`.
+use denote.Ref.{now}
+use Rattle.links.specs.Turns.{links}
+use Rattle.links.proofs.Balancing.{tuck}
+use borrow.Author.Needs.{needs}
+use Rattle.links.proofs.balance.tuck.Statement.{statement}
+use Rattle.links.proofs.balance.tuck.Tie as tie
+
+get-requires : tie.Need-get-requires
+get-requires c κs = search needs
+
+paint-requires : tie.Need-paint-requires
+paint-requires c κs = search needs
+
+paint-requires-2 : tie.Need-paint-requires-2
+paint-requires-2 c κs = search needs
+
+rotate-requires : tie.Need-rotate-requires
+rotate-requires c κs = search needs
+
+same-length : tie.Need-same-length
+same-length c = search needs
+
+returns : tie.Need-returns
+returns c =
+    let c1 = c .before .before in
+    let c2 = c1 .before .before .before .before in
+    let c3 = c2 .before .before .before .before in
+    let c4 = c3 .before .before in
+    let a = c4 .before .before .before .args in
+    tuck (a .near) (a .far) (links (now (a .cells)) (a .root)) (a .y)
+    (c4 .get .ensures)
+    (c3 .paint .ensures)
+    (c2 .paint2 .ensures)
+    (c1 .rotate .ensures)
+
+pub tuck-spec : {M : Type 1} → statement M
+tuck-spec =
+    tie.close
+    (tie.spec get-requires paint-requires paint-requires-2 rotate-requires same-length returns)

@@ -1,0 +1,78 @@
+-- `hang` makes the write that `hung` makes: one law for each way through its two tests.
+use denote.Ref.{now}
+use Rattle.links.specs.Turns.{links}
+use Rattle.links.proofs.Rotating.{hung-root, hung-near, hung-far}
+use borrow.Author.Needs.{needs}
+use Rattle.links.proofs.rotate.hang.Statement.{statement}
+use Rattle.links.proofs.rotate.hang.Tie as tie
+
+put-requires : tie.Need-put-requires
+put-requires c κs = search needs
+
+same-length : tie.Need-same-length
+same-length c = search needs
+
+returns : tie.Need-returns
+returns c =
+    let c1 = c .before .before in
+    let c2 = c1 .before .before in
+    let a = c2 .before .before .args in
+    hung-root (a .near) (a .far) (links (now (a .cells)) (a .root)) (a .pp) (a .p) (a .r)
+    (c2 .if1 .taken)
+    (c1 .put .ensures)
+
+get-requires : tie.Need-get-requires
+get-requires c κs = search needs
+
+put-requires-2 : tie.Need-put-requires-2
+put-requires-2 c κs = search needs
+
+put-requires-3 : tie.Need-put-requires-3
+put-requires-3 c κs = search needs
+
+same-length-2 : tie.Need-same-length-2
+same-length-2 c = search needs
+
+returns-2 : tie.Need-returns-2
+returns-2 c =
+    let c1 = c .before .before in
+    let c2 = c1 .before .before in
+    let c3 = c2 .before in
+    let c4 = c3 .before .before in
+    let a = c4 .before .before .args in
+    hung-near (a .near) (a .far) (links (now (a .cells)) (a .root)) (a .pp) (a .p) (a .r)
+    (c4 .if1 .left)
+    (c3 .get .ensures)
+    (c2 .if2 .taken)
+    (c1 .put2 .ensures)
+
+same-length-3 : tie.Need-same-length-3
+same-length-3 c = search needs
+
+returns-3 : tie.Need-returns-3
+returns-3 c =
+    let c1 = c .before .before in
+    let c2 = c1 .before .before in
+    let c3 = c2 .before in
+    let c4 = c3 .before .before in
+    let a = c4 .before .before .args in
+    hung-far (a .near) (a .far) (links (now (a .cells)) (a .root)) (a .pp) (a .p) (a .r)
+    (c4 .if1 .left)
+    (c3 .get .ensures)
+    (c2 .if2 .left)
+    (c1 .put3 .ensures)
+
+pub hang-spec : {M : Type 1} → statement M
+hang-spec =
+    tie.close
+    (tie.spec
+    put-requires
+    same-length
+    returns
+    get-requires
+    put-requires-2
+    put-requires-3
+    same-length-2
+    returns-2
+    same-length-3
+    returns-3)

@@ -1,0 +1,102 @@
+-- `swing` goes step by step as `rotated` does: with nothing to turn it leaves all as it was, else its writes are `turned`'s own, in order.
+use denote.Ref.{now}
+use Rattle.links.specs.Turns.{links}
+use Rattle.links.proofs.Rotating.{none, childless, turn}
+use borrow.Author.Needs.{needs}
+use Rattle.links.proofs.rotate.swing.Statement.{statement}
+use Rattle.links.proofs.rotate.swing.Tie as tie
+
+returns : tie.Need-returns
+returns c =
+    let a = c .before .before .args in
+    none (a .near) (a .far) (links (now (a .cells)) (a .root)) (a .p)
+    (c .if1 .taken)
+
+get-requires : tie.Need-get-requires
+get-requires c κs = search needs
+
+same-length : tie.Need-same-length
+same-length c = search needs
+
+returns-2 : tie.Need-returns-2
+returns-2 c =
+    let c1 = c .before in
+    let c2 = c1 .before .before in
+    let a = c2 .before .before .args in
+    childless (a .near) (a .far) (links (now (a .cells)) (a .root)) (a .p)
+    (c2 .if1 .left)
+    (c1 .get .ensures)
+    (c .if2 .taken)
+
+get-requires-2 : tie.Need-get-requires-2
+get-requires-2 c κs = search needs
+
+put-requires : tie.Need-put-requires
+put-requires c κs = search needs
+
+put-requires-2 : tie.Need-put-requires-2
+put-requires-2 c κs = search needs
+
+get-requires-3 : tie.Need-get-requires-3
+get-requires-3 c κs = search needs
+
+put-requires-3 : tie.Need-put-requires-3
+put-requires-3 c κs = search needs
+
+hang-requires : tie.Need-hang-requires
+hang-requires c κs = search needs
+
+put-requires-4 : tie.Need-put-requires-4
+put-requires-4 c κs = search needs
+
+put-requires-5 : tie.Need-put-requires-5
+put-requires-5 c κs = search needs
+
+same-length-2 : tie.Need-same-length-2
+same-length-2 c = search needs
+
+returns-3 : tie.Need-returns-3
+returns-3 c =
+    let c1 = c .before .before in
+    let c2 = c1 .before .before .before .before in
+    let c3 = c2 .before .before .before .before in
+    let c4 = c3 .before .before .before .before in
+    let c5 = c4 .before .before in
+    let c6 = c5 .before .before .before .before in
+    let c7 = c6 .before .before .before .before in
+    let c8 = c7 .before .before in
+    let c9 = c8 .before .before in
+    let c10 = c9 .before in
+    let c11 = c10 .before .before in
+    let a = c11 .before .before .args in
+    turn (a .near) (a .far) (links (now (a .cells)) (a .root)) (a .p)
+    (c11 .if1 .left)
+    (c10 .get .ensures)
+    (c9 .if2 .left)
+    (c8 .get2 .ensures)
+    (c7 .put .ensures)
+    (c6 .put2 .ensures)
+    (c5 .get3 .ensures)
+    (c4 .put3 .ensures)
+    (c3 .hang .ensures)
+    (c2 .put4 .ensures)
+    (c1 .put5 .ensures)
+
+pub swing-spec : {M : Type 1} → statement M
+swing-spec =
+    tie.close
+    (tie.spec
+    returns
+    get-requires
+    same-length
+    returns-2
+    get-requires-2
+    put-requires
+    put-requires-2
+    get-requires-3
+    put-requires-3
+    hang-requires
+    put-requires-4
+    put-requires-5
+    same-length-2
+    returns-3)

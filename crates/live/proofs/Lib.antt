@@ -1,4 +1,0 @@
-pub mod Gate
-pub mod Slots
-pub mod Walked
-pub mod Claims

@@ -1,0 +1,128 @@
+-- How long an answer can be, and that what there is room for is written whole.
+use mathlib.Core.Path.{_≡_, refl, ap, sym, _∙_}
+use mathlib.Core.Bool.{Bool, true, false}
+use mathlib.Core.List.{List, [], _∷_, _++_, append-assoc, append-nil}
+use Prim.Native.Nat.{ℕ, zero, suc, _+_, _-_, _*_, _/_, _%_, _≤_}
+use native.Mathlib.Numerals.{add-one}
+use native.Mathlib.Omega.{arith}
+use lib.ListN.{length, take, set, length-append, length-set}
+use lib.Seq.{take-suc-set}
+use lib.Dec.{eqb, ltb}
+use borrow.Author.Tests.{lt-ltb}
+use Rattle.slots.specs.Words.{null, pick, place, next, cell, nameOf, hashPart, keyPart}
+use Rattle.slots.specs.Answers.{Answer, Value, none, some}
+use Rattle.index_rules.specs.Live.{Live, fits, firstOf, capacityOf}
+use Rattle.index_rules.specs.Index.{Index, fitsIndex, lengthOf}
+use Rattle.index_rules.specs.Find.{finds}
+use Rattle.index_rules.specs.Insert.{inserts}
+use Rattle.index_rules.specs.Remove.{removes}
+use Rattle.index_rules.specs.Rollback.{rolls}
+use Rattle.index_rules.proofs.Fit.{fits-fit, half}
+use Rattle.script_rules.specs.Text.{digits, noText, markText, slotText, goneText, atText, backText}
+use Rattle.script_rules.specs.Commands.{Command, insert, remove, find, rollback, mark, list, bad}
+use Rattle.script_rules.specs.Answers.{counted, valued, told, more, met, entryLine, entryLines, counting, listing, marking, obeyed}
+use Rattle.script_rules.specs.Feeding.{Paper, typedOne, typed, longest}
+
+pub digits-short : (k x : ℕ) → length (digits k x) ≤ k
+unfolding digits
+digits-short zero x = omega arith
+digits-short (suc k) x = go (digits-short k (x / 10)) (ltb x 10)
+  where
+    go : length (digits k (x / 10)) ≤ k → (t : Bool) → length (pick t ((48 + x) ∷ []) (digits k (x / 10) ++ ((48 + x % 10) ∷ []))) ≤ suc k
+    go h true = omega arith
+    go h false = simp length-append (omega arith)
+
+counted-short : (word : List ℕ) (v : ℕ) → length (counted word v) ≤ length word + 21
+counted-short word v = simp length-append (omega (arith, digits-short 20 v))
+
+told-short : (word : List ℕ) (a : Answer) → length word ≤ 8 → length (told word a) ≤ 29
+unfolding told
+told-short word a h = go (eqb (a .number) 0) (a .value)
+  where
+    go : (t : Bool) (v : Value) → length (pick t (valued word v) (counted noText (a .number))) ≤ 29
+    go true (some v) = omega (arith, counted-short word v)
+    go true none = omega arith
+    go false v = omega (arith, counted-short noText (a .number))
+
+entry-short : (names cells : List ℕ) (i : ℕ) → length (entryLine names cells i) ≤ 63
+unfolding entryLine
+entry-short names cells i =
+    simp length-append (omega (arith, digits-short 20 (nameOf names i hashPart), digits-short 20 (nameOf names i keyPart), digits-short 20 (cell cells i place)))
+
+entries-short : (c : ℕ) (names cells : List ℕ) (i : ℕ) → length (entryLines c names cells i) ≤ 63 * c
+unfolding entryLines
+entries-short zero names cells i = omega arith
+entries-short (suc c) names cells i = simp length-append (omega (arith, entry-short names cells i, entries-short c names cells (cell cells i next)))
+
+-- No more slots are met than there are visits.
+met-few : (v n : ℕ) (cells : List ℕ) (i : ℕ) {c : ℕ} → met v n cells i ≡ some c → c ≤ v
+unfolding met
+met-few zero n cells i e = go (eqb i null) e
+  where
+    go : {c : ℕ} (t : Bool) → pick t (some 0) none ≡ some c → c ≤ 0
+    go {c} true f = let z : 0 ≡ c = cc in omega arith
+    go {c} false f = let z : _≡_ {A = ℕ} 0 1 = cc in absurd (omega arith)
+met-few (suc v) n cells i {c} e = go (λ d q. met-few v n cells (cell cells i next) q) (eqb i null) (ltb i n) (met v n cells (cell cells i next)) refl e
+  where
+    go : ((d : ℕ) → met v n cells (cell cells i next) ≡ some d → d ≤ v) → (s t : Bool) (r : Value) → met v n cells (cell cells i next) ≡ r
+        → pick s (some 0) (pick t (more r) none) ≡ some c → c ≤ suc v
+    go again true t r q f = let z : 0 ≡ c = cc in omega arith
+    go again false true (some d) q f = let z : suc d ≡ c = cc in omega (arith, again d q)
+    go again false true none q f = let z : _≡_ {A = ℕ} 0 1 = cc in absurd (omega arith)
+    go again false false r q f = let z : _≡_ {A = ℕ} 0 1 = cc in absurd (omega arith)
+
+listing-short : (t : Live) → length (listing t) ≤ longest
+unfolding listing
+listing-short t = go (fits t) refl (met (capacityOf t) (capacityOf t) (t .cells) (firstOf t)) refl
+  where
+    go : (b : Bool) → fits t ≡ b → (r : Value) → met (capacityOf t) (capacityOf t) (t .cells) (firstOf t) ≡ r
+        → length (pick b (counting t r) (counted noText 1)) ≤ longest
+    go true f (some c) q =
+        let fit = fits-fit t f in
+        simp length-append
+        (omega (arith, digits-short 20 c, entries-short c (t .names) (t .cells) (firstOf t), met-few (capacityOf t) (capacityOf t) (t .cells) (firstOf t) q, half fit, fit .most))
+    go true f none q = omega (arith, counted-short noText 9)
+    go false f r q = omega (arith, counted-short noText 1)
+
+marking-short : (ix : Index) → length (marking ix) ≤ longest
+unfolding marking
+marking-short ix = go (fitsIndex ix)
+  where
+    go : (b : Bool) → length (pick b (counted markText (lengthOf (ix .lines))) (counted noText 1)) ≤ longest
+    go true = omega (arith, counted-short markText (lengthOf (ix .lines)))
+    go false = omega (arith, counted-short noText 1)
+
+-- No answer is longer than `longest`.
+pub answer-short : (ix : Index) (c : Command) → length (obeyed ix c .text) ≤ longest
+unfolding obeyed
+answer-short ix (insert h k p) = omega (arith, told-short slotText (inserts ix h k p .answer) (omega arith))
+answer-short ix (remove h k) = omega (arith, told-short goneText (removes ix h k .answer) (omega arith))
+answer-short ix (find h k) = omega (arith, told-short atText (finds (ix .live) h k) (omega arith))
+answer-short ix (rollback m) = omega (arith, told-short backText (rolls ix m .answer) (omega arith))
+answer-short ix mark = marking-short ix
+answer-short ix list = listing-short (ix .live)
+answer-short ix bad = omega arith
+
+-- With room for all of them, the bytes stand behind what was there.
+pub record Whole (p : Paper) (l : List ℕ) : Type 0 where
+  pub at : typed p l .at ≡ p .at + length l
+  pub long : length (typed p l .bytes) ≡ length (p .bytes)
+  pub behind : take (typed p l .at) (typed p l .bytes) ≡ take (p .at) (p .bytes) ++ l
+
+pub typed-whole : (p : Paper) (l : List ℕ) → p .at + length l ≤ length (p .bytes) → Whole p l
+unfolding typed
+typed-whole p [] h = record { at = omega arith; long = refl; behind = sym (append-nil _) }
+typed-whole p (b ∷ l) h = step (typed-whole (record { bytes = set (p .bytes) (p .at) b; at = p .at + 1 }) l)
+  where
+    step : (p .at + 1 + length l ≤ length (set (p .bytes) (p .at) b) → Whole (record { bytes = set (p .bytes) (p .at) b; at = p .at + 1 }) l) → Whole p (b ∷ l)
+    step again =
+        let next : Paper = record { bytes = set (p .bytes) (p .at) b; at = p .at + 1 } in
+        let e : typedOne p b ≡ next = simp (lt-ltb (p .at) (length (p .bytes)) (omega arith)) in
+        let f : typed (typedOne p b) l ≡ typed next l = ap (λ (q : Paper). typed q l) e in
+        let r = again (simp length-set (omega arith)) in
+        record {
+          at = ap (λ (q : Paper). q .at) f ∙ r .at ∙ omega arith;
+          long = ap (λ (q : Paper). length (q .bytes)) f ∙ r .long ∙ length-set (p .bytes) (p .at) b;
+          behind = ap (λ (q : Paper). take (q .at) (q .bytes)) f ∙ r .behind
+              ∙ rw (add-one (p .at), take-suc-set (p .bytes) (p .at) b (omega arith)) (append-assoc (take (p .at) (p .bytes)) (b ∷ []) l);
+        }

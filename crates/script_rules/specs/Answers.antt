@@ -1,0 +1,81 @@
+-- What is printed for a command, and what it leaves of the tree and the journal.
+use mathlib.Core.List.{List, [], _∷_, _++_}
+use Prim.Native.Nat.{ℕ, zero, suc}
+use lib.Dec.{eqb, ltb}
+use Rattle.slots.specs.Words.{null, pick, place, next, cell, nameOf, hashPart, keyPart}
+use Rattle.slots.specs.Answers.{Answer, Value, none, some}
+use Rattle.index_rules.specs.Live.{Live, fits, firstOf, capacityOf}
+use Rattle.index_rules.specs.Find.{finds}
+use Rattle.index_rules.specs.Index.{Index, Outcome, fitsIndex, lengthOf}
+use Rattle.index_rules.specs.Insert.{inserts}
+use Rattle.index_rules.specs.Remove.{removes}
+use Rattle.index_rules.specs.Rollback.{rolls}
+use Rattle.script_rules.specs.Text.{newline, space, decimal, slotText, goneText, atText, noneText, markText, backText, entriesText, noText, badText}
+use Rattle.script_rules.specs.Commands.{Command, insert, remove, find, rollback, mark, list, bad}
+
+-- A word and a number, and the line ends.
+abbrev pub counted : List ℕ → ℕ → List ℕ
+counted word v = word ++ (decimal v ++ (newline ∷ []))
+
+abbrev pub valued : List ℕ → Value → List ℕ
+valued word (some v) = counted word v
+valued word none = noneText ++ (newline ∷ [])
+
+-- "A refusal prints `no` and its number."
+unfoldable pub told : List ℕ → Answer → List ℕ
+told word a = pick (eqb (a .number) 0) (valued word (a .value)) (counted noText (a .number))
+
+-- One more, where there is a number.
+abbrev pub more : Value → Value
+more (some c) = some (suc c)
+more none = none
+
+-- How many slots are met from the link i by next, with v visits left; none where a link is neither null nor a slot, or the visits run out.
+unfoldable pub met : ℕ → ℕ → List ℕ → ℕ → Value
+met zero n cells i = pick (eqb i null) (some 0) none
+met (suc v) n cells i = pick (eqb i null) (some 0) (pick (ltb i n) (more (met v n cells (cell cells i next))) none)
+
+-- The line of slot i: "hash, key, place".
+unfoldable pub entryLine : List ℕ → List ℕ → ℕ → List ℕ
+entryLine names cells i =
+    decimal (nameOf names i hashPart)
+    ++ (space ∷ (decimal (nameOf names i keyPart) ++ (space ∷ (decimal (cell cells i place) ++ (newline ∷ [])))))
+
+-- The lines of c slots from the link i on.
+unfoldable pub entryLines : ℕ → List ℕ → List ℕ → ℕ → List ℕ
+entryLines zero names cells i = []
+entryLines (suc c) names cells i = entryLine names cells i ++ entryLines c names cells (cell cells i next)
+
+-- The lines of these slots.
+unfoldable pub linesOf : List ℕ → List ℕ → List ℕ → List ℕ
+linesOf names cells [] = []
+linesOf names cells (i ∷ l) = entryLine names cells i ++ linesOf names cells l
+
+abbrev pub counting : Live → Value → List ℕ
+counting t (some c) = counted entriesText c ++ entryLines c (t .names) (t .cells) (firstOf t)
+counting t none = counted noText 9
+
+-- "`l` lists hash, key, place by the chain from first."
+unfoldable pub listing : Live → List ℕ
+listing t = pick (fits t) (counting t (met (capacityOf t) (capacityOf t) (t .cells) (firstOf t))) (counted noText 1)
+
+-- "The mark is the length."
+unfoldable pub marking : Index → List ℕ
+marking ix = pick (fitsIndex ix) (counted markText (lengthOf (ix .lines))) (counted noText 1)
+
+-- What a command comes to: what is printed, and what is left.
+pub record Said : Type 0 where
+  pub text : List ℕ
+  pub left : Index
+
+abbrev pub saying : List ℕ → Outcome → Said
+saying word o = record { text = told word (o .answer); left = o .left }
+
+unfoldable pub obeyed : Index → Command → Said
+obeyed ix (insert h k p) = saying slotText (inserts ix h k p)
+obeyed ix (remove h k) = saying goneText (removes ix h k)
+obeyed ix (find h k) = record { text = told atText (finds (ix .live) h k); left = ix }
+obeyed ix (rollback m) = saying backText (rolls ix m)
+obeyed ix mark = record { text = marking ix; left = ix }
+obeyed ix list = record { text = listing (ix .live); left = ix }
+obeyed ix bad = record { text = badText ++ (newline ∷ []); left = ix }

@@ -1,0 +1,60 @@
+-- What crate `script_rules` proves of its models, in one record. Every statement of the crate stands here.
+use mathlib.Core.Path.{_≡_}
+use mathlib.Core.Logic.{_≢_, _↔_}
+use mathlib.Core.List.{List, [], _∷_, _++_}
+use Prim.Native.Nat.{ℕ, _+_, _^_, _<_, _≤_}
+use lib.ListN.{length, take}
+use Rattle.index_rules.specs.Live.{Live, Fit, countOf}
+use Rattle.index_rules.specs.Index.{Index}
+use Rattle.index_rules.specs.Sound.{Sound}
+use Rattle.script_rules.specs.Text.{newline, decimal, worth, Digits, entriesText}
+use Rattle.script_rules.specs.Commands.{Command, bad, spoken, textOf, Fits}
+use Rattle.script_rules.specs.Answers.{counted, linesOf, listing, obeyed}
+use Rattle.script_rules.specs.Feeding.{Line, blank, Paper, typed, longest, feeds, ends, Heard, prefixed, heard, deskOf, printed, Run, NoNewline}
+
+-- "decimal numbers", "with no leading zero".
+pub record Decimals (x : ℕ) : Type 0 where
+  pub digits : Digits (decimal x)
+  pub value : x < 10 ^ 20 → worth 0 (decimal x) ≡ x
+  -- the first digit is no zero, unless the number is zero, which is one digit
+  pub leading : x < 10 ^ 20 → 0 < x → (l : List ℕ) → decimal x ≢ 48 ∷ l
+  pub zero-digit : decimal 0 ≡ 48 ∷ []
+
+-- What a line means: the command of which it is the text, its numbers within their fields; else it is bad.
+pub record Means (l : List ℕ) : Type 0 where
+  pub command : (c : Command) → c ≢ bad → (spoken l ≡ c) ↔ (Fits c × (l ≡ textOf c))
+  pub bad-else : (spoken l ≡ bad) ↔ ((c : Command) → Fits c → l ≡ textOf c → ⊥)
+  -- "or over 80 bytes before its newline, prints `bad`"
+  pub long : 80 < length l → spoken l ≡ bad
+
+-- A call with a chunk and a buffer.
+pub record Calls (chunk : List ℕ) (line : Line) (ix : Index) (buffer : List ℕ) : Type 0 where
+  -- 1 exactly where the longest answer has no room, and then nothing has changed and nothing is taken
+  pub one : (feeds chunk (deskOf line ix buffer) .number ≡ 1) ↔ (length buffer < longest)
+  pub refused : length buffer < longest → feeds chunk (deskOf line ix buffer) ≡ record { number = 1; desk = deskOf line ix buffer; taken = 0 }
+  pub other : longest ≤ length buffer → feeds chunk (deskOf line ix buffer) .number ≡ 0
+  -- it takes no more than there is, and something where there is room and something to take: calls come to an end
+  pub most : feeds chunk (deskOf line ix buffer) .taken ≤ length chunk
+  pub some : longest ≤ length buffer → 0 < length chunk → 0 < feeds chunk (deskOf line ix buffer) .taken
+
+pub record Claims : Type 0 where
+  pub decimals : (x : ℕ) → Decimals x
+  pub means : (l : List ℕ) → Means l
+  -- no answer is longer than the room that is asked for, and what there is room for is written whole
+  pub room : (ix : Index) (c : Command) → length (obeyed ix c .text) ≤ longest
+  pub written : (p : Paper) (l : List ℕ) → p .at + length l ≤ length (p .bytes)
+      → (typed p l .at ≡ p .at + length l) × (take (typed p l .at) (typed p l .bytes) ≡ take (p .at) (p .bytes) ++ l)
+  pub calls : (chunk : List ℕ) (line : Line) (ix : Index) (buffer : List ℕ) → Calls chunk line ix buffer
+  -- any cutting of the input gives the same output and the same tree and journal
+  pub cutting : {line : Line} {ix : Index} {input : List ℕ} {h : Heard} → Run line ix input h → h ≡ heard line ix input
+  -- line by line: each is answered as it is meant, and the next begins
+  pub lines : (ix : Index) (l rest : List ℕ) → NoNewline l
+      → heard blank ix (l ++ (newline ∷ rest)) ≡ prefixed (obeyed ix (spoken l) .text) (heard blank (obeyed ix (spoken l) .left) rest)
+  -- "An unended last line counts", and where none has begun nothing is printed
+  pub last-line : (ix : Index) (l buffer : List ℕ) → NoNewline l → l ≢ [] → longest ≤ length buffer
+      → let f = ends (deskOf (heard blank ix l .line) (heard blank ix l .index) buffer) in
+      (heard blank ix l .text ≡ []) × (printed f ≡ obeyed ix (spoken l) .text) × (f .desk .index ≡ obeyed ix (spoken l) .left)
+  pub no-line : (ix : Index) (buffer : List ℕ) → longest ≤ length buffer
+      → (printed (ends (deskOf blank ix buffer)) ≡ []) × (ends (deskOf blank ix buffer) .desk .index ≡ ix)
+  -- "`l` lists hash, key, place by the chain from first"
+  pub lists : (t : Live) → Fit t → (h : Sound t) → listing t ≡ counted entriesText (countOf t) ++ linesOf (t .names) (t .cells) (h .chain)

@@ -1,0 +1,75 @@
+-- What a line of a script means.
+use mathlib.Core.List.{List, [], _∷_, _++_}
+use Prim.Native.Nat.{ℕ, _<_, _^_}
+use lib.ListN.{length, drop}
+use lib.Dec.{ltb}
+use Rattle.slots.specs.Words.{pick}
+use Rattle.script_rules.specs.Text.{Read, read, unread, readNumber, readNext, begins, decimal, space, plusWord, minusWord, askWord, rollWord, markWord, listWord}
+
+-- "`+` takes hash, key, place; `-` and `?` hash, key; `r` a mark; `m` and `l` nothing." "A line of another form .. prints `bad`."
+pub data Command : Type 0 where
+  insert : ℕ → ℕ → ℕ → Command
+  remove find : ℕ → ℕ → Command
+  rollback : ℕ → Command
+  mark list bad : Command
+
+-- The largest number of a field: hash and key are 64 bits wide, a place and a mark 32.
+abbrev pub most64 : ℕ
+most64 = 18446744073709551615
+
+abbrev pub most32 : ℕ
+most32 = 4294967295
+
+-- What comes of a number that was read; a line that lacks it is bad.
+abbrev pub given : Read → (ℕ → List ℕ → Command) → Command
+given (read v l) rest = rest v l
+given unread rest = bad
+
+-- A command, where nothing is left of the line.
+abbrev pub alone : Command → List ℕ → Command
+alone c [] = c
+alone c (b ∷ l) = bad
+
+unfoldable pub pairOf : (ℕ → ℕ → Command) → List ℕ → Command
+pairOf c l = given (readNumber most64 l) (λ h rest. given (readNext most64 rest) (λ k end. alone (c h k) end))
+
+unfoldable pub entryOf : List ℕ → Command
+entryOf l =
+    given (readNumber most64 l)
+    (λ h rest. given (readNext most64 rest) (λ k more. given (readNext most32 more) (λ p end. alone (insert h k p) end)))
+
+unfoldable pub markOf : List ℕ → Command
+markOf l = given (readNumber most32 l) (λ m end. alone (rollback m) end)
+
+-- The command of a line, by the word that it starts with.
+unfoldable pub meant : List ℕ → Command
+meant l =
+    pick (begins plusWord l) (entryOf (drop 2 l))
+    (pick (begins minusWord l) (pairOf remove (drop 2 l))
+    (pick (begins askWord l) (pairOf find (drop 2 l))
+    (pick (begins rollWord l) (markOf (drop 2 l))
+    (pick (begins markWord l) (alone mark (drop 1 l)) (pick (begins listWord l) (alone list (drop 1 l)) bad)))))
+
+-- "or over 80 bytes before its newline, prints `bad`"
+unfoldable pub spoken : List ℕ → Command
+spoken l = pick (ltb 80 (length l)) bad (meant l)
+
+-- The one text of a command: its word, and its numbers after single spaces.
+abbrev pub textOf : Command → List ℕ
+textOf (insert h k p) = plusWord ++ (decimal h ++ (space ∷ (decimal k ++ (space ∷ decimal p))))
+textOf (remove h k) = minusWord ++ (decimal h ++ (space ∷ decimal k))
+textOf (find h k) = askWord ++ (decimal h ++ (space ∷ decimal k))
+textOf (rollback m) = rollWord ++ decimal m
+textOf mark = markWord
+textOf list = listWord
+textOf bad = []
+
+-- A command's numbers fit their fields; `bad` is no command.
+abbrev pub Fits : Command → Type 0
+Fits (insert h k p) = (h < 2 ^ 64) × (k < 2 ^ 64) × (p < 2 ^ 32)
+Fits (remove h k) = (h < 2 ^ 64) × (k < 2 ^ 64)
+Fits (find h k) = (h < 2 ^ 64) × (k < 2 ^ 64)
+Fits (rollback m) = m < 2 ^ 32
+Fits mark = Unit {0}
+Fits list = Unit {0}
+Fits bad = ⊥

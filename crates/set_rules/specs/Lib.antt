@@ -1,0 +1,13 @@
+pub mod Words
+pub mod Accepted
+pub mod Accepting
+pub mod Judged
+pub mod Lookup
+pub mod Cursor
+pub mod Walk
+pub mod Ways
+pub mod NodeIter
+pub mod Held
+pub mod Whole
+pub mod Walked
+pub mod Claims

@@ -1,0 +1,117 @@
+-- The walk's loop: what is known at a place that it comes to, and what each way out says, from the laws of one turn.
+use mathlib.Core.Path.{_≡_, sym, ap, _∙_}
+use mathlib.Core.Logic.{_≢_}
+use mathlib.Core.Bool.{Bool, true, false}
+use mathlib.Core.List.{List}
+use Prim.Native.Nat.{ℕ, suc, _+_, _-_, _*_, _<_, _≤_}
+use native.Mathlib.Nat.{add-zero}
+use native.Mathlib.Numerals.{add-one}
+use native.Mathlib.Omega.{arith}
+use lib.ListN.{getD, set}
+use borrow.Author.Tests.{eq-eqb, ne-eqb, lt-ltb, le-ltb}
+use Rattle.slots.specs.Words.{null, next, cell}
+use Rattle.slots.specs.Answers.{given, refused}
+use Rattle.set_rules.specs.Words.{Set, tablesOf, lengthAt, slotsIn, headersIn, begins, fits, Bin, empty, moved, bad, list, tree, binOf}
+use Rattle.set_rules.proofs.Fit.{fits-fit}
+use Rattle.set_rules.specs.Cursor.{Cursor, Step, lone, blank, starts, fineCursor}
+use Rattle.set_rules.specs.Walk.{Place, place, trimmed, advanced, Stands, Sought, at, ended, lost, turnsIn, standing, stepped, walked, nexts}
+use Rattle.set_rules.proofs.Standing.{inside}
+use Rattle.set_rules.proofs.Cursors.{fine-right, right-stands}
+use Rattle.set_rules.proofs.Seeking.{bare, no-cells, leftAt, seeks, at-end, at-empty, at-bad, at-list, at-moved, at-last, at-tree, at-stray, falls-onward, falls-below, good-onward, good-below}
+
+-- The loop from here comes to what it comes to from the start.
+pub record Going (s : Set) (base : ℕ) (from here : Place) : Type 0 where
+  pub good : Stands (s .lengths) base here
+  pub same : seeks s base here ≡ seeks s base from
+
+module _ (s : Set) (base d : ℕ) (x : List ℕ) (from : Place) (g : Going s base from (place d x)) {i len : ℕ} (e : i ≡ getD x d 0) (f : len ≡ lengthAt s (base + d)) where
+  pub stops : len ≤ i → ended ≡ seeks s base from
+  stops l = sym (at-end s base (place d x) (omega (arith, e, f))) ∙ g .same
+
+  module _ (l : i < len) {b : Bin} (k : b ≡ binOf (slotsIn s) (headersIn s) (getD (s .bins) (begins (s .lengths) (base + d) + i) 0)) where
+    here : getD x d 0 < lengthAt s (base + d)
+    here = omega (arith, e, f)
+
+    -- The base index has one after it.
+    pub base-more : getD x 0 0 < lengthAt s base
+    base-more = rw add-zero at (inside (s .lengths) base (place d x) (g .good) here 0 (omega arith))
+
+    bin : b ≡ binOf (slotsIn s) (headersIn s) (getD (s .bins) (begins (s .lengths) (base + d) + getD x d 0) 0)
+    bin = rw e at k
+
+    pub passes : b ≡ empty → {q : Place} → q ≡ advanced d (s .lengths) base x → Going s base from q
+    passes t h = rw h (record { good = good-onward s base (place d x) (g .good) here; same = sym (at-empty s base (place d x) (g .good) here (sym bin ∙ t)) ∙ g .same })
+
+    pub passes-less : {q : Place} → q ≡ advanced d (s .lengths) base x → leftAt s base q < leftAt s base (place d x)
+    passes-less h = rw h (falls-onward s base (place d x) (g .good) here)
+
+    pub descends : b ≡ moved → base + d + 1 < tablesOf s → {y : List ℕ} → y ≡ set x (d + 1) i → Going s base from (place (d + 1) y)
+    descends t m h =
+        let z : base + suc d < tablesOf s = omega arith in
+        rw (h, e, add-one)
+        (record { good = good-below s base (place d x) (g .good) here z; same = sym (at-moved s base (place d x) (g .good) here (sym bin ∙ t) z) ∙ g .same })
+
+    pub descends-less : base + d + 1 < tablesOf s → {y : List ℕ} → y ≡ set x (d + 1) i → leftAt s base (place (d + 1) y) < leftAt s base (place d x)
+    descends-less m h = rw (h, e, add-one) (falls-below s base (place d x) (g .good) here (omega arith))
+
+    pub no-table : b ≡ moved → tablesOf s ≤ base + d + 1 → lost ≡ seeks s base from
+    no-table t m = sym (at-last s base (place d x) (g .good) here (sym bin ∙ t) (omega arith)) ∙ g .same
+
+    pub bad-word : b ≡ bad → lost ≡ seeks s base from
+    bad-word t = sym (at-bad s base (place d x) (g .good) here (sym bin ∙ t)) ∙ g .same
+
+    pub from-list : {a : ℕ} → b ≡ list a → {q : Place} → q ≡ advanced d (s .lengths) base x → at a q ≡ seeks s base from
+    from-list t h = rw h (sym (at-list s base (place d x) (g .good) here (sym bin ∙ t)) ∙ g .same)
+
+    module _ {a first : ℕ} (t : b ≡ tree a) (m : first ≡ getD (s .heads) (3 * a + 1) null) where
+      pub from-tree : first < slotsIn s → {q : Place} → q ≡ advanced d (s .lengths) base x → at first q ≡ seeks s base from
+      from-tree n h = rw (h, m) (sym (at-tree s base (place d x) (g .good) here (sym bin ∙ t) (omega (arith, m))) ∙ g .same)
+
+      pub no-first : slotsIn s ≤ first → lost ≡ seeks s base from
+      no-first n = sym (at-stray s base (place d x) (g .good) here (sym bin ∙ t) (omega (arith, m))) ∙ g .same
+
+-- A step from a cursor that is not bad, by what it reads.
+module _ (s : Set) (c : Cursor) {link : ℕ} (g : link ≡ cell (s .cells) (c .last) next) where
+  pub link-stray : link ≢ null → slotsIn s ≤ link → stepped s c lost ≡ walked s c
+  unfolding walked
+  link-stray n l = rw (← g, ne-eqb _ _ n, le-ltb _ _ l)
+
+  module _ {x : List ℕ} (t : x ≡ trimmed (c .depth) (c .indexes)) where
+    pub link-next : link ≢ null → link < slotsIn s → stepped s c (at link (place (c .depth) x)) ≡ walked s c
+    unfolding walked
+    link-next n l = rw (← g, ne-eqb _ _ n, lt-ltb _ _ l, t)
+
+    pub from-bins : link ≡ null → {o : Sought} → o ≡ seeks (bare s) (c .base) (place (c .depth) x) → stepped s c o ≡ walked s c
+    unfolding walked
+    from-bins n k = rw (← g, eq-eqb _ _ n, k, t) (ap (stepped s c) (no-cells s (c .base) (turnsIn s (c .base)) (standing c)))
+
+-- The gates of start and next.
+module _ (s : Set) (t : ℕ) {b : Bool} (e : b ≡ fits s) where
+  pub start-unfit : b ≡ false → record { answer = refused 1; cursor = blank } ≡ starts s t
+  unfolding starts
+  start-unfit f = rw (← e, f)
+
+  pub start-unknown : b ≡ true → tablesOf s ≤ t → record { answer = refused 10; cursor = blank } ≡ starts s t
+  unfolding starts
+  start-unknown f l = rw (← e, f, le-ltb _ _ l)
+
+  pub start-made : b ≡ true → t < tablesOf s → record { answer = given 1; cursor = record { base = t; depth = 0; indexes = lone 0; last = null } } ≡ starts s t
+  unfolding starts
+  start-made f l = rw (← e, f, lt-ltb _ _ l)
+
+module _ (s : Set) (c : Cursor) {b : Bool} (e : b ≡ fits s) where
+  pub next-unfit : b ≡ false → record { answer = refused 1; cursor = c } ≡ nexts s c
+  unfolding nexts
+  next-unfit f = rw (← e, f)
+
+  module _ (f : b ≡ true) {r : Bool} (g : r ≡ fineCursor s c) where
+    pub next-bad : r ≡ false → record { answer = refused 11; cursor = c } ≡ nexts s c
+    unfolding nexts
+    next-bad h = rw (← e, f, ← g, h)
+
+    pub next-stands : r ≡ true → Stands (s .lengths) (c .base) (standing c)
+    next-stands h = right-stands s (fits-fit s (sym e ∙ f)) c (fine-right (s .lengths) (slotsIn s) (c .base) (c .depth) (c .indexes) (c .last) (sym g ∙ h))
+
+    pub next-walked : r ≡ true → {o : Step} → o ≡ walked s c → o ≡ nexts s c
+    unfolding nexts
+    next-walked h i = rw (← e, f, ← g, h) i

@@ -1,0 +1,28 @@
+-- The three reads are those of the model.
+use mathlib.Core.Path.{refl}
+use borrow.Author.Needs.{needs}
+use Rattle.sets.proofs.lookup.home_bin.Statement.{statement}
+use Rattle.sets.proofs.lookup.home_bin.Tie as tie
+
+length-at-requires : tie.Need-length-at-requires
+length-at-requires c κs = search needs
+
+index-requires : tie.Need-index-requires
+index-requires c κs = search needs
+
+bin-word-requires : tie.Need-bin-word-requires
+bin-word-requires c κs = search needs
+
+bin-of-requires : tie.Need-bin-of-requires
+bin-of-requires c κs = search needs
+
+returns : tie.Need-returns
+returns c =
+    let at-word = c .before in
+    let at-index = at-word .before in
+    rw (c .bin-of .ensures, at-word .bin-word .ensures, at-index .index .ensures, at-index .before .length-at .ensures) refl
+
+pub home-bin-spec : {M : Type 1} → statement M
+home-bin-spec =
+    tie.close
+    (tie.spec length-at-requires index-requires bin-word-requires bin-of-requires returns)

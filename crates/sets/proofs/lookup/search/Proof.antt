@@ -1,0 +1,187 @@
+-- The loop's invariant: the search from this table has the answer of the whole search.
+use mathlib.Core.Path.{_≡_, sym, ap, _∙_}
+use denote.Ref.{now}
+use Prim.Native.Nat.{_-_, _/_, _<_}
+use native.Mathlib.Omega.{arith}
+use borrow.Author.Needs.{needs}
+use lib.ListN.{length}
+use Rattle.set_rules.specs.Words.{Set}
+use Rattle.sets.specs.Bins.{binAs}
+use Rattle.set_rules.specs.Lookup.{forwarded}
+use Rattle.sets.proofs.Looking.{at-empty, at-bad, at-list, at-tree, at-last, at-moved}
+use Rattle.sets.proofs.lookup.search.Statement.{statement}
+use Rattle.sets.proofs.lookup.search.Tie as tie
+
+abbrev Inv-loop : tie.InvT-loop
+Inv-loop lengths bins heads names cells table hash key n h k₀ k =
+    let s : Set = record { lengths = lengths; bins = bins; heads = heads; names = names; cells = cells } in
+    (forwarded (length lengths - k) s k hash key ≡ forwarded (length lengths - table) s table hash key)
+    × (k < length lengths)
+    × (n ≡ length names / 2)
+    × (h ≡ length heads / 3)
+
+abbrev μ-loop : tie.MeasureT-loop
+μ-loop lengths bins heads names cells table hash key n h k₀ k = length lengths - k
+
+loop-holds : tie.Need-loop-holds Inv-loop μ-loop
+loop-holds c = search needs
+
+home-bin-requires : tie.Need-home-bin-requires Inv-loop μ-loop
+home-bin-requires c κs = search needs
+
+enum-told : tie.Need-enum-told Inv-loop μ-loop
+enum-told c = search needs
+
+enum-told-2 : tie.Need-enum-told-2 Inv-loop μ-loop
+enum-told-2 c = search needs
+
+cast-if1 : tie.Need-cast-if1 Inv-loop μ-loop
+cast-if1 c = search needs
+
+add-if1 : tie.Need-add-if1 Inv-loop μ-loop
+add-if1 c = search needs
+
+add-k : tie.Need-add-k Inv-loop μ-loop
+add-k c = search needs
+
+loop-less : tie.Need-loop-less Inv-loop μ-loop
+loop-less c = search needs
+
+loop-again : tie.Need-loop-again Inv-loop μ-loop
+loop-again c =
+    let at-bin = c .before .before .before in
+    let at-loop = at-bin .before in
+    let a = at-loop .before .before .before .before .before .before .args in (
+      at-moved
+          (record { lengths = now (a .lengths); bins = now (a .bins); heads = now (a .heads); names = now (a .names); cells = now (a .cells) })
+          (a .hash)
+          (a .key)
+          (at-loop .loop .k)
+          (at-loop .loop .inv .0)
+          (at-loop .loop .inv .1)
+          (ap binAs (sym (c .before .enum-told2 .given .1)) ∙ at-bin .home-bin .ensures),
+      omega (arith, c .if1 .left),
+      search needs,
+      search needs,
+    )
+
+enum-known-bin : tie.Need-enum-known-bin Inv-loop μ-loop
+enum-known-bin c = search needs
+
+find-in-list-requires : tie.Need-find-in-list-requires Inv-loop μ-loop
+find-in-list-requires c κs = search needs
+
+enum-known-bin-2 : tie.Need-enum-known-bin-2 Inv-loop μ-loop
+enum-known-bin-2 c = search needs
+
+header-requires : tie.Need-header-requires Inv-loop μ-loop
+header-requires c κs = search needs
+
+find-tree-node-requires : tie.Need-find-tree-node-requires Inv-loop μ-loop
+find-tree-node-requires c κs = search needs
+
+enum-told-3 : tie.Need-enum-told-3 Inv-loop μ-loop
+enum-told-3 c = search needs
+
+returns : tie.Need-returns Inv-loop μ-loop
+returns c =
+    let at-bin = c .before .before in
+    let at-loop = at-bin .before in
+    let a = at-loop .before .before .before .before .before .before .args in
+    at-empty
+    (record { lengths = now (a .lengths); bins = now (a .bins); heads = now (a .heads); names = now (a .names); cells = now (a .cells) })
+    (a .hash)
+    (a .key)
+    (at-loop .loop .k)
+    (at-loop .loop .inv .0)
+    (at-loop .loop .inv .1)
+    (ap binAs (sym (c .enum-told .given .1)) ∙ at-bin .home-bin .ensures)
+
+returns-2 : tie.Need-returns-2 Inv-loop μ-loop
+returns-2 c =
+    let at-bin = c .before .before .before in
+    let at-loop = at-bin .before in
+    let a = at-loop .before .before .before .before .before .before .args in
+    at-last
+    (record { lengths = now (a .lengths); bins = now (a .bins); heads = now (a .heads); names = now (a .names); cells = now (a .cells) })
+    (a .hash)
+    (a .key)
+    (at-loop .loop .k)
+    (at-loop .loop .inv .0)
+    (at-loop .loop .inv .1)
+    (ap binAs (sym (c .before .enum-told2 .given .1)) ∙ at-bin .home-bin .ensures)
+    (c .if1 .taken)
+
+returns-3 : tie.Need-returns-3 Inv-loop μ-loop
+returns-3 c =
+    let at-bin = c .before .before .before .before in
+    let at-loop = at-bin .before in
+    let a = at-loop .before .before .before .before .before .before .args in
+    at-list
+    (record { lengths = now (a .lengths); bins = now (a .bins); heads = now (a .heads); names = now (a .names); cells = now (a .cells) })
+    (a .hash)
+    (a .key)
+    (at-loop .loop .k)
+    (at-loop .loop .inv .0)
+    (at-loop .loop .inv .1)
+    (ap binAs (sym (c .before .before .bin .given .1)) ∙ at-bin .home-bin .ensures)
+    (c .find-in-list .ensures)
+
+returns-4 : tie.Need-returns-4 Inv-loop μ-loop
+returns-4 c =
+    let at-root = c .before in
+    let at-known = at-root .before .before in
+    let at-bin = at-known .before .before in
+    let at-loop = at-bin .before in
+    let a = at-loop .before .before .before .before .before .before .args in
+    at-tree
+    (record { lengths = now (a .lengths); bins = now (a .bins); heads = now (a .heads); names = now (a .names); cells = now (a .cells) })
+    (a .hash)
+    (a .key)
+    (at-loop .loop .k)
+    (at-loop .loop .inv .0)
+    (at-loop .loop .inv .1)
+    (ap binAs (sym (at-known .bin2 .given .1)) ∙ at-bin .home-bin .ensures)
+    (at-root .header .ensures)
+    (c .find-tree-node .ensures)
+
+returns-5 : tie.Need-returns-5 Inv-loop μ-loop
+returns-5 c =
+    let at-bin = c .before .before in
+    let at-loop = at-bin .before in
+    let a = at-loop .before .before .before .before .before .before .args in
+    at-bad
+    (record { lengths = now (a .lengths); bins = now (a .bins); heads = now (a .heads); names = now (a .names); cells = now (a .cells) })
+    (a .hash)
+    (a .key)
+    (at-loop .loop .k)
+    (at-loop .loop .inv .0)
+    (at-loop .loop .inv .1)
+    (ap binAs (sym (c .enum-told3 .given .1)) ∙ at-bin .home-bin .ensures)
+
+pub search-spec : {M : Type 1} → statement M
+search-spec =
+    tie.close
+    (tie.spec
+    Inv-loop
+    μ-loop
+    loop-holds
+    home-bin-requires
+    enum-told
+    enum-told-2
+    cast-if1
+    add-if1
+    add-k
+    loop-less
+    loop-again
+    enum-known-bin
+    find-in-list-requires
+    enum-known-bin-2
+    header-requires
+    find-tree-node-requires
+    enum-told-3
+    returns
+    returns-2
+    returns-3
+    returns-4
+    returns-5)

@@ -1,0 +1,24 @@
+-- Each way out closes by the tests that led there.
+use borrow.Author.Tests.{eq-eqb, ne-eqb, lt-ltb, le-ltb}
+use Rattle.set_rules.specs.Cursor.{levelFine}
+use borrow.Author.Needs.{needs}
+use Rattle.sets.proofs.place.level_fine.Statement.{statement}
+use Rattle.sets.proofs.place.level_fine.Tie as tie
+
+returns : tie.Need-returns
+unfolding levelFine
+returns c = simp (le-ltb _ _ (c .if1 .taken))
+
+returns-2 : tie.Need-returns-2
+unfolding levelFine
+returns-2 c = simp (lt-ltb _ _ (c .before .if1 .left), eq-eqb _ _ (c .if2 .taken))
+
+add-result : tie.Need-add-result
+add-result c = search needs
+
+returns-3 : tie.Need-returns-3
+unfolding levelFine
+returns-3 c = simp (lt-ltb _ _ (c .before .if1 .left), ne-eqb _ _ (c .if2 .left))
+
+pub level-fine-spec : {M : Type 1} → statement M
+level-fine-spec = tie.close (tie.spec returns returns-2 add-result returns-3)

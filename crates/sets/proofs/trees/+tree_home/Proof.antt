@@ -1,0 +1,213 @@
+-- Each way out is a law of the model at that depth, which falls with each call.
+use denote.Ref.{now}
+use native.Mathlib.Omega.{arith}
+use borrow.Author.Needs.{needs}
+use borrow.Author.Tests.{not-false, not-true}
+use Rattle.sets.proofs.Steps.{home-null, home-zero, home-on}
+use Prim.Native.Nat.{ℕ, _<_}
+use borrow.Fn.Kinds.{In}
+use borrow.Fn.PlainCycle.{Measures, is, falls, and}
+use Rattle.sets.proofs.trees.tree_home.Reads as tree-home
+use Rattle.sets.proofs.trees.tree_home.Kinds as tree-home-kinds
+use Rattle.sets.proofs.trees.+tree_home.Lts-tree_home as tree-home-lts
+use Rattle.sets.proofs.lists.is_home.Reads as is-home-reads
+use Rattle.slots.proofs.get.Reads as get-reads
+use Rattle.sets.proofs.trees.+tree_home.{statement}
+use Rattle.sets.proofs.trees.+tree_home.Tie.{close}
+
+abbrev μ-tree-home : Measures 2 tree-home-kinds.ps ℕ
+μ-tree-home κs a = a .1 .1 .1 .1 .1 .0
+
+abbrev tree-home-at : ℕ → In 2 tree-home-kinds.ps
+tree-home-at t = and 2 tree-home-kinds.ps (is 2 tree-home-kinds.ps μ-tree-home t) tree-home.Pre
+
+abbrev tree-home-below : ℕ → In 2 tree-home-kinds.ps
+tree-home-below t =
+    and 2 tree-home-kinds.ps (falls 2 tree-home-kinds.ps _<_ μ-tree-home t) tree-home.Pre
+
+tree-home-returns : (t : ℕ) → tree-home-lts.Need-returns (
+  is-home-reads.Asked,
+  is-home-reads.Learnt,
+  get-reads.Asked,
+  get-reads.Learnt,
+  tree-home-below t,
+  tree-home.Post,
+) (tree-home-at t) tree-home.Post
+tree-home-returns t c =
+    let c1 = c .before .before .before in
+    home-null (now (c1 .args .names)) (now (c1 .args .cells)) (c1 .args .length) (c1 .args .i) (c1 .args .x) (c1 .args .depth) (c .if1 .taken)
+
+tree-home-returns-2 : (t : ℕ) → tree-home-lts.Need-returns-2 (
+  is-home-reads.Asked,
+  is-home-reads.Learnt,
+  get-reads.Asked,
+  get-reads.Learnt,
+  tree-home-below t,
+  tree-home.Post,
+) (tree-home-at t) tree-home.Post
+tree-home-returns-2 t c =
+    let c1 = c .before in
+    let c2 = c1 .before .before .before in
+    home-zero (now (c2 .args .names)) (now (c2 .args .cells)) (c2 .args .length) (c2 .args .i) (c2 .args .x) (c2 .args .depth) (c1 .if1 .left) (c .if2 .taken)
+
+tree-home-is-home-requires : (t : ℕ) → tree-home-lts.Need-is-home-requires (
+  is-home-reads.Asked,
+  is-home-reads.Learnt,
+  get-reads.Asked,
+  get-reads.Learnt,
+  tree-home-below t,
+  tree-home.Post,
+) (tree-home-at t) tree-home.Post
+tree-home-is-home-requires t c κs = search needs
+
+tree-home-returns-3 : (t : ℕ) → tree-home-lts.Need-returns-3 (
+  is-home-reads.Asked,
+  is-home-reads.Learnt,
+  get-reads.Asked,
+  get-reads.Learnt,
+  tree-home-below t,
+  tree-home.Post,
+) (tree-home-at t) tree-home.Post
+tree-home-returns-3 t c =
+    let c1 = c .before in
+    let c2 = c1 .before in
+    let c3 = c2 .before in
+    let c4 = c3 .before .before .before in
+    rw (home-on (now (c4 .args .names)) (now (c4 .args .cells)) (c4 .args .length) (c4 .args .i) (c4 .args .x) (c4 .args .depth) (c3 .if1 .left) (c2 .if2 .left), ← c1 .is-home .ensures, not-true (c1 .is-home .result) (c .if3 .taken))
+
+tree-home-get-requires : (t : ℕ) → tree-home-lts.Need-get-requires (
+  is-home-reads.Asked,
+  is-home-reads.Learnt,
+  get-reads.Asked,
+  get-reads.Learnt,
+  tree-home-below t,
+  tree-home.Post,
+) (tree-home-at t) tree-home.Post
+tree-home-get-requires t c κs = search needs
+
+tree-home-sub-tree-home : (t : ℕ) → tree-home-lts.Need-sub-tree-home (
+  is-home-reads.Asked,
+  is-home-reads.Learnt,
+  get-reads.Asked,
+  get-reads.Learnt,
+  tree-home-below t,
+  tree-home.Post,
+) (tree-home-at t) tree-home.Post
+tree-home-sub-tree-home t c = search needs
+
+tree-home-tree-home-requires : (t : ℕ) → tree-home-lts.Need-tree-home-requires (
+  is-home-reads.Asked,
+  is-home-reads.Learnt,
+  get-reads.Asked,
+  get-reads.Learnt,
+  tree-home-below t,
+  tree-home.Post,
+) (tree-home-at t) tree-home.Post
+tree-home-tree-home-requires t c κs =
+    let c1 = c .before in
+    let c2 = c1 .before in
+    let c3 = c2 .before in
+    let c4 = c3 .before in
+    let c5 = c4 .before .before .before in
+    omega (arith, c5 .pre .0, c3 .if2 .left)
+
+tree-home-returns-4 : (t : ℕ) → tree-home-lts.Need-returns-4 (
+  is-home-reads.Asked,
+  is-home-reads.Learnt,
+  get-reads.Asked,
+  get-reads.Learnt,
+  tree-home-below t,
+  tree-home.Post,
+) (tree-home-at t) tree-home.Post
+tree-home-returns-4 t c =
+    let c1 = c .before in
+    let c2 = c1 .before in
+    let c3 = c2 .before in
+    let c4 = c3 .before in
+    let c5 = c4 .before in
+    let c6 = c5 .before in
+    let c7 = c6 .before .before .before in
+    rw (home-on (now (c7 .args .names)) (now (c7 .args .cells)) (c7 .args .length) (c7 .args .i) (c7 .args .x) (c7 .args .depth) (c6 .if1 .left) (c5 .if2 .left), ← c4 .is-home .ensures, not-false (c4 .is-home .result) (c3 .if3 .left), ← c2 .get .ensures, ← c1 .tree-home .ensures, not-true (c1 .tree-home .result) (c .if4 .taken))
+
+tree-home-get-requires-2 : (t : ℕ) → tree-home-lts.Need-get-requires-2 (
+  is-home-reads.Asked,
+  is-home-reads.Learnt,
+  get-reads.Asked,
+  get-reads.Learnt,
+  tree-home-below t,
+  tree-home.Post,
+) (tree-home-at t) tree-home.Post
+tree-home-get-requires-2 t c κs = search needs
+
+tree-home-sub-tree-home-2 : (t : ℕ) → tree-home-lts.Need-sub-tree-home-2 (
+  is-home-reads.Asked,
+  is-home-reads.Learnt,
+  get-reads.Asked,
+  get-reads.Learnt,
+  tree-home-below t,
+  tree-home.Post,
+) (tree-home-at t) tree-home.Post
+tree-home-sub-tree-home-2 t c = search needs
+
+tree-home-tree-home-requires-2 : (t : ℕ) → tree-home-lts.Need-tree-home-requires-2 (
+  is-home-reads.Asked,
+  is-home-reads.Learnt,
+  get-reads.Asked,
+  get-reads.Learnt,
+  tree-home-below t,
+  tree-home.Post,
+) (tree-home-at t) tree-home.Post
+tree-home-tree-home-requires-2 t c κs =
+    let c1 = c .before in
+    let c2 = c1 .before in
+    let c3 = c2 .before in
+    let c4 = c3 .before in
+    let c5 = c4 .before in
+    let c6 = c5 .before in
+    let c7 = c6 .before in
+    let c8 = c7 .before .before .before in
+    omega (arith, c8 .pre .0, c6 .if2 .left)
+
+tree-home-returns-5 : (t : ℕ) → tree-home-lts.Need-returns-5 (
+  is-home-reads.Asked,
+  is-home-reads.Learnt,
+  get-reads.Asked,
+  get-reads.Learnt,
+  tree-home-below t,
+  tree-home.Post,
+) (tree-home-at t) tree-home.Post
+tree-home-returns-5 t c =
+    let c1 = c .before in
+    let c2 = c1 .before in
+    let c3 = c2 .before in
+    let c4 = c3 .before in
+    let c5 = c4 .before in
+    let c6 = c5 .before in
+    let c7 = c6 .before in
+    let c8 = c7 .before in
+    let c9 = c8 .before .before .before in
+    rw (home-on (now (c9 .args .names)) (now (c9 .args .cells)) (c9 .args .length) (c9 .args .i) (c9 .args .x) (c9 .args .depth) (c8 .if1 .left) (c7 .if2 .left), ← c6 .is-home .ensures, not-false (c6 .is-home .result) (c5 .if3 .left), ← c4 .get .ensures, ← c3 .tree-home .ensures, not-false (c3 .tree-home .result) (c2 .if4 .left), ← c1 .get2 .ensures, ← c .tree-home2 .ensures)
+
+pub +tree-home-spec : {M : Type 1} → statement M
++tree-home-spec = close μ-tree-home λ t. tree-home-lts.spec (
+  is-home-reads.Asked,
+  is-home-reads.Learnt,
+  get-reads.Asked,
+  get-reads.Learnt,
+  tree-home-below t,
+  tree-home.Post,
+)
+    (tree-home-at t)
+    tree-home.Post
+    (tree-home-returns t)
+    (tree-home-returns-2 t)
+    (tree-home-is-home-requires t)
+    (tree-home-returns-3 t)
+    (tree-home-get-requires t)
+    (tree-home-sub-tree-home t)
+    (tree-home-tree-home-requires t)
+    (tree-home-returns-4 t)
+    (tree-home-get-requires-2 t)
+    (tree-home-sub-tree-home-2 t)
+    (tree-home-tree-home-requires-2 t)
+    (tree-home-returns-5 t)

@@ -1,0 +1,12 @@
+-- Of lookup's code beside its contract: its answers are told apart by their numbers, and lookup has one outcome.
+use mathlib.Core.Path.{_≡_}
+use Prim.Native.Nat.{ℕ}
+use Rattle.slots.specs.Answers.{OneAnswer}
+use Rattle.set_rules.specs.Words.{Set}
+use Rattle.set_rules.specs.Lookup.{lookups}
+use Rattle.sets.specs.Lookups.{lookedOf}
+use Rattle.sets.specs.declared.lookup.Looked.{Looked}
+
+pub record Looking : Type 0 where
+  pub looked-one-to-one : (a b : Looked) → lookedOf a ≡ lookedOf b → a ≡ b
+  pub lookup-one : (s : Set) (t hash key : ℕ) → OneAnswer (λ r. lookedOf r ≡ lookups s t hash key)

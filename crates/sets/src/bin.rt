@@ -1,0 +1,102 @@
+// What a bin's word says, which bin a hash names, and the words of a tree header.
+use crate::fit::bins_before;
+use slots::NULL;
+ghost use mathlib.Core.Path.{_≡_};
+ghost use Prim.Native.Nat.{_+_, _*_};
+ghost use lib.ListN.{getD};
+ghost use Rattle.slots.specs.Words.{null};
+ghost use Rattle.set_rules.specs.Words.{begins, binOf};
+ghost use Rattle.set_rules.specs.Words.{bini as home};
+ghost use Rattle.sets.specs.Bins.{binAs, homeOf, binis};
+
+// The words of a header, by their place.
+pub const ROOT: u32 = 0;
+
+pub const FIRST: u32 = 1;
+
+pub const COUNT: u32 = 2;
+
+// The word f of the header h; null where there is no such word.
+pub fn header(heads: &[u32], h: u32, f: u32) -> u32
+    ensures { λ r. ⌜ r ≡ getD (now (heads .entry)) (3 * h + f) null ⌝ }
+{
+    let k = 3 * (h as usize) + (f as usize);
+    if k < heads.len() { heads[k] } else { NULL }
+}
+
+// The word of bin i of table k; 0 where there is no such word.
+pub fn bin_word(lengths: &[u32], bins: &[u32], k: u32, i: u32) -> u32
+    ensures { λ r. ⌜ r ≡ getD (now (bins .entry)) (begins (now (lengths .entry)) k + i) 0 ⌝ }
+{
+    let from = bins_before(lengths, k);
+    if bins.len() <= from {
+        return 0;
+    }
+    let at = i as usize;
+    if bins.len() - from <= at {
+        return 0;
+    }
+    bins[from + at]
+}
+
+// What a bin word says, by its range.
+pub enum Bin {
+    Empty,
+    Moved,
+    List(u32),
+    Tree(u32),
+    Bad,
+}
+
+// The bin that the word w is in a set of n slots and h headers.
+pub fn bin_of(n: usize, h: usize, w: u32) -> Bin
+    ensures { λ r. ⌜ binAs r ≡ binOf n h w ⌝ }
+{
+    match w {
+        0 => Bin::Empty,
+        1 => Bin::Moved,
+        2..=4097 => {
+            if ((w - 2) as usize) < n {
+                Bin::List(w - 2)
+            } else {
+                Bin::Bad
+            }
+        }
+        4098..=8193 => {
+            if ((w - 4098) as usize) < h {
+                Bin::Tree(w - 4098)
+            } else {
+                Bin::Bad
+            }
+        }
+        _ => Bin::Bad,
+    }
+}
+
+// The index of the bin for a hash.
+pub enum Home {
+    Bin(u32),
+    Unfit, // 1
+}
+
+// The bin for a hash in a table of so many bins. Unfit where there are none.
+pub fn bini(length: u32, hash: u64) -> Home
+    ensures { λ r. ⌜ homeOf r ≡ binis length hash ⌝ }
+{
+    if length == 0 {
+        return Home::Unfit;
+    }
+    let mask = length as u64 - 1;
+    Home::Bin((hash & mask) as u32)
+}
+
+// The index of the bin for a hash in a table of so many bins: a fit set has no table of none, and there the index is 0.
+pub fn index(length: u32, hash: u64) -> u32
+    ensures { λ r. ⌜ r ≡ home length hash ⌝ }
+{
+    let home = bini(length, hash);
+    let Home::Bin(i) = home else {
+        return 0;
+    };
+    i
+}

@@ -1,0 +1,119 @@
+// Whether lent slices are a frozen set's, and where the bins of a table begin.
+use slots::MOST_SLOTS;
+ghost use mathlib.Core.Path.{_≡_};
+ghost use lib.ListN.{length, getD};
+ghost use Rattle.set_rules.specs.Words.{begins, doubling, fits, lentSet};
+ghost use Rattle.set_rules.specs.Words.{doubled as allDoubled, fitTables};
+ghost use Rattle.sets.specs.Bins.{fitSlots};
+ghost use Rattle.index_rules.specs.Index.{lent};
+
+// The number of bins of table k; 0 where there is no such table.
+pub fn length_at(lengths: &[u32], k: u32) -> u32
+    ensures { λ r. ⌜ r ≡ getD (now (lengths .entry)) k 0 ⌝ }
+{
+    let i = k as usize;
+    if i < lengths.len() { lengths[i] } else { 0 }
+}
+
+// Whether a number of bins is one of the thirteen powers of two up to 4,096.
+fn is_power(x: u32) -> bool
+    ensures { λ r. ⌜ r ≡ doubling 13 x 1 ⌝ }
+{
+    match x {
+        1 | 2 | 4 | 8 | 16 | 32 | 64 | 128 | 256 | 512 | 1024 | 2048 | 4096 => true,
+        _ => false,
+    }
+}
+
+// Whether each of the tables 1 to last is twice as long as the one before.
+fn doubled(lengths: &[u32], last: u32) -> bool
+    ensures { λ r. ⌜ r ≡ allDoubled last (now (lengths .entry)) ⌝ }
+{
+    let mut k = last;
+    while 0 < k {
+        let long = length_at(lengths, k) as u64;
+        k -= 1;
+        let short = length_at(lengths, k) as u64;
+        if long != 2 * short {
+            return false;
+        }
+    }
+    true
+}
+
+// Whether the tables' lengths obey their rule.
+fn fit_tables(lengths: &[u32]) -> bool
+    ensures { λ r. ⌜ r ≡ fitTables (now (lengths .entry)) ⌝ }
+{
+    let t = lengths.len();
+    if t < 1 {
+        return false;
+    }
+    if 8 < t {
+        return false;
+    }
+    let last = t as u32 - 1;
+    let power = is_power(length_at(lengths, 0));
+    if !power {
+        return false;
+    }
+    let double = doubled(lengths, last);
+    if !double {
+        return false;
+    }
+    length_at(lengths, last) <= 4096
+}
+
+// How many bins the first k tables have: where the bins of table k begin. Past the last table there are none to add.
+pub fn bins_before(lengths: &[u32], k: u32) -> usize
+    ensures { λ r. ⌜ r ≡ begins (now (lengths .entry)) k ⌝ }
+{
+    let mut sum: usize = 0;
+    let mut j: u32 = 0;
+    while j < k {
+        if lengths.len() <= j as usize {
+            return sum;
+        }
+        let length = length_at(lengths, j);
+        sum += length as usize;
+        j += 1;
+    }
+    sum
+}
+
+// Whether the slices of slots and headers have the lengths of n slots and h headers.
+fn fit_slots(heads: usize, names: usize, cells: usize) -> bool
+    ensures { λ r. ⌜ r ≡ fitSlots heads names cells ⌝ }
+{
+    let n = names / 2;
+    if MOST_SLOTS < n {
+        return false;
+    }
+    if names != 2 * n {
+        return false;
+    }
+    if cells != 7 * n {
+        return false;
+    }
+    let h = heads / 3;
+    if MOST_SLOTS < h {
+        return false;
+    }
+    heads == 3 * h
+}
+
+// Whether the slices are a frozen set's.
+pub fn fit_set(lengths: &[u32], bins: &[u32], heads: &[u32], names: &[u64], cells: &[u32]) -> bool
+    ensures { λ r. ⌜ r
+        ≡ fits (lentSet (now (lengths .entry)) (now (bins .entry)) (now (heads .entry)) (now (names .entry)) (now (cells .entry))) ⌝ }
+{
+    let tables = fit_tables(lengths);
+    if !tables {
+        return false;
+    }
+    let all = bins_before(lengths, lengths.len() as u32);
+    if bins.len() != all {
+        return false;
+    }
+    fit_slots(heads.len(), names.len(), cells.len())
+}

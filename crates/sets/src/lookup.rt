@@ -1,0 +1,152 @@
+// lookup: the slot that has a pair, from a table down the forwarded ones.
+use crate::bin::Bin;
+use crate::bin::ROOT;
+use crate::bin::bin_of;
+use crate::bin::bin_word;
+use crate::bin::header;
+use crate::bin::index;
+use crate::fit::fit_set;
+use crate::fit::length_at;
+use slots::HASH;
+use slots::KEY;
+use slots::NEXT;
+use slots::NULL;
+use slots::get;
+use slots::name;
+use tree::find::Found;
+use tree::find::find_tree_node;
+ghost use mathlib.Core.Path.{_≡_};
+ghost use Prim.Native.Nat.{_+_, _-_, _<_, _≤_};
+ghost use lib.ListN.{length, getD};
+ghost use Rattle.tree_rules.specs.Find.{slotsOf};
+ghost use Rattle.set_rules.specs.Words.{begins, binOf, lentSet};
+ghost use Rattle.set_rules.specs.Words.{bini as home};
+ghost use Rattle.sets.specs.Bins.{binAs};
+ghost use Rattle.tree.specs.Find.{answerOf};
+ghost use Rattle.set_rules.specs.Lookup.{hasPair, listed, forwarded, lookups};
+ghost use Rattle.sets.specs.Lookups.{lookedOf};
+
+// Slot p has the pair (hash, key).
+fn has_pair(names: &[u64], p: u32, hash: u64, key: u64) -> bool
+    ensures { λ r. ⌜ r ≡ hasPair (now (names .entry)) p hash key ⌝ }
+{
+    let at = name(names, p, HASH);
+    if at != hash {
+        return false;
+    }
+    name(names, p, KEY) == key
+}
+
+// The slot of the list from first that has the pair. Lost where a link followed is neither null nor a slot, and where one slot
+// more than there are would be visited.
+fn find_in_list(names: &[u64], cells: &[u32], first: u32, hash: u64, key: u64) -> Found
+    ensures { λ r. ⌜ answerOf r ≡ listed (now (names .entry)) (now (cells .entry)) (slotsOf (now (names .entry))) first hash key ⌝ }
+{
+    let slots = names.len() / 2;
+    let mut p = first;
+    let mut visits = slots;
+    while p != NULL {
+        if slots <= p as usize {
+            return Found::Lost;
+        }
+        if visits == 0 {
+            return Found::Lost;
+        }
+        let has = has_pair(names, p, hash, key);
+        if has {
+            return Found::At(p);
+        }
+        visits -= 1;
+        p = get(cells, p, NEXT);
+    }
+    Found::Nothing
+}
+
+// The bin of table k for a hash, in a set of n slots and h headers.
+fn home_bin(lengths: &[u32], bins: &[u32], n: usize, h: usize, k: u32, hash: u64) -> Bin
+    ensures { λ r. ⌜ binAs r
+        ≡ binOf n h (getD (now (bins .entry)) (begins (now (lengths .entry)) k + home (getD (now (lengths .entry)) k 0) hash) 0) ⌝ }
+{
+    let i = index(length_at(lengths, k), hash);
+    let word = bin_word(lengths, bins, k, i);
+    bin_of(n, h, word)
+}
+
+// The loop over forwarded tables: it leaves with the answer at the first bin that is not Moved.
+fn search(
+    lengths: &[u32],
+    bins: &[u32],
+    heads: &[u32],
+    names: &[u64],
+    cells: &[u32],
+    table: u32,
+    hash: u64,
+    key: u64,
+) -> Found
+    requires { ⌜ (length (now lengths) ≤ 8) × (table < length (now lengths)) ⌝ }
+    ensures { λ r. ⌜ answerOf r
+        ≡ forwarded (length (now (lengths .entry)) - table)
+        (lentSet (now (lengths .entry)) (now (bins .entry)) (now (heads .entry)) (now (names .entry))
+        (now (cells .entry))) table hash key ⌝ }
+{
+    let n = names.len() / 2;
+    let h = heads.len() / 3;
+    let mut k = table;
+    loop {
+        let bin = home_bin(lengths, bins, n, h, k, hash);
+        match bin {
+            Bin::Empty => break Found::Nothing,
+            Bin::Moved => {
+                if lengths.len() <= k as usize + 1 {
+                    break Found::Lost;
+                }
+                k += 1;
+            }
+            Bin::List(first) => break find_in_list(names, cells, first, hash, key),
+            Bin::Tree(at) => {
+                let root = header(heads, at, ROOT);
+                break find_tree_node(names, cells, root, hash, key);
+            }
+            Bin::Bad => break Found::Lost,
+        }
+    }
+}
+
+// What lookup answers, with the number of each refusal.
+pub enum Looked {
+    At(u32),
+    Nothing,
+    Unfit, // 1
+    Unknown, // 10
+    Lost, // 9
+}
+
+// The slot that has the pair (hash, key), from table on.
+pub fn lookup(
+    lengths: &[u32],
+    bins: &[u32],
+    heads: &[u32],
+    names: &[u64],
+    cells: &[u32],
+    table: u32,
+    hash: u64,
+    key: u64,
+) -> Looked
+    ensures { λ r. ⌜ lookedOf r
+        ≡ lookups (lentSet (now (lengths .entry)) (now (bins .entry)) (now (heads .entry)) (now (names .entry))
+        (now (cells .entry))) table hash key ⌝ }
+{
+    let fits = fit_set(lengths, bins, heads, names, cells);
+    if !fits {
+        return Looked::Unfit;
+    }
+    if lengths.len() <= table as usize {
+        return Looked::Unknown;
+    }
+    let found = search(lengths, bins, heads, names, cells, table, hash, key);
+    match found {
+        Found::At(slot) => Looked::At(slot),
+        Found::Nothing => Looked::Nothing,
+        Found::Lost => Looked::Lost,
+    }
+}

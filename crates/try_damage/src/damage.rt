@@ -1,0 +1,213 @@
+// Damages a sound tree in each single word, and compares the verdict on each damaged tree with that of a second, naive judge.
+// A damaged tree can be sound still: where the word is set to what it was, where it is the place of a used slot, which no rule
+// binds, and where it is a part of a name that stays between its neighbours' names.
+
+use crate::build::MIDDLE;
+use crate::build::chain;
+use crate::build::grow;
+use crate::build::slot_of;
+use crate::judge::judge;
+use index::check::Checked;
+use index::check::check;
+use index::sound::Soundness;
+use index::sound::sound;
+use libc::STDOUT_FILENO;
+use slots::NULL;
+use slots::get;
+use slots::name;
+use slots::put;
+use slots::put_name;
+
+// How many damages each word suffers.
+const KINDS: u32 = 6;
+
+// What came of the damaged trees: how many there were, sound and not, judged otherwise by the naive judge, and passed by the
+// source's own check.
+pub struct Tally {
+    pub tried: u32,
+    pub yes: u32,
+    pub no: u32,
+    pub differences: u32,
+    pub passes: u32,
+}
+
+// 1 if the tree is sound, 0 if not, 2 if it is refused.
+fn verdict(names: &[u64], cells: &[u32], head: &[u32]) -> u32 {
+    let answer = sound(names, cells, head);
+    match answer {
+        Soundness::Yes => 1,
+        Soundness::No => 0,
+        Soundness::Unfit => 2,
+    }
+}
+
+// 1 if the naive judge says that the tree is sound, 0 if not.
+fn second_verdict(names: &[u64], cells: &[u32], head: &[u32]) -> u32 {
+    if judge(names, cells, head) {
+        return 1;
+    }
+    0
+}
+
+// 1 if the source's check passes the tree, 0 if not.
+fn passed(names: &[u64], cells: &[u32], head: &[u32]) -> u32 {
+    let answer = check(names, cells, head);
+    match answer {
+        Checked::Passes => 1,
+        Checked::Fails(_, _) => 0,
+        Checked::Unfit => 0,
+        Checked::Lost => 0,
+    }
+}
+
+fn same(a: u32, b: u32) -> u32 {
+    if a == b {
+        return 1;
+    }
+    0
+}
+
+fn differ(a: u32, b: u32) -> u32 {
+    if a == b {
+        return 0;
+    }
+    1
+}
+
+// The tally with the verdicts on one more tree.
+fn counted(t: Tally, own: u32, naive: u32, passes: u32) -> Tally {
+    Tally {
+        tried: std::num::wrapping_add_u32(t.tried, 1),
+        yes: std::num::wrapping_add_u32(t.yes, same(own, 1)),
+        no: std::num::wrapping_add_u32(t.no, same(own, 0)),
+        differences: std::num::wrapping_add_u32(t.differences, differ(own, naive)),
+        passes: std::num::wrapping_add_u32(t.passes, passes),
+    }
+}
+
+// The tally with one more tree, asked of all three judges.
+pub fn compare(t: Tally, names: &[u64], cells: &[u32], head: &[u32]) -> Tally {
+    let own = verdict(names, cells, head);
+    let naive = second_verdict(names, cells, head);
+    let passes = passed(names, cells, head);
+    counted(t, own, naive, passes)
+}
+
+// What a word is damaged to: 0, null, the last slot, one past it, the largest link that is not null, or one more than it was.
+// One more than null is 0.
+fn damaged(old: u32, kind: u32) -> u32 {
+    match kind {
+        0 => 0,
+        1 => NULL,
+        2 => 63,
+        3 => 64,
+        4 => 4294967294,
+        _ => std::num::wrapping_add_u32(old, 1),
+    }
+}
+
+// The same of a part of a name; one more than the largest is 0.
+fn damaged_name(old: u64, kind: u32) -> u64 {
+    match kind {
+        5 => std::num::wrapping_add_u64(old, 1),
+        _ => damaged(0, kind) as u64,
+    }
+}
+
+// Damages word k of the names, compares, and restores it.
+fn try_name(t: Tally, names: &mut [u64], cells: &[u32], head: &[u32], k: u32, kind: u32) -> Tally {
+    let old = name(names, 0, k);
+    put_name(names, 0, k, damaged_name(old, kind));
+    let after = compare(t, names, cells, head);
+    put_name(names, 0, k, old);
+    after
+}
+
+// Damages word k of the cells, compares, and restores it.
+fn try_cell(t: Tally, names: &[u64], cells: &mut [u32], head: &[u32], k: u32, kind: u32) -> Tally {
+    let old = get(cells, 0, k);
+    put(cells, 0, k, damaged(old, kind));
+    let after = compare(t, names, cells, head);
+    put(cells, 0, k, old);
+    after
+}
+
+// Damages word k of the header, compares, and restores it.
+fn try_head(t: Tally, names: &[u64], cells: &[u32], head: &mut [u32], k: u32, kind: u32) -> Tally {
+    let old = get(head, 0, k);
+    put(head, 0, k, damaged(old, kind));
+    let after = compare(t, names, cells, head);
+    put(head, 0, k, old);
+    after
+}
+
+// Damages word k of all, of which the first 128 are names and the last 3 the header.
+fn try_word(
+    t: Tally,
+    names: &mut [u64],
+    cells: &mut [u32],
+    head: &mut [u32],
+    k: u32,
+    kind: u32,
+) -> Tally {
+    if k < 128 {
+        return try_name(t, names, cells, head, k, kind);
+    }
+    if k < 576 {
+        return try_cell(t, names, cells, head, k - 128, kind);
+    }
+    try_head(t, names, cells, head, k - 576, kind)
+}
+
+// Damages each word in each way.
+fn try_words(t: Tally, names: &mut [u64], cells: &mut [u32], head: &mut [u32]) -> Tally {
+    let mut after = t;
+    let mut trial: u32 = 0;
+    while trial < 579 * KINDS {
+        after = try_word(after, names, cells, head, trial / KINDS, trial % KINDS);
+        trial += 1;
+    }
+    after
+}
+
+fn print(label: &[u8], value: u32) {
+    io::write_all(STDOUT_FILENO, label);
+    io::write_all(STDOUT_FILENO, b" ");
+    io::print_decimal(STDOUT_FILENO, value as u64);
+    io::write_all(STDOUT_FILENO, b"\n");
+}
+
+fn report(t: Tally) {
+    print(b"tried", t.tried);
+    print(b"yes", t.yes);
+    print(b"no", t.no);
+    print(b"differences", t.differences);
+    print(b"check passes", t.passes);
+}
+
+// The tally of the damaged trees; that of the tree itself if it is not found sound.
+fn damage(names: &mut [u64], cells: &mut [u32], head: &mut [u32]) -> Tally {
+    let none = Tally {
+        tried: 0,
+        yes: 0,
+        no: 0,
+        differences: 0,
+        passes: 0,
+    };
+    let whole = compare(none, names, cells, head);
+    if whole.yes == 1 {
+        if whole.differences == 0 {
+            return try_words(none, names, cells, head);
+        }
+    }
+    whole
+}
+
+pub fn run() {
+    let mut names = [0u64; 128];
+    let mut cells = [NULL; 448];
+    grow(&mut names, &mut cells);
+    let ends = chain(&mut cells);
+    let mut head = [slot_of(MIDDLE), ends.first, 47];
+    report(damage(&mut names, &mut cells, &mut head));
+}

@@ -1,0 +1,343 @@
+// Runs insert, remove and rollback at their limits: capacity 1 and 4,096, a journal of 0 and of 1,024 lines.
+use crate::contents::say_entries;
+use index::find::Found;
+use index::find::find;
+use index::insert::Inserted;
+use index::insert::insert;
+use index::remove::Removed;
+use index::remove::remove;
+use index::rollback::RolledBack;
+use index::rollback::rollback;
+use index::sound::Soundness;
+use index::sound::sound;
+use libc::STDOUT_FILENO;
+use slots::FREE;
+use slots::NULL;
+use slots::PLACE;
+use slots::STATE;
+use slots::get;
+use slots::name;
+use slots::put;
+use slots::put_name;
+
+// Writes words to standard output, which is all that this program writes to.
+fn say(words: &[u8]) {
+    io::write_all(STDOUT_FILENO, words);
+}
+
+// One line to an answer, so that a line that differs names its call.
+fn print(label: &[u8], word: &[u8], value: u32) {
+    say(label);
+    say(word);
+    io::print_decimal(STDOUT_FILENO, value as u64);
+    say(b"\n");
+}
+
+// A refusal is printed by its number, so that it can be held against the rules.
+fn print_inserted(label: &[u8], inserted: Inserted) {
+    match inserted {
+        Inserted::At(slot) => {
+            print(label, b": slot ", slot);
+        }
+        Inserted::Unfit => {
+            print(label, b": no ", 1);
+        }
+        Inserted::Damaged => {
+            print(label, b": no ", 2);
+        }
+        Inserted::Present(slot) => {
+            print(label, b": no 3 at ", slot);
+        }
+        Inserted::Full => {
+            print(label, b": no ", 5);
+        }
+        Inserted::JournalFull => {
+            print(label, b": no ", 6);
+        }
+    }
+}
+
+// The same of a remove.
+fn print_removed(label: &[u8], removed: Removed) {
+    match removed {
+        Removed::At(slot) => {
+            print(label, b": gone ", slot);
+        }
+        Removed::Unfit => {
+            print(label, b": no ", 1);
+        }
+        Removed::Damaged => {
+            print(label, b": no ", 2);
+        }
+        Removed::Absent => {
+            print(label, b": no ", 4);
+        }
+        Removed::JournalFull => {
+            print(label, b": no ", 6);
+        }
+    }
+}
+
+// The same of a rollback.
+fn print_rolled(label: &[u8], rolled: RolledBack) {
+    match rolled {
+        RolledBack::Lines(lines) => {
+            print(label, b": back ", lines);
+        }
+        RolledBack::Unfit => {
+            print(label, b": no ", 1);
+        }
+        RolledBack::Damaged => {
+            print(label, b": no ", 2);
+        }
+        RolledBack::BadMark => {
+            print(label, b": no ", 7);
+        }
+        RolledBack::Misfit => {
+            print(label, b": no ", 8);
+        }
+    }
+}
+
+// Whether the tree is sound, and its count, since the answers alone do not say what is left.
+fn print_tree(label: &[u8], names: &[u64], cells: &[u32], head: &[u32]) {
+    match sound(names, cells, head) {
+        Soundness::Yes => {
+            print(label, b": sound, count ", get(head, 0, 2));
+        }
+        Soundness::No => {
+            print(label, b": not sound, count ", get(head, 0, 2));
+        }
+        Soundness::Unfit => {
+            print(label, b": no ", 1);
+        }
+    }
+}
+
+// A slot whose links are null, made free.
+fn clear(cells: &mut [u32], i: u32) {
+    put(cells, i, PLACE, 0);
+    put(cells, i, STATE, FREE);
+}
+
+// All slots free, from words that are null.
+fn clear_all(cells: &mut [u32], n: u32) {
+    let mut i: u32 = 0;
+    while i < n {
+        clear(cells, i);
+        i += 1;
+    }
+}
+
+// The least capacity: one pair fills the tree, and a rollback has to free the slot before it can take the old pair back.
+fn one_slot() {
+    let mut names = [0u64; 2];
+    let mut cells = [NULL; 7];
+    let mut head = [NULL, NULL, 0];
+    let mut lines = [0u64; 17];
+    clear(&mut cells, 0);
+    print_inserted(
+        b"capacity 1, insert 1",
+        insert(&mut names, &mut cells, &mut head, &mut lines, 0, 1, 10),
+    );
+    print_inserted(
+        b"insert 1 again",
+        insert(&mut names, &mut cells, &mut head, &mut lines, 0, 1, 11),
+    );
+    print_inserted(
+        b"insert 2",
+        insert(&mut names, &mut cells, &mut head, &mut lines, 0, 2, 20),
+    );
+    print_removed(
+        b"remove 2",
+        remove(&mut names, &mut cells, &mut head, &mut lines, 0, 2),
+    );
+    print_removed(
+        b"remove 1",
+        remove(&mut names, &mut cells, &mut head, &mut lines, 0, 1),
+    );
+    print_inserted(
+        b"insert 2",
+        insert(&mut names, &mut cells, &mut head, &mut lines, 0, 2, 20),
+    );
+    print_rolled(
+        b"rollback to 1",
+        rollback(&mut names, &mut cells, &mut head, &mut lines, 1),
+    );
+    say(b"the tree");
+    say_entries(&names, &cells, &head, 1);
+    say(b"\n");
+    print_removed(
+        b"remove 2",
+        remove(&mut names, &mut cells, &mut head, &mut lines, 0, 2),
+    );
+    print_tree(b"the tree", &names, &cells, &head);
+}
+
+// The least journal: it is full from the start, and only a rollback to 0 is accepted.
+fn no_line() {
+    let mut names = [0u64; 2];
+    let mut cells = [NULL; 7];
+    let mut head = [NULL, NULL, 0];
+    let mut lines = [0u64; 1];
+    clear(&mut cells, 0);
+    print_inserted(
+        b"journal 0, insert 1",
+        insert(&mut names, &mut cells, &mut head, &mut lines, 0, 1, 10),
+    );
+    print_removed(
+        b"remove 1",
+        remove(&mut names, &mut cells, &mut head, &mut lines, 0, 1),
+    );
+    print_rolled(
+        b"rollback to 0",
+        rollback(&mut names, &mut cells, &mut head, &mut lines, 0),
+    );
+    print_rolled(
+        b"rollback to 1",
+        rollback(&mut names, &mut cells, &mut head, &mut lines, 1),
+    );
+}
+
+// The pair with number k: four keys to a hash.
+fn hash_of(k: u32) -> u64 {
+    (k / 4) as u64
+}
+
+// A journal of 1,024 lines is emptied where it is full.
+fn reset(lines: &mut [u64]) {
+    if name(lines, 0, 0) == 1024 {
+        put_name(lines, 0, 0, 0);
+    }
+}
+
+// 1 if the insert of pair k was accepted, 0 if not.
+fn take(names: &mut [u64], cells: &mut [u32], head: &mut [u32], lines: &mut [u64], k: u32) -> u32 {
+    reset(lines);
+    match insert(names, cells, head, lines, hash_of(k), k as u64, k) {
+        Inserted::At(_) => 1,
+        _ => 0,
+    }
+}
+
+// 1 if the removal of pair k was accepted, 0 if not.
+fn drop_pair(
+    names: &mut [u64],
+    cells: &mut [u32],
+    head: &mut [u32],
+    lines: &mut [u64],
+    k: u32,
+) -> u32 {
+    reset(lines);
+    match remove(names, cells, head, lines, hash_of(k), k as u64) {
+        Removed::At(_) => 1,
+        _ => 0,
+    }
+}
+
+// Inserts the pairs, in steps of 1,103: how many were accepted.
+fn fill(names: &mut [u64], cells: &mut [u32], head: &mut [u32], lines: &mut [u64], n: u32) -> u32 {
+    let mut count: u32 = 0;
+    let mut i: u32 = 0;
+    while i < n {
+        let one = take(names, cells, head, lines, i % 4096 * 1103 % 4096);
+        count = std::num::wrapping_add_u32(count, one);
+        i += 1;
+    }
+    count
+}
+
+// Removes the pairs, in steps of 2,731: how many were accepted.
+fn drain(names: &mut [u64], cells: &mut [u32], head: &mut [u32], lines: &mut [u64], n: u32) -> u32 {
+    let mut count: u32 = 0;
+    let mut i: u32 = 0;
+    while i < n {
+        let one = drop_pair(names, cells, head, lines, i % 4096 * 2731 % 4096);
+        count = std::num::wrapping_add_u32(count, one);
+        i += 1;
+    }
+    count
+}
+
+// 1 if pair k, which was the one removed after i others, is there with its place exactly if its line was undone, 0 if not.
+fn is_right(names: &[u64], cells: &[u32], head: &[u32], i: u32, k: u32) -> u32 {
+    match find(names, cells, head, hash_of(k), k as u64) {
+        Found::At(slot) => {
+            if 3072 <= i {
+                if get(cells, slot, PLACE) == k {
+                    return 1;
+                }
+            }
+            0
+        }
+        _ => {
+            if i < 3072 {
+                return 1;
+            }
+            0
+        }
+    }
+}
+
+// How many of the 4,096 pairs stand as they have to once the last 1,024 removes are undone.
+fn right_pairs(names: &[u64], cells: &[u32], head: &[u32]) -> u32 {
+    let mut count: u32 = 0;
+    let mut i: u32 = 0;
+    while i < 4096 {
+        let one = is_right(names, cells, head, i, i % 4096 * 2731 % 4096);
+        count = std::num::wrapping_add_u32(count, one);
+        i += 1;
+    }
+    count
+}
+
+// The largest capacity and the largest journal, each filled up and emptied.
+fn all_slots() {
+    let mut names = [0u64; 8192];
+    let mut cells = [NULL; 28672];
+    let mut head = [NULL, NULL, 0];
+    let mut lines = [0u64; 4097];
+    clear_all(&mut cells, 4096);
+    let first = fill(&mut names, &mut cells, &mut head, &mut lines, 1024);
+    print(b"capacity 4096, journal 1024", b": accepted ", first);
+    print_inserted(
+        b"insert 5000",
+        insert(&mut names, &mut cells, &mut head, &mut lines, 0, 5000, 1),
+    );
+    print_removed(
+        b"remove 0",
+        remove(&mut names, &mut cells, &mut head, &mut lines, 0, 0),
+    );
+    print_rolled(
+        b"rollback to 0",
+        rollback(&mut names, &mut cells, &mut head, &mut lines, 0),
+    );
+    print_tree(b"the tree", &names, &cells, &head);
+    let filled = fill(&mut names, &mut cells, &mut head, &mut lines, 4096);
+    print(b"filled", b": accepted ", filled);
+    print_tree(b"the tree", &names, &cells, &head);
+    print_inserted(
+        b"insert 5000",
+        insert(&mut names, &mut cells, &mut head, &mut lines, 0, 5000, 1),
+    );
+    let drained = drain(&mut names, &mut cells, &mut head, &mut lines, 4096);
+    print(b"emptied in another order", b": accepted ", drained);
+    print_tree(b"the tree", &names, &cells, &head);
+    print_rolled(
+        b"rollback to 0",
+        rollback(&mut names, &mut cells, &mut head, &mut lines, 0),
+    );
+    print_tree(b"the tree", &names, &cells, &head);
+    print(
+        b"pairs as at the mark",
+        b": ",
+        right_pairs(&names, &cells, &head),
+    );
+}
+
+// From the least limits to the largest.
+pub fn run() {
+    one_slot();
+    no_line();
+    all_slots();
+}

@@ -1,0 +1,309 @@
+// Asks insert, remove, rollback, sound and check of an empty tree whose words are unfit, or that is damaged. Prints what each of them
+// answers, and whether the lent words are as they were before the first call.
+use index::check::Checked;
+use index::check::check;
+use index::insert::Inserted;
+use index::insert::insert;
+use index::remove::Removed;
+use index::remove::remove;
+use index::rollback::RolledBack;
+use index::rollback::rollback;
+use index::sound::Soundness;
+use index::sound::sound;
+use libc::STDOUT_FILENO;
+use slots::FREE;
+use slots::NULL;
+use slots::PLACE;
+use slots::STATE;
+use slots::get;
+use slots::name;
+use slots::put;
+use slots::put_name;
+
+// No slice of names or lines here has more words.
+const MOST_NAMES: u32 = 8195;
+
+// No slice of cells here has more words.
+const MOST_CELLS: u32 = 28680;
+
+// Writes words to standard output, which is all that this program writes to.
+fn say(words: &[u8]) {
+    io::write_all(STDOUT_FILENO, words);
+}
+
+// A word and its number.
+fn number(word: &[u8], value: u32) {
+    say(word);
+    io::print_decimal(STDOUT_FILENO, value as u64);
+}
+
+// A refusal is printed by its number, so that it can be held against the rules.
+fn say_inserted(inserted: Inserted) {
+    match inserted {
+        Inserted::At(slot) => {
+            number(b": insert slot ", slot);
+        }
+        Inserted::Unfit => {
+            number(b": insert no ", 1);
+        }
+        Inserted::Damaged => {
+            number(b": insert no ", 2);
+        }
+        Inserted::Present(_) => {
+            number(b": insert no ", 3);
+        }
+        Inserted::Full => {
+            number(b": insert no ", 5);
+        }
+        Inserted::JournalFull => {
+            number(b": insert no ", 6);
+        }
+    }
+}
+
+// The same of a remove.
+fn say_removed(removed: Removed) {
+    match removed {
+        Removed::At(slot) => {
+            number(b", remove gone ", slot);
+        }
+        Removed::Unfit => {
+            number(b", remove no ", 1);
+        }
+        Removed::Damaged => {
+            number(b", remove no ", 2);
+        }
+        Removed::Absent => {
+            number(b", remove no ", 4);
+        }
+        Removed::JournalFull => {
+            number(b", remove no ", 6);
+        }
+    }
+}
+
+// The same of a rollback.
+fn say_rolled(rolled: RolledBack) {
+    match rolled {
+        RolledBack::Lines(lines) => {
+            number(b", rollback back ", lines);
+        }
+        RolledBack::Unfit => {
+            number(b", rollback no ", 1);
+        }
+        RolledBack::Damaged => {
+            number(b", rollback no ", 2);
+        }
+        RolledBack::BadMark => {
+            number(b", rollback no ", 7);
+        }
+        RolledBack::Misfit => {
+            number(b", rollback no ", 8);
+        }
+    }
+}
+
+// The same of the full check.
+fn say_sound(verdict: Soundness) {
+    match verdict {
+        Soundness::Yes => {
+            say(b", sound yes");
+        }
+        Soundness::No => {
+            say(b", sound no");
+        }
+        Soundness::Unfit => {
+            number(b", sound no ", 1);
+        }
+    }
+}
+
+// The same of the source's check.
+fn say_checked(checked: Checked) {
+    match checked {
+        Checked::Passes => {
+            say(b", check passes");
+        }
+        Checked::Fails(test, _) => {
+            number(b", check fails ", test);
+        }
+        Checked::Unfit => {
+            number(b", check no ", 1);
+        }
+        Checked::Lost => {
+            number(b", check no ", 9);
+        }
+    }
+}
+
+// Whether the names or the lines are the same.
+fn same_names(a: &[u64], b: &[u64]) -> bool {
+    let mut k: u32 = 0;
+    while k < MOST_NAMES {
+        if name(a, 0, k) != name(b, 0, k) {
+            return false;
+        }
+        k += 1;
+    }
+    true
+}
+
+// Whether the cells or the headers are the same.
+fn same_cells(a: &[u32], b: &[u32]) -> bool {
+    let mut k: u32 = 0;
+    while k < MOST_CELLS {
+        if get(a, 0, k) != get(b, 0, k) {
+            return false;
+        }
+        k += 1;
+    }
+    true
+}
+
+// All slots free, from words that are null.
+fn clear_all(cells: &mut [u32], n: u32) {
+    let mut i: u32 = 0;
+    while i < n {
+        put(cells, i, PLACE, 0);
+        put(cells, i, STATE, FREE);
+        i += 1;
+    }
+}
+
+// The three calls that can write: pair (0, 1) goes in, (0, 2) is to go, and the mark is 1.
+fn ask_three(names: &mut [u64], cells: &mut [u32], head: &mut [u32], lines: &mut [u64]) {
+    say_inserted(insert(names, cells, head, lines, 0, 1, 10));
+    say_removed(remove(names, cells, head, lines, 0, 2));
+    say_rolled(rollback(names, cells, head, lines, 1));
+}
+
+// Those three, and the two checks.
+fn ask_five(names: &mut [u64], cells: &mut [u32], head: &mut [u32], lines: &mut [u64]) {
+    ask_three(names, cells, head, lines);
+    say_sound(sound(names, cells, head));
+    say_checked(check(names, cells, head));
+}
+
+// Ends a line.
+fn say_same(a: bool, b: bool, c: bool, d: bool) {
+    if a && b && c && d {
+        say(b", all as it was\n");
+    } else {
+        say(b", written\n");
+    }
+}
+
+// The five questions, of so many words of each slice.
+fn ask_part(
+    names: &mut [u64],
+    cells: &mut [u32],
+    head: &mut [u32],
+    lines: &mut [u64],
+    n: usize,
+    c: usize,
+    h: usize,
+    l: usize,
+) {
+    if names.len() < n {
+        return;
+    }
+    if cells.len() < c {
+        return;
+    }
+    if head.len() < h {
+        return;
+    }
+    if lines.len() < l {
+        return;
+    }
+    ask_five(
+        &mut names[..n],
+        &mut cells[..c],
+        &mut head[..h],
+        &mut lines[..l],
+    );
+}
+
+// An empty tree and an empty journal, with the journal's length, the root and the count as given, and n, c, h and l words of names,
+// cells, header and lines.
+fn ask(label: &[u8], n: usize, c: usize, h: usize, l: usize, length: u64, root: u32, count: u32) {
+    let mut names = [0u64; 8195];
+    let mut cells = [NULL; 28680];
+    let mut head = [root, NULL, count, 0];
+    let mut lines = [0u64; 4102];
+    clear_all(&mut cells, 4097);
+    put_name(&mut lines, 0, 0, length);
+    let names_before = names;
+    let cells_before = cells;
+    let head_before = head;
+    let lines_before = lines;
+    say(label);
+    ask_part(&mut names, &mut cells, &mut head, &mut lines, n, c, h, l);
+    say_same(
+        same_names(&names, &names_before),
+        same_cells(&cells, &cells_before),
+        same_cells(&head, &head_before),
+        same_names(&lines, &lines_before),
+    );
+}
+
+// Each slice one word off, beside words that fit.
+fn lengths() {
+    ask(b"four slots", 8, 28, 3, 17, 0, NULL, 0);
+    ask(b"names one short", 7, 28, 3, 17, 0, NULL, 0);
+    ask(b"names one long", 9, 28, 3, 17, 0, NULL, 0);
+    ask(b"cells one short", 8, 27, 3, 17, 0, NULL, 0);
+    ask(b"cells one long", 8, 29, 3, 17, 0, NULL, 0);
+    ask(b"header one short", 8, 28, 2, 17, 0, NULL, 0);
+    ask(b"header one long", 8, 28, 4, 17, 0, NULL, 0);
+    ask(b"lines one short", 8, 28, 3, 16, 0, NULL, 0);
+    ask(b"lines one long", 8, 28, 3, 18, 0, NULL, 0);
+}
+
+// The capacities of the tree and of the journal, and one past each.
+fn capacities() {
+    ask(b"capacity 0", 0, 0, 3, 17, 0, NULL, 0);
+    ask(b"capacity 4096", 8192, 28672, 3, 17, 0, NULL, 0);
+    ask(b"capacity 4097", 8194, 28679, 3, 17, 0, NULL, 0);
+    ask(b"no word of a journal", 8, 28, 3, 0, 0, NULL, 0);
+    ask(b"journal of 0 lines", 8, 28, 3, 1, 0, NULL, 0);
+    ask(b"journal of 1024 lines", 8, 28, 3, 4097, 0, NULL, 0);
+    ask(b"journal of 1025 lines", 8, 28, 3, 4101, 0, NULL, 0);
+    ask(b"length at the capacity", 8, 28, 3, 17, 4, NULL, 0);
+    ask(b"length past the capacity", 8, 28, 3, 17, 5, NULL, 0);
+    ask(
+        b"length with a high half",
+        8,
+        28,
+        3,
+        17,
+        4294967296,
+        NULL,
+        0,
+    );
+}
+
+// Trees that are not sound, and what comes before that and after it.
+fn damages() {
+    ask(b"count that lies", 8, 28, 3, 17, 0, NULL, 1);
+    ask(b"root without a count", 8, 28, 3, 17, 0, 0, 0);
+    ask(b"root that names no slot", 8, 28, 3, 17, 0, 4, 0);
+    ask(b"damaged, length at the capacity", 8, 28, 3, 17, 4, NULL, 1);
+    ask(
+        b"damaged, length past the capacity",
+        8,
+        28,
+        3,
+        17,
+        5,
+        NULL,
+        1,
+    );
+    ask(b"damaged, names one short", 7, 28, 3, 17, 0, NULL, 1);
+}
+
+pub fn run() {
+    lengths();
+    capacities();
+    damages();
+}

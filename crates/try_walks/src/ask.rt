@@ -1,0 +1,111 @@
+// A lookup, a step and a walk of a set, each answer on a line of its own.
+use crate::say;
+use sets::lookup::lookup;
+use sets::walk::Cursor;
+use sets::walk::Given;
+use sets::walk::Started;
+use slots::NULL;
+
+// The lookup of (hash, key) from a table on.
+pub fn look(
+    lengths: &[u32],
+    bins: &[u32],
+    heads: &[u32],
+    names: &[u64],
+    cells: &[u32],
+    table: u32,
+    hash: u32,
+    key: u32,
+) {
+    say::pair(b"lookup from ", table);
+    say::pair(b" of ", hash);
+    say::pair(b" ", key);
+    say::text(b": ");
+    say::looked(lookup(
+        lengths,
+        bins,
+        heads,
+        names,
+        cells,
+        table,
+        hash as u64,
+        key as u64,
+    ));
+    say::text(b"\n");
+}
+
+// At most n steps from a cursor, until one gives no entry.
+fn steps(
+    lengths: &[u32],
+    bins: &[u32],
+    heads: &[u32],
+    names: &[u64],
+    cells: &[u32],
+    from: Cursor,
+    n: u32,
+) {
+    let mut c = from;
+    let mut left = n;
+    while 0 < left {
+        left -= 1;
+        let step = c.next(lengths, bins, heads, names, cells);
+        let answer = step.answer;
+        let after = step.cursor;
+        c = after;
+        say::given(answer);
+        say::cursor(after);
+        let Given::Entry(_) = answer else {
+            return;
+        };
+    }
+}
+
+// One step from a cursor of these numbers.
+pub fn step(lengths: &[u32], bins: &[u32], heads: &[u32], names: &[u64], cells: &[u32], c: Cursor) {
+    steps(lengths, bins, heads, names, cells, c, 1);
+}
+
+// A walk from a table, of at most n steps.
+pub fn walk(
+    lengths: &[u32],
+    bins: &[u32],
+    heads: &[u32],
+    names: &[u64],
+    cells: &[u32],
+    table: u32,
+    n: u32,
+) {
+    let start = Cursor::start(lengths, bins, heads, names, cells, table);
+    let answer = start.answer;
+    let c = start.cursor;
+    say::pair(b"walk from ", table);
+    match answer {
+        Started::Made => {
+            say::cursor(c);
+            steps(lengths, bins, heads, names, cells, c, n);
+        }
+        Started::Unfit => {
+            say::text(b": no 1");
+            say::cursor(c);
+        }
+        Started::Unknown => {
+            say::text(b": no 10");
+            say::cursor(c);
+        }
+    }
+}
+
+// A cursor of these numbers.
+pub fn at(base: u32, depth: u32, indexes: [u32; 8], last: u32) -> Cursor {
+    Cursor {
+        base,
+        depth,
+        indexes,
+        last,
+    }
+}
+
+// A cursor before the first bin of table 0.
+pub fn fresh() -> Cursor {
+    at(0, 0, [0, 0, 0, 0, 0, 0, 0, 0], NULL)
+}

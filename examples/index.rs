@@ -1,0 +1,36 @@
+//! A name goes in, is found, and is taken back. From the root of the repository, on x86-64:
+//!   rt staticlib exports
+//!   rustc -O -L native=target/staticlib -l static=exports -o target/index-rs examples/index.rs && target/index-rs
+//! It prints
+//!   slot 0, mark 1, slot 1, found at 1, back 1, found nowhere
+
+extern "C" {
+    // As in include/oz.h: a slice is a pointer and a number of words.
+    fn oz_fresh(n: *mut u64, _: usize, c: *mut u32, _: usize, h: *mut u32, _: usize, l: *mut u64, _: usize) -> u64;
+    fn oz_insert(n: *mut u64, _: usize, c: *mut u32, _: usize, h: *mut u32, _: usize, l: *mut u64, _: usize,
+        hash: u64, key: u64, place: u32) -> u64;
+    fn oz_rollback(n: *mut u64, _: usize, c: *mut u32, _: usize, h: *mut u32, _: usize, l: *mut u64, _: usize,
+        mark: u32) -> u64;
+    fn oz_find(n: *const u64, _: usize, c: *const u32, _: usize, h: *const u32, _: usize, hash: u64, key: u64) -> u64;
+}
+
+/// Calls a routine on the slices named; the value of its answer. A refusal ends the program.
+macro_rules! call {
+    ($routine:ident [$($slice:ident),*] $($number:expr),*) => {{
+        let answer = unsafe { $routine($($slice.as_mut_ptr(), $slice.len(),)* $($number),*) };
+        assert!(answer >> 32 == 0, "refused with {}", answer >> 32);
+        answer as u32
+    }};
+}
+
+fn main() {
+    let (mut names, mut cells, mut head, mut lines) = ([0u64; 128], [0u32; 448], [0u32; 3], [0u64; 65]);
+    call!(oz_fresh [names, cells, head, lines]);
+    print!("slot {}, ", call!(oz_insert [names, cells, head, lines] 17, 1, 10));
+    let mark = lines[0] as u32;
+    print!("mark {mark}, ");
+    print!("slot {}, ", call!(oz_insert [names, cells, head, lines] 42, 2, 20));
+    print!("found at {}, ", call!(oz_find [names, cells, head] 42, 2));
+    print!("back {}, ", call!(oz_rollback [names, cells, head, lines] mark));
+    println!("found {}", if call!(oz_find [names, cells, head] 42, 2) == u32::MAX { "nowhere" } else { "still" });
+}

@@ -1,0 +1,323 @@
+#!/usr/bin/env python3
+"""A model of the script program on plain dictionaries and lists, written from docs/RULES.md and apart from the Rattle code.
+
+    model.py draw                            writes the longest call script, drawn from a fixed seed
+    model.py answer [SLOTS LINES] <script    writes the answers that the rules give to a script, byte for byte
+    model.py count [SLOTS LINES] <script     writes how often each answer comes, and how often tree and journal become full
+
+SLOTS and LINES are the capacities of tree and journal: 512 and 512 where they are not given, as in the script program.
+The drill has 512 and 1024, so that a line is left for a remove from a full tree.
+"""
+import sys
+
+# The capacities of the drill.
+SLOTS, LINES = 512, 1024
+
+
+class Refused(Exception):
+    """A refusal, by its number."""
+
+
+class Index:
+    """What the index holds, with nothing of how it holds it: no tree, no link and no colour."""
+
+    def __init__(self, slots, lines):
+        self.slots, self.lines = slots, lines
+        self.held = {}  # (hash, key) -> [slot, place]
+        self.chain = []  # pairs, the first one first
+        self.journal = []  # (kind, pair, place), kind 1 an insert and 2 a remove
+
+    def lowest_free(self):
+        taken = {slot for slot, _ in self.held.values()}
+        return next(slot for slot in range(self.slots + 1) if slot not in taken)
+
+    def add(self, pair, place):
+        slot = self.lowest_free()
+        self.held[pair] = [slot, place]
+        self.chain.insert(0, pair)
+        return slot
+
+    def take(self, pair):
+        slot, _ = self.held.pop(pair)
+        self.chain.remove(pair)
+        return slot
+
+    def insert(self, pair, place):
+        if pair in self.held:
+            raise Refused(3)
+        if len(self.held) == self.slots:
+            raise Refused(5)
+        if len(self.journal) == self.lines:
+            raise Refused(6)
+        self.journal.append((1, pair, place))
+        return self.add(pair, place)
+
+    def remove(self, pair):
+        if pair not in self.held:
+            raise Refused(4)
+        if len(self.journal) == self.lines:
+            raise Refused(6)
+        self.journal.append((2, pair, self.held[pair][1]))
+        return self.take(pair)
+
+    def rollback(self, mark):
+        if mark > len(self.journal):
+            raise Refused(7)
+        count = len(self.journal) - mark
+        for _ in range(count):
+            kind, pair, place = self.journal.pop()
+            if kind == 1:
+                self.take(pair)
+            else:
+                self.add(pair, place)
+        return count
+
+
+def number(word, bits):
+    """The number that a word is: decimal digits with no leading zero, below 2 to the bits. None where it is none."""
+    if not word or any(b not in b"0123456789" for b in word):
+        return None
+    if word[0] == ord("0") and len(word) > 1:
+        return None
+    value = int(word)
+    return value if value < 1 << bits else None
+
+
+# The widths of a call's numbers.
+FORMS = {b"+": (64, 64, 32), b"-": (64, 64), b"?": (64, 64), b"r": (32,), b"m": (), b"l": ()}
+
+
+def call(line):
+    """A line's command and its numbers; None where the line is of another form."""
+    if len(line) > 80:
+        return None
+    command, *words = line.split(b" ")
+    if command not in FORMS or len(words) != len(FORMS[command]):
+        return None
+    numbers = [number(word, bits) for word, bits in zip(words, FORMS[command])]
+    if None in numbers:
+        return None
+    return command, numbers
+
+
+def answer(index, line):
+    """The lines that answer one line of a script."""
+    said = call(line)
+    if said is None:
+        return ["bad"]
+    command, numbers = said
+    try:
+        if command == b"+":
+            return ["slot %d" % index.insert((numbers[0], numbers[1]), numbers[2])]
+        if command == b"-":
+            return ["gone %d" % index.remove((numbers[0], numbers[1]))]
+        if command == b"r":
+            return ["back %d" % index.rollback(numbers[0])]
+    except Refused as refused:
+        return ["no %d" % refused.args[0]]
+    if command == b"?":
+        pair = (numbers[0], numbers[1])
+        return ["at %d" % index.held[pair][0] if pair in index.held else "none"]
+    if command == b"m":
+        return ["mark %d" % len(index.journal)]
+    rows = ["%d %d %d" % (*pair, index.held[pair][1]) for pair in index.chain]
+    return ["entries %d" % len(rows)] + rows
+
+
+def script_lines(text):
+    """The lines of a script; an unended last line counts."""
+    lines = text.split(b"\n")
+    return lines[:-1] if lines[-1] == b"" else lines
+
+
+class Dice:
+    """Numbers that look random and are the same with every version of Python: Knuth's 64-bit congruential generator."""
+
+    def __init__(self, seed):
+        self.state = seed
+
+    def below(self, n):
+        self.state = (self.state * 6364136223846793005 + 1442695040888963407) % (1 << 64)
+        return (self.state >> 33) % n
+
+    def one_of(self, row):
+        return row[self.below(len(row))]
+
+
+class Drawing:
+    """A script that is drawn call by call, with the index that it runs on at hand."""
+
+    def __init__(self, seed):
+        self.dice = Dice(seed)
+        self.index = Index(SLOTS, LINES)
+        self.script = []
+        # Pairs of few hashes and many keys, so that much of the order is by key; some numbers take all 64 bits.
+        hashes = list(range(24)) + [1 << 32, (1 << 63) + 5, (1 << 64) - 1]
+        self.pairs = [(h, self.dice.below(1 << 62) * 4 + k if k % 9 == 0 else k) for h in hashes for k in range(28)]
+
+    def say(self, line):
+        self.script.append(line)
+        answer(self.index, line.encode())
+
+    def place(self):
+        return (self.dice.below(1 << 31) * 2 + 1) if self.dice.below(40) else self.dice.one_of([0, (1 << 32) - 1])
+
+    def absent(self):
+        return self.dice.one_of([pair for pair in self.pairs if pair not in self.index.held])
+
+    def present(self):
+        return self.dice.one_of(self.index.chain)
+
+    def add(self, pair):
+        self.say("+ %d %d %d" % (*pair, self.place()))
+
+    def remove(self, pair):
+        self.say("- %d %d" % pair)
+
+    def back(self, mark):
+        self.say("r %d" % mark)
+
+    def ask(self):
+        """One call that leaves all as it is: a question, or a call that is refused."""
+        which = self.dice.below(6)
+        if which == 0 and self.index.chain:
+            self.say("? %d %d" % self.present())
+        elif which == 1:
+            self.say("? %d %d" % self.absent())
+        elif which == 2 and self.index.chain:
+            self.add(self.present())
+        elif which == 3:
+            self.remove(self.absent())
+        elif which == 4:
+            self.back(len(self.index.journal) + 1 + self.dice.below(3) * self.dice.below(1 << 30))
+        else:
+            self.say("m")
+
+    def full(self):
+        return len(self.index.held) == SLOTS
+
+    def journal_full(self):
+        return len(self.index.journal) == LINES
+
+    def grow(self, entries, wavering):
+        """Inserts until the tree has so many entries or the journal is full; one call in some is a remove, an ask or a short way back."""
+        while len(self.index.held) < entries and not self.journal_full():
+            which = self.dice.below(wavering)
+            if which == 0 and self.index.chain:
+                self.remove(self.present())
+            elif which == 1:
+                self.ask()
+            elif which == 2 and self.index.journal:
+                self.back(len(self.index.journal) - self.dice.below(min(4, len(self.index.journal) + 1)))
+            else:
+                self.add(self.absent())
+
+    def churn(self, lines):
+        """Around a full tree until the journal has so many lines: refused inserts, removes from the full tree, and full again."""
+        while len(self.index.journal) < lines:
+            if self.full() and self.dice.below(4) == 0:
+                self.add(self.absent())
+            if self.full():
+                for _ in range(1 + self.dice.below(6)):
+                    self.remove(self.present())
+            elif self.dice.below(12) == 0:
+                self.ask()
+            else:
+                self.add(self.absent())
+
+    def refusals(self):
+        """What a full journal refuses, and what it does not."""
+        self.add(self.absent())
+        self.remove(self.present())
+        self.remove(self.absent())
+        self.add(self.present())
+        self.back(LINES + 1)
+        self.back((1 << 32) - 1)
+        self.back(LINES)
+        self.say("m")
+
+    def draw(self):
+        self.grow(40, 12)
+        self.say("l")
+        for mark in (len(self.index.journal), 31, 30, 30, 12, 1):
+            self.back(mark)
+        self.say("l")
+        self.back(0)
+        self.ask()
+        self.grow(SLOTS, 60)
+        self.add(self.absent())
+        self.say("l")
+        self.churn(LINES)
+        self.refusals()
+        for undone in (1, 7, 40, 90):
+            self.back(len(self.index.journal) - undone)
+            self.say("m")
+            self.grow(SLOTS, 40)
+            self.churn(LINES)
+            self.refusals()
+        self.say("l")
+        for mark in (1000, 901, 900, 777, 600):
+            self.back(mark)
+            self.ask()
+        self.grow(SLOTS, 30)
+        self.add(self.absent())
+        self.remove(self.present())
+        self.back(520)
+        self.grow(SLOTS, 30)
+        self.churn(700)
+        for mark in (650, 512, 511, 400, 260):
+            self.back(mark)
+            self.remove(self.present())
+            self.add(self.absent())
+            self.ask()
+        self.say("l")
+        self.back(230)
+        self.grow(SLOTS, 80)
+        self.add(self.absent())
+        self.remove(self.present())
+        self.add(self.absent())
+        self.add(self.absent())
+        self.churn(len(self.index.journal) + 20)
+        self.back(64)
+        self.back(65)
+        self.say("l")
+        self.back(0)
+        self.say("l")
+        self.grow(60, 12)
+        self.say("l")
+        return self.script
+
+
+def counts(script, slots, lines):
+    index, tally, full, out_of_lines = Index(slots, lines), {}, 0, 0
+    for line in script_lines(script):
+        entries, length = len(index.held), len(index.journal)
+        said = answer(index, line)[0]
+        words = said.split()
+        kind = said if words[0] == "no" else words[0]
+        tally[kind] = tally.get(kind, 0) + 1
+        if entries == slots and kind == "gone":
+            tally["gone from the full tree"] = tally.get("gone from the full tree", 0) + 1
+        full += len(index.held) == slots != entries
+        out_of_lines += len(index.journal) == lines != length
+    rows = sorted(tally.items()) + [("tree becomes full", full), ("journal becomes full", out_of_lines)]
+    return ["calls %d" % len(script_lines(script))] + ["%s %d" % row for row in rows]
+
+
+def main():
+    words = sys.argv[1:]
+    sizes = [int(word) for word in words[1:]] or [512, 512]
+    if words[:1] == ["draw"] and len(words) == 1:
+        out = Drawing(20240521).draw()
+    elif words[:1] == ["answer"] and len(sizes) == 2:
+        index = Index(*sizes)
+        out = [said for line in script_lines(sys.stdin.buffer.read()) for said in answer(index, line)]
+    elif words[:1] == ["count"] and len(sizes) == 2:
+        out = counts(sys.stdin.buffer.read(), *sizes)
+    else:
+        sys.exit(__doc__)
+    sys.stdout.write("".join(line + "\n" for line in out))
+
+
+if __name__ == "__main__":
+    main()

@@ -1,0 +1,120 @@
+/* The name index for C: link target/staticlib/libexports.a, made by `rt staticlib exports`, for x86-64.
+ *
+ * oz is our prefix, after Ozynterek. docs/RULES.md says what each routine promises, docs/HANDBOOK.md what to do with
+ * each number; examples/ has a program in C and one in Rust.
+ *
+ * Slices. A slice is a pointer and its number of words. Every routine takes any words, any numbers and any lengths; a
+ * pointer is not null and is aligned, even where its length is 0. No two slices of a call may overlap where one of them
+ * is written. Nothing is allocated, and nothing is kept between calls.
+ *
+ *   names    u64, 2n      per slot: hash, key
+ *   cells    u32, 7n      per slot: place, state (0 free, 1 black, 2 red), parent, left, right, prev, next
+ *   head     u32, 3       root, first, count
+ *   lines    u64, 1 + 4c  the journal: its length, then per line: kind (1 insert, 2 remove), hash, key, place
+ *   lengths  u32, 1 to 8  of a frozen set: the tables' lengths
+ *   bins     u32          of a frozen set: all tables' bins in a row: 0 empty, 1 Moved, 2 + slot a list,
+ *                         4098 + header a tree
+ *   heads    u32, 3h      of a frozen set, per tree header: root, first, count
+ *   cursor   u32, 11      base table, depth, eight indexes, last slot
+ *
+ * n is 1 to 4,096 (0 to 4,096 in a set), c is 0 to 1,024, h is 0 to 4,096. A link that leads nowhere is OZ_NULL.
+ *
+ * An empty index: names all 0; each slot's seven cells 0, 0, OZ_NULL, OZ_NULL, OZ_NULL, OZ_NULL, OZ_NULL; head OZ_NULL,
+ * OZ_NULL, 0; lines all 0. oz_fresh writes it.
+ *
+ * Answers. An answer is value + 2^32 * number; oz_number and oz_value take it apart. Number 0 is no refusal. 1 to 11
+ * are refusals: the value is 0, with 3 a slot, and nothing was written. Where several hold, the one that stands first
+ * in a routine's list below is given. A number above 100 is a failing test of oz_check.
+ *
+ * Stack, as measured with a tree of 4,096 slots in one line: oz_check 644 KiB, since it follows the links as deep as
+ * they go; oz_rollback 208 KiB, since it keeps the tree's words aside; the others under 64 KiB.
+ */
+#ifndef OZ_H
+#define OZ_H
+#include <stddef.h>
+#include <stdint.h>
+
+/* Null, Nothing and Done. */
+#define OZ_NULL UINT32_C(4294967295)
+
+enum {
+    OZ_UNFIT = 1,          /* the lengths of the slices do not fit, or the journal's length passes its capacity */
+    OZ_DAMAGED = 2,        /* the tree is not sound */
+    OZ_PRESENT = 3,        /* the pair is there; the value is its slot */
+    OZ_ABSENT = 4,         /* the pair is not there */
+    OZ_FULL = 5,           /* no free slot */
+    OZ_JOURNAL_FULL = 6,   /* no line left */
+    OZ_BAD_MARK = 7,       /* the mark is above the journal's length */
+    OZ_MISFIT = 8,         /* the journal's lines do not fit the tree */
+    OZ_LOST = 9,           /* a read came to a word that leads nowhere, or to more slots than there are */
+    OZ_UNKNOWN_TABLE = 10, /* no such table */
+    OZ_BAD_CURSOR = 11,    /* no cursor of this set */
+    OZ_TEST = 100          /* 100 + t: test t of 1 to 8 of oz_check fails; the value is the slot */
+};
+
+static inline uint32_t oz_number(uint64_t answer) { return (uint32_t)(answer >> 32); }
+static inline uint32_t oz_value(uint64_t answer) { return (uint32_t)answer; }
+
+#ifdef __cplusplus
+extern "C" {
+#endif
+
+/* Writes an empty index into the four slices, every word of them, and answers 1. Refusal 1, exactly where their lengths
+ * do not fit; what stands in them does not matter. */
+uint64_t oz_fresh(uint64_t *names, size_t names_len, uint32_t *cells, size_t cells_len, uint32_t *head,
+                  size_t head_len, uint64_t *lines, size_t lines_len);
+
+/* The slot that has the pair, or OZ_NULL where none has. Refusals 1, 9; never 9 on a sound tree. */
+uint64_t oz_find(const uint64_t *names, size_t names_len, const uint32_t *cells, size_t cells_len,
+                 const uint32_t *head, size_t head_len, uint64_t hash, uint64_t key);
+
+/* The pair joins the tree with its place, and the journal has one line more; answers the slot taken, the lowest free
+ * one. Refusals 1, 2, 3 with the slot that has the pair, 5, 6. */
+uint64_t oz_insert(uint64_t *names, size_t names_len, uint32_t *cells, size_t cells_len, uint32_t *head,
+                   size_t head_len, uint64_t *lines, size_t lines_len, uint64_t hash, uint64_t key, uint32_t place);
+
+/* The pair leaves the tree, and the journal has one line more; answers the slot freed. Refusals 1, 2, 4, 6. */
+uint64_t oz_remove(uint64_t *names, size_t names_len, uint32_t *cells, size_t cells_len, uint32_t *head,
+                   size_t head_len, uint64_t *lines, size_t lines_len, uint64_t hash, uint64_t key);
+
+/* Undoes the journal's lines from the last down to number mark; answers how many. To come back to a state, keep the
+ * journal's length then, lines[0]: it is the mark. Refusals 1, 2, 7, 8. */
+uint64_t oz_rollback(uint64_t *names, size_t names_len, uint32_t *cells, size_t cells_len, uint32_t *head,
+                     size_t head_len, uint64_t *lines, size_t lines_len, uint32_t mark);
+
+/* The source's own check: 0 where it passes, slot + 2^32 * (100 + t) where its test t fails first, at that slot. A tree
+ * that passes need not be sound. Refusals 1, 9. */
+uint64_t oz_check(const uint64_t *names, size_t names_len, const uint32_t *cells, size_t cells_len,
+                  const uint32_t *head, size_t head_len);
+
+/* The full check: 1 exactly if the tree is sound, else 0. Refusal 1. */
+uint64_t oz_sound(const uint64_t *names, size_t names_len, const uint32_t *cells, size_t cells_len,
+                  const uint32_t *head, size_t head_len);
+
+/* 1 exactly if the frozen set is accepted, else 0. Refusal 1. */
+uint64_t oz_accept(const uint32_t *lengths, size_t lengths_len, const uint32_t *bins, size_t bins_len,
+                   const uint32_t *heads, size_t heads_len, const uint64_t *names, size_t names_len,
+                   const uint32_t *cells, size_t cells_len);
+
+/* The slot that has the pair, sought from this table on, or OZ_NULL where none has. Refusals 1, 10, 9; on an accepted
+ * set 10 alone. */
+uint64_t oz_lookup(const uint32_t *lengths, size_t lengths_len, const uint32_t *bins, size_t bins_len,
+                   const uint32_t *heads, size_t heads_len, const uint64_t *names, size_t names_len,
+                   const uint32_t *cells, size_t cells_len, uint32_t table, uint64_t hash, uint64_t key);
+
+/* Writes a cursor at the first bin of the table, and answers 1. Refusals 1 (for a cursor that is not 11 words, too),
+ * 10, each with the cursor as it was. */
+uint64_t oz_start(const uint32_t *lengths, size_t lengths_len, const uint32_t *bins, size_t bins_len,
+                  const uint32_t *heads, size_t heads_len, const uint64_t *names, size_t names_len,
+                  const uint32_t *cells, size_t cells_len, uint32_t table, uint32_t *cursor, size_t cursor_len);
+
+/* The next entry's slot, or OZ_NULL where the walk is done; the cursor is moved on. Refusals 1 (for a cursor that is
+ * not 11 words, too), 11, 9, each with the cursor as it was. */
+uint64_t oz_walk(const uint32_t *lengths, size_t lengths_len, const uint32_t *bins, size_t bins_len,
+                 const uint32_t *heads, size_t heads_len, const uint64_t *names, size_t names_len,
+                 const uint32_t *cells, size_t cells_len, uint32_t *cursor, size_t cursor_len);
+
+#ifdef __cplusplus
+}
+#endif
+#endif
