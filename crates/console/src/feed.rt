@@ -6,7 +6,8 @@ ghost use Prim.Native.Nat.{_≤_};
 ghost use lib.ListN.{length, replicate, take};
 ghost use Rattle.index_rules.specs.Index.{lent};
 ghost use Rattle.script_rules.specs.Commands.{spoken};
-ghost use Rattle.script_rules.specs.Feeding.{Line as Held, blank as blankLine, turned, heldOf, noted, fedByte, feeds, ends, lentPaper, lentTurn, lentDesk};
+ghost use Rattle.script_rules.specs.Feeding.{Line as Held, blank as blankLine, turned, heldOf, noted, fedByte, feeds, ends};
+ghost use Rattle.script_rules.specs.Feeding.{lentPaper, lentTurn, lentDesk};
 ghost use Rattle.console.specs.Meanings.{lineOf, fedOf};
 
 // No answer is longer: 4,096 entries of at most 63 bytes, and the line before them.
@@ -129,8 +130,10 @@ fn take_byte(
     out: &mut [u8],
     at: usize,
 ) -> Step
-    ensures { λ r. ⌜ lentDesk (lineOf (r .line)) (now (names .exit)) (now (cells .exit)) (now (head .exit)) (now (lines .exit)) (now (out .exit)) (r .at)
-        ≡ fedByte (lentDesk (lineOf line) (now (names .entry)) (now (cells .entry)) (now (head .entry)) (now (lines .entry)) (now (out .entry)) at) b ⌝ }
+    ensures { λ r. ⌜ lentDesk (lineOf (r .line)) (now (names .exit)) (now (cells .exit)) (now (head .exit)) (now (lines .exit))
+        (now (out .exit)) (r .at)
+        ≡ fedByte (lentDesk (lineOf line) (now (names .entry)) (now (cells .entry)) (now (head .entry)) (now (lines .entry))
+        (now (out .entry)) at) b ⌝ }
 {
     if b == b'\n' {
         let end = reply_kept(line, names, cells, head, lines, out, at);
@@ -204,7 +207,8 @@ pub fn finish(
     out: &mut [u8],
 ) -> Fed
     ensures { λ r. ⌜ fedOf r (lent (now (names .exit)) (now (cells .exit)) (now (head .exit)) (now (lines .exit))) (now (out .exit))
-        ≡ ends (lentDesk (lineOf line) (now (names .entry)) (now (cells .entry)) (now (head .entry)) (now (lines .entry)) (now (out .entry)) 0) ⌝ }
+        ≡ ends (lentDesk (lineOf line) (now (names .entry)) (now (cells .entry)) (now (head .entry)) (now (lines .entry))
+        (now (out .entry)) 0) ⌝ }
     ensures bounds { λ r. ⌜ r .written ≤ length (now (out .exit)) ⌝ }
 {
     if out.len() < LONGEST {

@@ -3,7 +3,8 @@ ghost use mathlib.Core.Path.{_≡_};
 ghost use Prim.Native.Nat.{ℕ, _≤_};
 ghost use lib.ListN.{drop};
 ghost use Rattle.script_rules.specs.Text.{readOn, readNumber, readNext, begins as starts};
-ghost use Rattle.script_rules.specs.Commands.{Command as Meant, remove as removing, find as finding, entryOf, pairOf, markOf, alone, meant, spoken};
+ghost use Rattle.script_rules.specs.Commands.{Command as Meant, remove as removing, find as finding};
+ghost use Rattle.script_rules.specs.Commands.{entryOf, pairOf, markOf, alone, meant, spoken};
 ghost use Rattle.console.specs.Phrases.{readOf, commandOf, pairCommand};
 
 // The largest number of a field.

@@ -12,7 +12,8 @@ use slots::name;
 ghost use mathlib.Core.Path.{_≡_};
 ghost use Rattle.tree_rules.specs.Find.{slotsOf};
 ghost use Rattle.tree.specs.Check.{walkOf, checkedOf};
-ghost use Rattle.tree_rules.specs.Check.{pointsBack, isChild, leftHash, rightHash, notAllRed, firstFailing, inRange, linksIn, walked, checked};
+ghost use Rattle.tree_rules.specs.Check.{pointsBack, isChild, leftHash, rightHash, notAllRed, firstFailing};
+ghost use Rattle.tree_rules.specs.Check.{inRange, linksIn, walked, checked};
 
 // The neighbour of i along the field f, if any, points back to i along the field g.
 fn points_back(cells: &[u32], i: u32, f: u32, g: u32) -> bool
