@@ -8,13 +8,13 @@ ghost use Rattle.index_rules.specs.Rollback.{blanked};
 ghost use Rattle.index.specs.Frees.{appendedIf};
 
 // The words of a line, by their place.
-pub const KIND: u32 = 0;
+pub const LINE_KIND: u32 = 0;
 
-pub const HASH: u32 = 1;
+pub const LINE_HASH: u32 = 1;
 
-pub const KEY: u32 = 2;
+pub const LINE_KEY: u32 = 2;
 
-pub const PLACE: u32 = 3;
+pub const LINE_PLACE: u32 = 3;
 
 // The kinds of a line.
 pub const INSERT: u64 = 1;

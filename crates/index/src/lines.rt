@@ -4,14 +4,15 @@ use crate::fit::word;
 use crate::grow::Free;
 use crate::grow::grow;
 use crate::grow::lowest_free;
-use crate::journal::HASH;
 use crate::journal::INSERT;
-use crate::journal::KEY;
-use crate::journal::KIND;
-use crate::journal::PLACE;
+use crate::journal::LINE_HASH;
+use crate::journal::LINE_KEY;
+use crate::journal::LINE_KIND;
+use crate::journal::LINE_PLACE;
 use crate::journal::REMOVE;
 use crate::journal::line_word;
 use crate::shrink::shrink;
+use slots::PLACE;
 use slots::get;
 use tree::find::Found;
 use tree::find::find_tree_node;
@@ -49,7 +50,7 @@ fn take_back(
     let Found::At(x) = found else {
         return Undoing::Misfit;
     };
-    let own = get(cells, x, slots::PLACE);
+    let own = get(cells, x, PLACE);
     if own as u64 != place {
         return Undoing::Misfit;
     }
@@ -102,10 +103,10 @@ fn undo_line(
     ensures { λ r. ⌜ undoOf r (lentTree (now (names .exit)) (now (cells .exit)) (now (head .exit)))
         ≡ undone (lentTree (now (names .entry)) (now (cells .entry)) (now (head .entry))) (now (lines .entry)) k ⌝ }
 {
-    let kind = line_word(lines, k, KIND);
-    let hash = line_word(lines, k, HASH);
-    let key = line_word(lines, k, KEY);
-    let place = line_word(lines, k, PLACE);
+    let kind = line_word(lines, k, LINE_KIND);
+    let hash = line_word(lines, k, LINE_HASH);
+    let key = line_word(lines, k, LINE_KEY);
+    let place = line_word(lines, k, LINE_PLACE);
     if kind == INSERT {
         return take_back(names, cells, head, hash, key, place);
     }
