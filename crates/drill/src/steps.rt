@@ -54,7 +54,7 @@ pub fn is_empty(names: &[u64], cells: &[u32], head: &[u32], lines: &[u64]) -> bo
 }
 
 // Where the line that starts at a place ends, its newline with it.
-pub fn line_end(script: &[u8], at: usize) -> usize
+pub(crate) fn line_end(script: &[u8], at: usize) -> usize
     requires { ⌜ at < size (now script) ⌝ }
     ensures { λ r. ⌜ (at < r) × (r ≤ size (now (script .entry))) ⌝ }
 {

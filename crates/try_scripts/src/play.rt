@@ -12,7 +12,7 @@ pub struct Met {
 }
 
 // Whether a part of the answers is what is expected from a place on.
-pub fn agrees(expected: &[u8], from: usize, part: &[u8]) -> Met
+pub(crate) fn agrees(expected: &[u8], from: usize, part: &[u8]) -> Met
     requires { ⌜ from ≤ length (now expected) ⌝ }
     ensures { λ r. ⌜ r .at ≤ length (now (expected .entry)) ⌝ }
 {
