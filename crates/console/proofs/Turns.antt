@@ -1,31 +1,40 @@
 -- A call and the answer that is printed for it, on plain values, come to what the model says of the command.
 use mathlib.Core.Path.{_≡_, ap}
+use mathlib.Core.Logic.{_≢_}
 use mathlib.Core.List.{List}
 use Prim.Native.Nat.{ℕ}
+use borrow.Author.Tests.{eq-eqb, ne-eqb}
 use Rattle.slots.specs.Answers.{Answer}
 use Rattle.index_rules.specs.Index.{Index, Outcome, outcome}
-use Rattle.script_rules.specs.Answers.{told}
+use Rattle.script_rules.specs.Text.{noText}
+use Rattle.script_rules.specs.Answers.{counted, valued, told}
 use Rattle.script_rules.specs.Commands.{Command}
-use Rattle.script_rules.specs.Feeding.{Paper, Turn, typed, turned}
+use Rattle.script_rules.specs.Feeding.{Paper, Turn, typed, performed}
 use Rattle.script_rules.proofs.Feeding.{Within, typed-within}
 
 abbrev turn : Index → Paper → Turn
 turn ix p = record { index = ix; paper = p }
 
+-- A refusal is printed with its number, any other answer by its value.
+pub told-refused : (word : List ℕ) (a : Answer) → a .number ≢ 0 → counted noText (a .number) ≡ told word a
+unfolding told
+told-refused word a h = rw (ne-eqb _ _ h)
+
+pub told-value : (word : List ℕ) (a : Answer) → a .number ≡ 0 → valued word (a .value) ≡ told word a
+unfolding told
+told-value word a e = rw (eq-eqb _ _ e)
+
 -- The answer is printed after its word, and the call has left what it left.
-pub said : (word : List ℕ) (p : Paper) (o : Outcome) {a : Answer} {l : Index} {text : List ℕ} {q : Paper}
-    → outcome a l ≡ o → text ≡ told word a → q ≡ typed p text
+pub said : (word : List ℕ) (p : Paper) (o : Outcome) {a b : Answer} {l : Index} {q : Paper}
+    → outcome b l ≡ o → a ≡ b → q ≡ typed p (told word a)
     → turn l q ≡ turn (o .left) (typed p (told word (o .answer)))
-said word p o {a} {l} {text} {q} e f g =
+said word p o {a} {b} {l} {q} e f g =
     let left : l ≡ o .left = ap (λ (x : Outcome). x .left) e in
-    let answer : a ≡ o .answer = ap (λ (x : Outcome). x .answer) e in
+    let answer : b ≡ o .answer = ap (λ (x : Outcome). x .answer) e in
     cc
 
-pub asked : (word : List ℕ) (p : Paper) {a b : Answer} {text : List ℕ} {q : Paper} → a ≡ b → text ≡ told word a → q ≡ typed p text → q ≡ typed p (told word b)
-asked word p e f g = cc
-
 -- The command that was meant.
-pub turn-of : (ix : Index) (p : Paper) {c d : Command} {t : Turn} → t ≡ turned ix p d → c ≡ d → t ≡ turned ix p c
+pub turn-of : (ix : Index) (p : Paper) {c d : Command} {t : Turn} → t ≡ performed ix p d → c ≡ d → t ≡ performed ix p c
 turn-of ix p e f = rw f e
 
 -- A command that only reads leaves the tree and the journal.
@@ -33,5 +42,5 @@ pub read-turn : (ix : Index) {q t : Paper} → q ≡ t → turn ix q ≡ turn ix
 read-turn ix e = ap (turn ix) e
 
 -- An answer is written within its buffer.
-pub turn-within : (ix : Index) (p : Paper) (c : Command) {t : Turn} → t ≡ turned ix p c → Within p → Within (t .paper)
+pub turn-within : (ix : Index) (p : Paper) (c : Command) {t : Turn} → t ≡ performed ix p c → Within p → Within (t .paper)
 turn-within ix p c e w = rw e (typed-within p _ w)

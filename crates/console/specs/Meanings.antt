@@ -1,23 +1,13 @@
 -- What the values of this crate's enums and structs mean.
-use mathlib.Core.List.{List, [], _∷_, _++_}
+use mathlib.Core.List.{List}
 use Prim.Native.Nat.{ℕ}
 use Rattle.slots.specs.Answers.{Value as Count, none, some}
 use Rattle.index_rules.specs.Index.{Index}
-use Rattle.script_rules.specs.Text.{newline, noneText, noText}
-use Rattle.script_rules.specs.Answers.{counted}
 use Rattle.script_rules.specs.Feeding.{Line as Held, Fed as Outcome}
 use Rattle.console.specs.declared.answer.Met.{Met}
 use Rattle.console.specs.declared.answer.Met.the-variants.{Slots, Lost}
-use Rattle.console.specs.declared.answer.Reply.{Reply}
-use Rattle.console.specs.declared.answer.Reply.the-variants.{Value, Nothing, Refused}
 use Rattle.console.specs.declared.feed.Line.{Line}
 use Rattle.console.specs.declared.feed.Fed.{Fed}
-
--- A reply as it is printed, its value after a word.
-abbrev pub replyText : List ℕ → Reply → List ℕ
-replyText word (Value v) = counted word v
-replyText word Nothing = noneText ++ (newline ∷ [])
-replyText word (Refused n) = counted noText n
 
 abbrev pub metOf : Met → Count
 metOf (Slots c) = some c

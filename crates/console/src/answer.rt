@@ -3,41 +3,35 @@ use crate::paper::put_byte;
 use crate::paper::put_number;
 use crate::paper::put_word;
 use crate::read::Command;
-use index::find::Found;
 use index::find::find;
-use index::fit::FIRST;
 use index::fit::fit;
-use index::fit::word;
-use index::insert::Inserted;
 use index::insert::insert;
 use index::journal::fit_journal;
-use index::journal::word as journal_word;
-use index::remove::Removed;
+use index::journal::length_of;
 use index::remove::remove;
-use index::rollback::RolledBack;
 use index::rollback::rollback;
+use slots::FIRST;
 use slots::HASH;
 use slots::KEY;
 use slots::NEXT;
 use slots::NULL;
 use slots::PLACE;
+use slots::answer::Answer;
+use slots::answer::Value;
 use slots::get;
 use slots::name;
+use slots::word;
 ghost use mathlib.Core.Path.{_≡_};
-ghost use mathlib.Core.List.{List};
-ghost use Prim.Native.Nat.{ℕ};
 ghost use Rattle.index_rules.specs.Live.{lentTree};
 ghost use Rattle.index_rules.specs.Find.{finds};
 ghost use Rattle.index_rules.specs.Index.{lent};
 ghost use Rattle.script_rules.specs.Text.{atText};
-ghost use Rattle.index.specs.Calls.{insertedOf, removedOf};
-ghost use Rattle.index.specs.Rolls.{rolledOf};
-ghost use Rattle.index.specs.Reads.{foundOf};
+ghost use Rattle.slots.specs.Coded.{answerOf};
 ghost use Rattle.script_rules.specs.Answers.{counted, told, met, entryLine, entryLines, listing, marking};
 ghost use Rattle.script_rules.specs.Commands.{insert as inserting, remove as removing, rollback as rolling};
-ghost use Rattle.script_rules.specs.Feeding.{typed, turned, lentPaper, lentTurn};
+ghost use Rattle.script_rules.specs.Feeding.{typed, performed, lentPaper, lentTurn};
 ghost use Rattle.console.specs.Phrases.{commandOf};
-ghost use Rattle.console.specs.Meanings.{replyText, metOf};
+ghost use Rattle.console.specs.Meanings.{metOf};
 
 // A word and a number, and the line ends.
 fn tell(out: &mut [u8], at: usize, word: &[u8], v: u64) -> usize
@@ -48,68 +42,18 @@ fn tell(out: &mut [u8], at: usize, word: &[u8], v: u64) -> usize
     put_byte(out, end, b'\n')
 }
 
-// What a call answers, as it is printed: a number, nothing, or a refusal.
-enum Reply {
-    Value(u64),
-    Nothing,
-    Refused(u64),
-}
-
-fn of_inserted(done: Inserted) -> Reply
-    ensures { λ r. ⌜ ((w : List ℕ) → replyText w r ≡ told w (insertedOf done)) ⌝ }
+// What a call answers: a refusal with its number, else the value after the word, or that there is none.
+fn tell_answer(out: &mut [u8], at: usize, word: &[u8], answer: Answer) -> usize
+    ensures { λ r. ⌜ lentPaper (now (out .exit)) r ≡ typed (lentPaper (now (out .entry)) at) (told (now (word .entry)) (answerOf answer)) ⌝ }
 {
-    match done {
-        Inserted::At(slot) => Reply::Value(slot as u64),
-        Inserted::Unfit => Reply::Refused(1),
-        Inserted::Damaged => Reply::Refused(2),
-        Inserted::Present(_) => Reply::Refused(3),
-        Inserted::Full => Reply::Refused(5),
-        Inserted::JournalFull => Reply::Refused(6),
+    let number = answer.number;
+    if number != 0 {
+        return tell(out, at, b"no ", number as u64);
     }
-}
-
-fn of_removed(done: Removed) -> Reply
-    ensures { λ r. ⌜ ((w : List ℕ) → replyText w r ≡ told w (removedOf done)) ⌝ }
-{
-    match done {
-        Removed::At(slot) => Reply::Value(slot as u64),
-        Removed::Unfit => Reply::Refused(1),
-        Removed::Damaged => Reply::Refused(2),
-        Removed::Absent => Reply::Refused(4),
-        Removed::JournalFull => Reply::Refused(6),
-    }
-}
-
-fn of_found(found: Found) -> Reply
-    ensures { λ r. ⌜ ((w : List ℕ) → replyText w r ≡ told w (foundOf found)) ⌝ }
-{
-    match found {
-        Found::At(slot) => Reply::Value(slot as u64),
-        Found::Nothing => Reply::Nothing,
-        Found::Unfit => Reply::Refused(1),
-        Found::Lost => Reply::Refused(9),
-    }
-}
-
-fn of_rolled(done: RolledBack) -> Reply
-    ensures { λ r. ⌜ ((w : List ℕ) → replyText w r ≡ told w (rolledOf done)) ⌝ }
-{
-    match done {
-        RolledBack::Lines(count) => Reply::Value(count as u64),
-        RolledBack::Unfit => Reply::Refused(1),
-        RolledBack::Damaged => Reply::Refused(2),
-        RolledBack::BadMark => Reply::Refused(7),
-        RolledBack::Misfit => Reply::Refused(8),
-    }
-}
-
-fn tell_reply(out: &mut [u8], at: usize, word: &[u8], reply: Reply) -> usize
-    ensures { λ r. ⌜ lentPaper (now (out .exit)) r ≡ typed (lentPaper (now (out .entry)) at) (replyText (now (word .entry)) reply) ⌝ }
-{
-    match reply {
-        Reply::Value(v) => return tell(out, at, word, v),
-        Reply::Nothing => return put_word(out, at, b"none\n"),
-        Reply::Refused(n) => return tell(out, at, b"no ", n),
+    let value = answer.value;
+    match value {
+        Value::Some(v) => return tell(out, at, word, v as u64),
+        Value::None => return put_word(out, at, b"none\n"),
     }
 }
 
@@ -184,7 +128,7 @@ fn tell_list(out: &mut [u8], at: usize, names: &[u64], cells: &[u32], head: &[u3
     if !fit(names, cells, head) {
         return tell(out, at, b"no ", 1);
     }
-    let first = word(head, FIRST);
+    let first = word(head, FIRST, NULL);
     let counted = count_chain(names.len() / 2, cells, first);
     let Met::Slots(count) = counted else {
         return tell(out, at, b"no ", 9);
@@ -211,7 +155,7 @@ fn tell_mark(
     if !fit_journal(lines) {
         return tell(out, at, b"no ", 1);
     }
-    let length = journal_word(lines, 0);
+    let length = length_of(lines);
     tell(out, at, b"mark ", length)
 }
 
@@ -227,12 +171,11 @@ fn obey_insert(
     place: u32,
 ) -> usize
     ensures { λ r. ⌜ lentTurn (now (names .exit)) (now (cells .exit)) (now (head .exit)) (now (lines .exit)) (now (out .exit)) r
-        ≡ turned (lent (now (names .entry)) (now (cells .entry)) (now (head .entry)) (now (lines .entry)))
+        ≡ performed (lent (now (names .entry)) (now (cells .entry)) (now (head .entry)) (now (lines .entry)))
         (lentPaper (now (out .entry)) at) (inserting hash key place) ⌝ }
 {
     let done = insert(names, cells, head, lines, hash, key, place);
-    let reply = of_inserted(done);
-    tell_reply(out, at, b"slot ", reply)
+    tell_answer(out, at, b"slot ", done.answer())
 }
 
 fn obey_remove(
@@ -246,12 +189,11 @@ fn obey_remove(
     key: u64,
 ) -> usize
     ensures { λ r. ⌜ lentTurn (now (names .exit)) (now (cells .exit)) (now (head .exit)) (now (lines .exit)) (now (out .exit)) r
-        ≡ turned (lent (now (names .entry)) (now (cells .entry)) (now (head .entry)) (now (lines .entry)))
+        ≡ performed (lent (now (names .entry)) (now (cells .entry)) (now (head .entry)) (now (lines .entry)))
         (lentPaper (now (out .entry)) at) (removing hash key) ⌝ }
 {
     let done = remove(names, cells, head, lines, hash, key);
-    let reply = of_removed(done);
-    tell_reply(out, at, b"gone ", reply)
+    tell_answer(out, at, b"gone ", done.answer())
 }
 
 fn obey_rollback(
@@ -264,12 +206,11 @@ fn obey_rollback(
     to: u32,
 ) -> usize
     ensures { λ r. ⌜ lentTurn (now (names .exit)) (now (cells .exit)) (now (head .exit)) (now (lines .exit)) (now (out .exit)) r
-        ≡ turned (lent (now (names .entry)) (now (cells .entry)) (now (head .entry)) (now (lines .entry)))
+        ≡ performed (lent (now (names .entry)) (now (cells .entry)) (now (head .entry)) (now (lines .entry)))
         (lentPaper (now (out .entry)) at) (rolling to) ⌝ }
 {
     let done = rollback(names, cells, head, lines, to);
-    let reply = of_rolled(done);
-    tell_reply(out, at, b"back ", reply)
+    tell_answer(out, at, b"back ", done.answer())
 }
 
 // `?`: only reads.
@@ -287,8 +228,7 @@ fn tell_find(
         (told atText (finds (lentTree (now (names .entry)) (now (cells .entry)) (now (head .entry))) hash key)) ⌝ }
 {
     let found = find(names, cells, head, hash, key);
-    let reply = of_found(found);
-    tell_reply(out, at, b"at ", reply)
+    tell_answer(out, at, b"at ", found.answer())
 }
 
 // Does what a command asks, and writes its answer.
@@ -302,7 +242,7 @@ pub(crate) fn obey(
     at: usize,
 ) -> usize
     ensures { λ r. ⌜ lentTurn (now (names .exit)) (now (cells .exit)) (now (head .exit)) (now (lines .exit)) (now (out .exit)) r
-        ≡ turned (lent (now (names .entry)) (now (cells .entry)) (now (head .entry)) (now (lines .entry)))
+        ≡ performed (lent (now (names .entry)) (now (cells .entry)) (now (head .entry)) (now (lines .entry)))
         (lentPaper (now (out .entry)) at) (commandOf command) ⌝ }
 {
     match command {

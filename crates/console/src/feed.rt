@@ -6,7 +6,7 @@ ghost use Prim.Native.Nat.{_≤_};
 ghost use lib.ListN.{length, replicate, take};
 ghost use Rattle.index_rules.specs.Index.{lent};
 ghost use Rattle.script_rules.specs.Commands.{spoken};
-ghost use Rattle.script_rules.specs.Feeding.{Line as Held, blank as blankLine, turned, heldOf, noted, fedByte, feeds, ends};
+ghost use Rattle.script_rules.specs.Feeding.{Line as Held, blank as blankLine, performed, heldOf, noted, fedByte, feeds, ends};
 ghost use Rattle.script_rules.specs.Feeding.{lentPaper, lentTurn, lentDesk};
 ghost use Rattle.console.specs.Meanings.{lineOf, fedOf};
 
@@ -68,7 +68,7 @@ fn reply(
     at: usize,
 ) -> usize
     ensures { λ r. ⌜ lentTurn (now (names .exit)) (now (cells .exit)) (now (head .exit)) (now (lines .exit)) (now (out .exit)) r
-        ≡ turned (lent (now (names .entry)) (now (cells .entry)) (now (head .entry)) (now (lines .entry)))
+        ≡ performed (lent (now (names .entry)) (now (cells .entry)) (now (head .entry)) (now (lines .entry)))
         (lentPaper (now (out .entry)) at) (spoken (now (line .entry))) ⌝ }
 {
     let command = meaning(line);
@@ -87,7 +87,7 @@ fn reply_first(
     at: usize,
 ) -> usize
     ensures { λ r. ⌜ lentTurn (now (names .exit)) (now (cells .exit)) (now (head .exit)) (now (lines .exit)) (now (out .exit)) r
-        ≡ turned (lent (now (names .entry)) (now (cells .entry)) (now (head .entry)) (now (lines .entry)))
+        ≡ performed (lent (now (names .entry)) (now (cells .entry)) (now (head .entry)) (now (lines .entry)))
         (lentPaper (now (out .entry)) at) (spoken (take count (now (bytes .entry)))) ⌝ }
 {
     if bytes.len() <= count {
@@ -107,7 +107,7 @@ fn reply_kept(
     at: usize,
 ) -> usize
     ensures { λ r. ⌜ lentTurn (now (names .exit)) (now (cells .exit)) (now (head .exit)) (now (lines .exit)) (now (out .exit)) r
-        ≡ turned (lent (now (names .entry)) (now (cells .entry)) (now (head .entry)) (now (lines .entry)))
+        ≡ performed (lent (now (names .entry)) (now (cells .entry)) (now (head .entry)) (now (lines .entry)))
         (lentPaper (now (out .entry)) at) (spoken (heldOf (lineOf line))) ⌝ }
 {
     let bytes = line.bytes;

@@ -2,9 +2,6 @@
 // call by call. After every call its words are copied, and the copy is rolled back to a mark that varies with the cut. A second index
 // runs only the calls whose lines stand below that mark: no rollback comes up in it. The two have to hold the same pairs and places and
 // the same words of a journal. Then the copy is rolled back to 0, and all of the script runs again on it.
-use crate::play::Met;
-use crate::play::agrees;
-use crate::play::play;
 use crate::steps::all;
 use crate::steps::is_empty;
 use crate::steps::is_sound;
@@ -13,32 +10,28 @@ use crate::steps::line_end;
 use crate::steps::more;
 use crate::steps::one;
 use crate::steps::undid;
-use crate::table::clear_all;
 use console::feed::blank;
 use console::feed::feed;
 use index::find::Found;
 use index::find::find;
+use index::fresh::fresh;
 use index::rollback::RolledBack;
 use index::rollback::rollback;
 use slots::FREE;
 use slots::HASH;
 use slots::KEY;
-use slots::NULL;
 use slots::PLACE;
 use slots::STATE;
 use slots::get;
 use slots::name;
 use slots::put;
-ghost use Prim.Native.Nat.{_≤_};
-ghost use lib.ListN.{length as size};
+use trials::play::Met;
+use trials::play::agrees;
+use trials::play::play;
+use trials::same::same_index;
+use trials::same::same_names;
 
 const SLOTS: u32 = 512;
-
-// No slice of names or lines here has more words.
-const MOST_NAMES: u32 = 4097;
-
-// No slice of cells here has more words.
-const MOST_CELLS: u32 = 3584;
 
 // What came of the cuts: rollbacks accepted and refused at them, whole runs after them, and what was not as it has to be.
 pub struct Tally {
@@ -124,30 +117,6 @@ fn same_entries(
     get(head, 0, 2) == get(other_head, 0, 2)
 }
 
-// Whether all words of two journals, or of the names of two trees, are the same.
-fn same_names(a: &[u64], b: &[u64]) -> bool {
-    let mut k: u32 = 0;
-    while k < MOST_NAMES {
-        if name(a, 0, k) != name(b, 0, k) {
-            return false;
-        }
-        k += 1;
-    }
-    true
-}
-
-// Whether all words of the cells or of the headers of two trees are the same.
-fn same_cells(a: &[u32], b: &[u32]) -> bool {
-    let mut k: u32 = 0;
-    while k < MOST_CELLS {
-        if get(a, 0, k) != get(b, 0, k) {
-            return false;
-        }
-        k += 1;
-    }
-    true
-}
-
 // Whether an index is what a second one is that ran to mark m and no further: both sound, with the same pairs and places, and with the
 // same words of the journal. The second has written no line past the mark, so those of the first have to be zero.
 fn as_at_mark(
@@ -161,10 +130,15 @@ fn as_at_mark(
     out: &mut [u8],
 ) -> bool {
     let mut names_then = [0u64; 1024];
-    let mut cells_then = [NULL; 3584];
-    let mut head_then = [NULL, NULL, 0];
+    let mut cells_then = [0u32; 3584];
+    let mut head_then = [0u32; 3];
     let mut lines_then = [0u64; 4097];
-    clear_all(&mut cells_then, SLOTS);
+    fresh(
+        &mut names_then,
+        &mut cells_then,
+        &mut head_then,
+        &mut lines_then,
+    );
     run_kept(
         script,
         made,
@@ -262,10 +236,7 @@ fn call(
     head: &mut [u32],
     lines: &mut [u64],
     out: &mut [u8],
-) -> Met
-    requires { ⌜ said ≤ size (now answers) ⌝ }
-    ensures { λ r. ⌜ r .at ≤ size (now (answers .entry)) ⌝ }
-{
+) -> Met {
     let start = blank();
     let fed = feed(start, line, names, cells, head, lines, out);
     let written = fed.written;
@@ -302,24 +273,6 @@ fn try_cut(
     all(back, start, right, true)
 }
 
-// A copy of the index that was asked for a mark that it has to refuse: whether all its words are those of the index.
-fn is_as_it_was(
-    names: &[u64],
-    cells: &[u32],
-    head: &[u32],
-    lines: &[u64],
-    old_names: &[u64],
-    old_cells: &[u32],
-    old_head: &[u32],
-    old_lines: &[u64],
-) -> bool {
-    let a = same_names(names, old_names);
-    let b = same_cells(cells, old_cells);
-    let c = same_cells(head, old_head);
-    let d = same_names(lines, old_lines);
-    all(a, b, c, d)
-}
-
 // The tally with a cut of the index that the words are, at which the last answer was right or not. The words are copied for it.
 fn cut_once(
     t: Tally,
@@ -344,7 +297,7 @@ fn cut_once(
         &mut head_cut,
         &mut lines_cut,
     );
-    let kept = is_as_it_was(
+    let kept = same_index(
         &names_cut,
         &cells_cut,
         &head_cut,
@@ -372,11 +325,11 @@ fn cut_once(
 // makes the one whose number is the length before it.
 pub fn try_cuts(script: &[u8], answers: &[u8], out: &mut [u8]) -> Tally {
     let mut names = [0u64; 1024];
-    let mut cells = [NULL; 3584];
-    let mut head = [NULL, NULL, 0];
+    let mut cells = [0u32; 3584];
+    let mut head = [0u32; 3];
     let mut lines = [0u64; 4097];
     let mut made = [0u32; 1024];
-    clear_all(&mut cells, SLOTS);
+    fresh(&mut names, &mut cells, &mut head, &mut lines);
     let mut t = Tally {
         cuts: 0,
         rollbacks: 0,

@@ -5,57 +5,38 @@
 // comparison has to notice.
 mod longest;
 mod marks;
-mod play;
 mod steps;
 mod table;
 
-use libc::STDOUT_FILENO;
 use longest::try_cuts;
 use marks::try_short;
-ghost use Prim.Native.Nat.{_≤_};
-ghost use lib.ListN.{length as size};
-
-// Reads a file, and answers how many bytes it has; one that is missing has none.
-fn load(path: &[u8], room: &mut [u8]) -> usize
-    ensures { λ r. ⌜ r ≤ size (now (room .exit)) ⌝ }
-{
-    let file = os::open_read(path);
-    if file < 0 {
-        return 0;
-    }
-    let n = io::read_full(file, room);
-    libc::close(file);
-    n
-}
-
-fn print(label: &[u8], value: u32) {
-    io::write_all(STDOUT_FILENO, label);
-    io::print_decimal(STDOUT_FILENO, value as u64);
-}
+use trials::load::load;
+use trials::print::number;
+use trials::print::say;
 
 // The longest script's line.
 fn drill_longest(script: &mut [u8], answers: &mut [u8], out: &mut [u8]) {
     let n = load(b"longest.txt", script);
     let said = load(b"answers.txt", answers);
     let t = try_cuts(&script[..n], &answers[..said], out);
-    print(b"longest: cuts ", t.cuts);
-    print(b" rollbacks ", t.rollbacks);
-    print(b" refused ", t.refused);
-    print(b" runs ", t.runs);
-    print(b" differences ", t.differences);
-    io::write_all(STDOUT_FILENO, b"\n");
+    number(b"longest: cuts ", t.cuts);
+    number(b" rollbacks ", t.rollbacks);
+    number(b" refused ", t.refused);
+    number(b" runs ", t.runs);
+    number(b" differences ", t.differences);
+    say(b"\n");
 }
 
 // The short script's line.
 fn drill_short(script: &mut [u8], rows: &mut [u32], out: &mut [u8]) {
     let n = load(b"marks.txt", script);
     let t = try_short(&script[..n], rows, out);
-    print(b"marks: cuts ", t.cuts);
-    print(b" rollbacks ", t.rollbacks);
-    print(b" differences ", t.differences);
-    print(b" planted ", t.planted);
-    print(b" noticed ", t.noticed);
-    io::write_all(STDOUT_FILENO, b"\n");
+    number(b"marks: cuts ", t.cuts);
+    number(b" rollbacks ", t.rollbacks);
+    number(b" differences ", t.differences);
+    number(b" planted ", t.planted);
+    number(b" noticed ", t.noticed);
+    say(b"\n");
 }
 
 fn main() {

@@ -6,16 +6,15 @@ use crate::steps::line_end;
 use crate::steps::more;
 use crate::steps::one;
 use crate::steps::undid;
-use crate::table::clear_all;
 use crate::table::cut_at;
 use crate::table::note;
 use crate::table::same;
 use console::feed::blank;
 use console::feed::feed;
+use index::fresh::fresh;
 use index::insert::Inserted;
 use index::insert::insert;
 use index::rollback::rollback;
-use slots::NULL;
 
 // What came of the cuts: rollbacks, those after which something differs, names planted, and planted names noticed.
 pub struct Tally {
@@ -125,10 +124,10 @@ fn roll_and_plant(
 // The short script up to a cut, and a trial of mark m.
 fn try_mark(part: &[u8], m: u32, rows: &mut [u32], out: &mut [u8]) -> Trial {
     let mut names = [0u64; 1024];
-    let mut cells = [NULL; 3584];
-    let mut head = [NULL, NULL, 0];
+    let mut cells = [0u32; 3584];
+    let mut head = [0u32; 3];
     let mut lines = [0u64; 2049];
-    clear_all(&mut cells, 512);
+    fresh(&mut names, &mut cells, &mut head, &mut lines);
     run_noted(
         part,
         &mut names,
@@ -156,10 +155,10 @@ fn tallied(t: Tally, tried: Trial) -> Tally {
 // How long the journal is at a cut of the short script.
 fn length_at(part: &[u8], rows: &mut [u32], out: &mut [u8]) -> u32 {
     let mut names = [0u64; 1024];
-    let mut cells = [NULL; 3584];
-    let mut head = [NULL, NULL, 0];
+    let mut cells = [0u32; 3584];
+    let mut head = [0u32; 3];
     let mut lines = [0u64; 2049];
-    clear_all(&mut cells, 512);
+    fresh(&mut names, &mut cells, &mut head, &mut lines);
     run_noted(
         part,
         &mut names,

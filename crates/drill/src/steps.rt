@@ -1,5 +1,5 @@
 // What both parts of the drill ask: the journal's length, what a rollback came to, what is left of the calls, and where a call ends.
-use index::journal::word;
+use index::journal::length_of;
 use index::rollback::RolledBack;
 use index::sound::Soundness;
 use index::sound::sound;
@@ -27,7 +27,7 @@ pub fn all(a: bool, b: bool, c: bool, d: bool) -> bool {
 
 // The journal's length.
 pub fn length(lines: &[u64]) -> u32 {
-    (word(lines, 0) % 4294967296) as u32
+    (length_of(lines) % 4294967296) as u32
 }
 
 // Whether the rollback undid so many lines.

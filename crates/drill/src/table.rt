@@ -1,9 +1,7 @@
 // What a tree holds, key by key: a row of 48 words, each the place of a key and one more, or 0 where the key is not there.
 use index::find::Found;
 use index::find::find;
-use slots::FREE;
 use slots::PLACE;
-use slots::STATE;
 use slots::get;
 use slots::name;
 use slots::put;
@@ -12,16 +10,6 @@ pub const KEYS: u32 = 48;
 
 // The words of a journal of 512 lines that come after its length.
 const LINE_WORDS: u32 = 2048;
-
-// All slots free, from words that are null.
-pub fn clear_all(cells: &mut [u32], n: u32) {
-    let mut i: u32 = 0;
-    while i < n {
-        put(cells, i, PLACE, 0);
-        put(cells, i, STATE, FREE);
-        i += 1;
-    }
-}
 
 // The place of a key and one more; 0 where it is not there.
 fn held(names: &[u64], cells: &[u32], head: &[u32], key: u32) -> u32 {

@@ -7,17 +7,17 @@ use lib.ListN.{length, getD, set}
 use borrow.Author.Tests.{le-ltb}
 use Rattle.slots.specs.Words.{cell, write, nameOf, rename, roomy}
 use Rattle.slots.specs.Answers.{given, nothing}
-use Rattle.tree_rules.specs.Find.{Search, found, decided, looked, searched}
+use Rattle.tree_rules.specs.Find.{slotsOf, Search, found, decided, looked, searched}
 use Rattle.tree_rules.proofs.Searching.{at-null}
 use Rattle.tree_rules.specs.Chain.{chained, tally}
 use Rattle.tree_rules.specs.Check.{linksIn}
-use Rattle.tree_rules.specs.Rules.{stands, reached, follows, risen, calmed, levelled, rises, coloured, level}
+use Rattle.tree_rules.specs.Rules.{stands, reached, follows, risen, allCalm, levelled, rises, coloured, level}
 use Rattle.redblack.specs.Deletion.{capped, settled, tucked, eased, sunk, deletionTurn, balancedDeletion}
-use Rattle.redblack.specs.Hanging.{descended, hooked, inserted, placed}
+use Rattle.redblack.specs.Hanging.{descended, hooked, inserted, spotted}
 use Rattle.redblack.specs.Insertion.{raised, straightened, lifted, insertionTurn, insertionTurns, balancedInsertion}
 use Rattle.redblack.specs.Removal.{replaced, lowered, traded, replacement, spliced, detached, dropped, leftmost, removed}
 use Rattle.redblack.specs.Rotate.{hung, turned, rotated}
-use Rattle.index_rules.specs.Live.{Live, Fit, rootOf, countOf, capacityOf, fits}
+use Rattle.index_rules.specs.Live.{Live, Fit, rootOf, countOf, fits}
 use Rattle.index_rules.specs.Sound.{Sound, sound, isCleared, slotFine, slotsFine, rule1, rule2, rule3, rule4, rule5, rule6, rule7}
 use Rattle.index_rules.specs.Find.{finds}
 use Rattle.index_rules.specs.Index.{Index, FitIndex, index, outcome, lengthOf, fitsJournal, fitsIndex, lined, appended}
@@ -31,17 +31,17 @@ use Rattle.index_rules.specs.Insert.{freeFrom, lowestFree, soughtIn, fronted, g
 use Rattle.index_rules.specs.Remove.{unchained, wiped, shrunk, removes}
 use Rattle.set_rules.specs.Words.{begins, doubling, doubled, fitTables, binOf, bini}
 use Rattle.set_rules.specs.Words.{fits as setFits}
-use Rattle.set_rules.specs.Accepting.{isHome, isListSlot, samePair, unlike, listSlotFine, listFine, placed as mayStand, ownFine, binAsks, belowFine, binFine, tableFine, isBlank, headersFine, allHeld, accepted, accepts}
+use Rattle.set_rules.specs.Accepting.{isHome, isListSlot, samePair, unlike, listSlotFine, listFine, wellPlaced as mayStand, ownFine, binAsks, belowFine, binFine, tableFine, isBlank, headersFine, allHeld, accepted, accepts}
 use Rattle.set_rules.specs.Cursor.{starts, levelFine, levelsFine, baseFine, fine}
-use Rattle.set_rules.specs.Walk.{kept, advanced, sought, under, walked, nexts}
-use Rattle.set_rules.specs.Held.{after as stepped}
+use Rattle.set_rules.specs.Walk.{kept, advanced, sought, under, stepsOn, nexts}
+use Rattle.set_rules.specs.Held.{cursorAfter as stepped}
 use Rattle.examples.specs.Claims.{Claims}
 use Rattle.examples.specs.Worked.{empty, zeros, freeSlots, drawn, drawnFrom, chainOf, chainFrom, listSlots, tables, bin}
-use Rattle.examples.specs.Worked.{given as walks}
+use Rattle.examples.specs.Worked.{entriesGiven as walks}
 
 empty-find : (t : Live) → Fit t → Sound t → countOf t ≡ 0 → (hash key : ℕ) → finds t hash key ≡ nothing
 unfolding finds found
-empty-find t fit h e hash key = rw (fit-fits t fit) (ap (λ (s : Search). s .answer) (at-null (t .names) (t .cells) hash key (capacityOf t) (rootOf t) (h .t2 .root .1 e)))
+empty-find t fit h e hash key = rw (fit-fits t fit) (ap (λ (s : Search). s .answer) (at-null (t .names) (t .cells) hash key (slotsOf (t .names)) (rootOf t) (h .t2 .root .1 e)))
 
 -- A word written with what it was.
 set-same : (l : List ℕ) → 0 < length l → set l 0 (getD l 0 0) ≡ l
@@ -58,7 +58,7 @@ at-length ix fit h =
 
 -- The walk of the worked tables.
 walk-order : walks 7 tables (starts tables 0 .cursor) ≡ bin 2 0 ∷ (bin 2 4 ∷ (bin 2 2 ∷ (bin 2 6 ∷ (bin 1 1 ∷ (bin 1 3 ∷ [])))))
-unfolding walks tables listSlots cell nameOf begins doubling doubled fitTables setFits binOf starts levelFine levelsFine baseFine fine kept advanced sought under walked nexts
+unfolding walks tables listSlots cell nameOf begins doubling doubled fitTables setFits binOf starts levelFine levelsFine baseFine fine kept advanced sought under stepsOn nexts
 walk-order = refl
 
 tables-accepted : accepts tables ≡ given 1
@@ -66,11 +66,11 @@ unfolding tables listSlots cell nameOf tally linksIn isCleared slotFine slotsFin
 tables-accepted = refl
 
 walk-done : nexts tables (stepped 6 tables (starts tables 0 .cursor)) .answer ≡ nothing
-unfolding tables listSlots cell begins doubling doubled fitTables setFits binOf starts levelFine levelsFine baseFine fine kept advanced sought under walked nexts stepped
+unfolding tables listSlots cell begins doubling doubled fitTables setFits binOf starts levelFine levelsFine baseFine fine kept advanced sought under stepsOn nexts stepped
 walk-done = refl
 
 pub claims : Claims
-unfolding empty zeros freeSlots drawn drawnFrom chainOf chainFrom cell write nameOf rename roomy chained tally linksIn decided looked searched found stands reached follows risen calmed levelled rises coloured level capped settled tucked eased sunk deletionTurn balancedDeletion descended hooked inserted placed raised straightened lifted insertionTurn insertionTurns balancedInsertion replaced lowered traded replacement spliced detached dropped leftmost removed hung turned rotated after fitsJournal fitsIndex lined appended freeFrom lowestFree soughtIn fronted grown inserts fits unchained wiped shrunk removes isCleared slotFine slotsFine rule1 rule2 rule3 rule4 rule5 rule6 rule7 sound
+unfolding empty zeros freeSlots drawn drawnFrom chainOf chainFrom cell write nameOf rename roomy chained tally linksIn decided looked searched found stands reached follows risen allCalm levelled rises coloured level capped settled tucked eased sunk deletionTurn balancedDeletion descended hooked inserted spotted raised straightened lifted insertionTurn insertionTurns balancedInsertion replaced lowered traded replacement spliced detached dropped leftmost removed hung turned rotated after fitsJournal fitsIndex lined appended freeFrom lowestFree soughtIn fronted grown inserts fits unchained wiped shrunk removes isCleared slotFine slotsFine rule1 rule2 rule3 rule4 rule5 rule6 rule7 sound
 claims =
     record {
       empty-find = empty-find;

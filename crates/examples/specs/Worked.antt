@@ -5,12 +5,13 @@ use lib.Dec.{eqb}
 use Rattle.slots.specs.Words.{null, pick, state, left, right, next, free, cell, nameOf, keyPart}
 use Rattle.slots.specs.Pairs.{Pair, pair, pairOf}
 use Rattle.slots.specs.Answers.{Value, none as noValue, some}
-use Rattle.index_rules.specs.Live.{Live, rootOf, firstOf, capacityOf}
+use Rattle.index_rules.specs.Live.{Live, rootOf, firstOf}
 use Rattle.index_rules.specs.Index.{Index, index}
 use Rattle.index_rules.specs.Calls.{Call, insertCall, removeCall}
 use Rattle.set_rules.specs.Words.{Set}
 use Rattle.set_rules.specs.Cursor.{Cursor}
 use Rattle.set_rules.specs.Walk.{nexts}
+use Rattle.tree_rules.specs.Find.{slotsOf}
 
 unfoldable pub zeros : ℕ → List ℕ
 zeros zero = []
@@ -48,7 +49,7 @@ drawnFrom (suc depth) t i =
     pick (eqb i null) none (pick (eqb (cell (t .cells) i state) 1) (black l k r) (pick (eqb (cell (t .cells) i state) 2) (red l k r) (other l k r)))
 
 unfoldable pub drawn : Live → Drawing
-drawn t = drawnFrom (capacityOf t) t (rootOf t)
+drawn t = drawnFrom (slotsOf (t .names)) t (rootOf t)
 
 -- The keys along the chain from the link i, at most so many.
 unfoldable pub chainFrom : ℕ → Live → ℕ → List ℕ
@@ -56,7 +57,7 @@ chainFrom zero t i = []
 chainFrom (suc n) t i = pick (eqb i null) [] (nameOf (t .names) i keyPart ∷ chainFrom n t (cell (t .cells) i next))
 
 unfoldable pub chainOf : Live → List ℕ
-chainOf t = chainFrom (capacityOf t) t (firstOf t)
+chainOf t = chainFrom (slotsOf (t .names)) t (firstOf t)
 
 -- The cells of n slots of lists of one.
 unfoldable pub listSlots : ℕ → List ℕ
@@ -80,9 +81,9 @@ abbrev pub onward : Value → Set → (ℕ → List Pair) → List Pair
 onward noValue s rest = []
 onward (some x) s rest = rest x
 
-unfoldable pub given : ℕ → Set → Cursor → List Pair
-given zero s c = []
-given (suc n) s c = onward (nexts s c .answer .value) s (λ x. pairOf (s .names) x ∷ given n s (nexts s c .cursor))
+unfoldable pub entriesGiven : ℕ → Set → Cursor → List Pair
+entriesGiven zero s c = []
+entriesGiven (suc n) s c = onward (nexts s c .answer .value) s (λ x. pairOf (s .names) x ∷ entriesGiven n s (nexts s c .cursor))
 
 -- Bin i of table k, as the entry there names it.
 abbrev pub bin : ℕ → ℕ → Pair

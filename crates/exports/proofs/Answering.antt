@@ -12,20 +12,20 @@ use borrow.Author.Tests.{leb-false, ltb-true, eq-eqb, ne-eqb}
 use Rattle.slots.specs.Words.{null, pick, next, cell}
 use Rattle.slots.specs.Answers.{Answer, given, nothing, refused}
 use Rattle.slots.proofs.Laws.{number, given-is, nothing-given}
-use Rattle.tree_rules.specs.Find.{Look, here, on, Search, after, slotsOf, looked, searched, found}
+use Rattle.tree_rules.specs.Find.{Look, here, on, Search, lookedThen, slotsOf, looked, searched, found}
 use Rattle.index_rules.specs.Live.{Live, rootOf, fits}
 use Rattle.index_rules.specs.Find.{finds}
 use Rattle.index_rules.proofs.Fit.{fits-fit, half}
-use Rattle.set_rules.specs.Words.{Set, tablesOf, lengthAt, slotsIn, headersIn, rootAt, firstAt, Bin, empty, moved, bad, list, tree}
+use Rattle.set_rules.specs.Words.{Set, tablesOf, lengthAt, headersIn, rootAt, firstAt, Bin, empty, moved, bad, list, tree}
 use Rattle.set_rules.specs.Words.{fits as setFits}
 use Rattle.set_rules.proofs.Fit.{fits-fit as set-fit, slots-are}
 use Rattle.set_rules.proofs.Naming.{ranges}
 use Rattle.set_rules.specs.Lookup.{hasPair, listed, homeBin, asked, forwarded, lookups}
 use Rattle.set_rules.specs.Cursor.{Cursor, Step, fineCursor}
-use Rattle.set_rules.specs.Walk.{Place, deepest, binHere, Sought, turned, sought, turnsIn, stepped, standing, walked, nexts}
+use Rattle.set_rules.specs.Walk.{Place, deepest, binHere, Sought, entered, sought, turnsIn, stepped, standing, stepsOn, nexts}
 use Rattle.exports.specs.Words.{answerWord}
 use Rattle.exports.specs.Cursors.{cursorIn}
-use Rattle.exports.specs.Cursors.{walked as walkedWords}
+use Rattle.exports.specs.Cursors.{walkedInto as walkedWords}
 use Rattle.exports.specs.Claims.{Tells}
 
 -- The three kinds of answer, where there are n slots.
@@ -64,7 +64,7 @@ module _ (names cells : List ℕ) (hash key : ℕ) where
       (λ f. go (looked names cells p hash key) (leb-false _ _ f) (λ q. searched-plain v q)))
     where
       go : (l : Look) → p < slotsOf names → ((q : ℕ) → Found (searched names cells v q hash key))
-          → Found (after l p (λ q. searched names cells v q hash key))
+          → Found (lookedThen l p (λ q. searched names cells v q hash key))
       go here b again = slot b
       go (on q) b again = again q
 
@@ -89,20 +89,20 @@ finds-plain t hash key =
 
 -- The loop over the tables.
 module _ (s : Set) (hash key : ℕ) where
-  forwarded-plain : (tables k : ℕ) → Plain (slotsIn s) (forwarded tables s k hash key)
+  forwarded-plain : (tables k : ℕ) → Plain (slotsOf (s .names)) (forwarded tables s k hash key)
   unfolding forwarded
   forwarded-plain zero k = nine
   forwarded-plain (suc tables) k = go (homeBin s k hash) (forwarded-plain tables (suc k))
     where
-      go : (b : Bin) → Plain (slotsIn s) (forwarded tables s (suc k) hash key)
-          → Plain (slotsIn s) (asked s b hash key (forwarded tables s (suc k) hash key))
+      go : (b : Bin) → Plain (slotsOf (s .names)) (forwarded tables s (suc k) hash key)
+          → Plain (slotsOf (s .names)) (asked s b hash key (forwarded tables s (suc k) hash key))
       go empty rest = none
       go moved rest = rest
       go bad rest = nine
-      go (list p) rest = listed-plain (s .names) (s .cells) hash key (slotsIn s) p
+      go (list p) rest = listed-plain (s .names) (s .cells) hash key (slotsOf (s .names)) p
       go (tree h) rest = found-plain (s .names) (s .cells) hash key (rootAt s h)
 
-few : (s : Set) → setFits s ≡ true → slotsIn s ≤ 4096
+few : (s : Set) → setFits s ≡ true → slotsOf (s .names) ≤ 4096
 few s e = let fit = set-fit s e in omega (arith, slots-are fit, fit .slots-most)
 
 pub lookups-plain : (s : Set) (t hash key : ℕ) → Plain 4096 (lookups s t hash key)
@@ -116,7 +116,7 @@ lookups-plain s t hash key =
 -- A step of the walk.
 module _ (s : Set) (c : Cursor) where
   abbrev Gives : Sought → Type 0
-  Gives g = Plain (slotsIn s) (stepped s c g .answer)
+  Gives g = Plain (slotsOf (s .names)) (stepped s c g .answer)
 
   sought-plain : (turns base : ℕ) (p : Place) → Gives (sought turns s base p)
   unfolding sought
@@ -126,21 +126,21 @@ module _ (s : Set) (c : Cursor) where
       (λ e. go (binHere s base p) refl (λ q. sought-plain turns base q))
     where
       go : (b : Bin) → binHere s base p ≡ b → ((q : Place) → Gives (sought turns s base q))
-          → Gives (turned s base p b (λ q. sought turns s base q))
+          → Gives (entered s base p b (λ q. sought turns s base q))
       go empty e again = again _
       go moved e again = picked Gives (ltb (base + p .depth + 1) (tablesOf s)) (λ f. again _) (λ f. nine)
       go bad e again = nine
-      go (list x) e again = slot (ranges (slotsIn s) (headersIn s) _ .lists x .0 e .3)
-      go (tree h) e again = picked Gives (ltb (firstAt s h) (slotsIn s)) (λ f. slot (ltb-true _ _ f)) (λ f. nine)
+      go (list x) e again = slot (ranges (slotsOf (s .names)) (headersIn s) _ .lists x .0 e .3)
+      go (tree h) e again = picked Gives (ltb (firstAt s h) (slotsOf (s .names))) (λ f. slot (ltb-true _ _ f)) (λ f. nine)
 
   abbrev Steps : Step → Type 0
-  Steps r = Plain (slotsIn s) (r .answer)
+  Steps r = Plain (slotsOf (s .names)) (r .answer)
 
-  walked-plain : Steps (walked s c)
-  unfolding walked
+  walked-plain : Steps (stepsOn s c)
+  unfolding stepsOn
   walked-plain =
       picked Steps (eqb (cell (s .cells) (c .last) next) null) (λ e. sought-plain (turnsIn s (c .base)) (c .base) (standing c))
-      (λ e. picked Steps (ltb (cell (s .cells) (c .last) next) (slotsIn s)) (λ f. slot (ltb-true _ _ f)) (λ f. nine))
+      (λ e. picked Steps (ltb (cell (s .cells) (c .last) next) (slotsOf (s .names))) (λ f. slot (ltb-true _ _ f)) (λ f. nine))
 
   pub nexts-plain : Plain 4096 (nexts s c .answer)
   unfolding nexts

@@ -7,7 +7,7 @@ use borrow.Author.Tests.{eq-eqb, ne-eqb}
 use Rattle.slots.specs.Answers.{Answer}
 use Rattle.set_rules.specs.Cursor.{Cursor, Step}
 use Rattle.exports.specs.Words.{answerWord}
-use Rattle.exports.specs.Cursors.{cursorIn, written, kept, ofEleven}
+use Rattle.exports.specs.Cursors.{cursorIn, written, leftIn, ofEleven}
 
 -- The eleven reads, one after another.
 pub reads : (w : List ℕ) {b d x0 x1 x2 x3 x4 x5 x6 x7 l : ℕ} → b ≡ getD w 0 0
@@ -45,6 +45,6 @@ pub short : {w : List ℕ} {r : ℕ} (s : Step) → (length w ≡ 11 → ⊥) �
 unfolding answerWord
 short {w} s n e = rw (ne-eqb (length w) 11 n, e)
 
-pub long : (w : List ℕ) {u : List ℕ} {r : ℕ} {a : Answer} {c : Cursor} {s : Step} → length w ≡ 11 → r ≡ answerWord a → record { answer = a; cursor = c } ≡ s → u ≡ kept w r c
+pub long : (w : List ℕ) {u : List ℕ} {r : ℕ} {a : Answer} {c : Cursor} {s : Step} → length w ≡ 11 → r ≡ answerWord a → record { answer = a; cursor = c } ≡ s → u ≡ leftIn w r c
     → record { word = r; cursor = u } ≡ ofEleven w s
 long w l e f g = rw (eq-eqb (length w) 11 l, g, e, ← f)

@@ -1,4 +1,3 @@
-pub mod Bounds
 pub mod Telling
 pub mod Keeping
 pub mod Answering

@@ -21,8 +21,8 @@ use Rattle.set_rules.specs.Accepting.{accepts}
 use Rattle.set_rules.specs.Lookup.{lookups}
 use Rattle.set_rules.specs.Cursor.{Cursor}
 use Rattle.set_rules.specs.Walk.{nexts}
-use Rattle.exports.specs.Words.{answerWord, checkWord, Told, told}
-use Rattle.exports.specs.Cursors.{cursorIn, Kept, started, walked}
+use Rattle.exports.specs.Words.{answerWord, checkWord, Worded, worded}
+use Rattle.exports.specs.Cursors.{cursorIn, Kept, startedInto, walkedInto}
 
 -- The word of an answer tells which it is: a slot given is below 4,096, so that null is Nothing or Done alone.
 pub record Tells (a : Answer) : Type 0 where
@@ -40,15 +40,15 @@ pub record Claims : Type 0 where
   pub walk-tells : (s : Set) (c : Cursor) → Tells (nexts s c .answer)
   -- null in the walk's word is Done, with a cursor of eleven words
   pub walk-done : (s : Set) (cursor : List ℕ)
-      → (walked s cursor .word ≡ null) ↔ ((length cursor ≡ 11) × (nexts s (cursorIn cursor) .answer ≡ nothing))
+      → (walkedInto s cursor .word ≡ null) ↔ ((length cursor ≡ 11) × (nexts s (cursorIn cursor) .answer ≡ nothing))
   pub find-one : (t : Live) (hash key : ℕ) → OneAnswer (λ (r : ℕ). r ≡ answerWord (finds t hash key))
   pub check-one : (t : Live) → OneAnswer (λ (r : ℕ). r ≡ checkWord (checks t))
   pub sound-one : (t : Live) → OneAnswer (λ (r : ℕ). r ≡ answerWord (sounds t))
-  pub insert-one : (ix : Index) (hash key place : ℕ) → OneAnswer (λ (r : Told). r ≡ told (inserts ix hash key place))
-  pub remove-one : (ix : Index) (hash key : ℕ) → OneAnswer (λ (r : Told). r ≡ told (removes ix hash key))
-  pub fresh-one : (ix : Index) → OneAnswer (λ (r : Told). r ≡ told (freshes ix))
-  pub rollback-one : (ix : Index) (mark : ℕ) → OneAnswer (λ (r : Told). r ≡ told (rolls ix mark))
+  pub insert-one : (ix : Index) (hash key place : ℕ) → OneAnswer (λ (r : Worded). r ≡ worded (inserts ix hash key place))
+  pub remove-one : (ix : Index) (hash key : ℕ) → OneAnswer (λ (r : Worded). r ≡ worded (removes ix hash key))
+  pub fresh-one : (ix : Index) → OneAnswer (λ (r : Worded). r ≡ worded (freshes ix))
+  pub rollback-one : (ix : Index) (mark : ℕ) → OneAnswer (λ (r : Worded). r ≡ worded (rolls ix mark))
   pub accept-one : (s : Set) → OneAnswer (λ (r : ℕ). r ≡ answerWord (accepts s))
   pub lookup-one : (s : Set) (table hash key : ℕ) → OneAnswer (λ (r : ℕ). r ≡ answerWord (lookups s table hash key))
-  pub start-one : (s : Set) (table : ℕ) (cursor : List ℕ) → OneAnswer (λ (r : Kept). r ≡ started s table cursor)
-  pub walk-one : (s : Set) (cursor : List ℕ) → OneAnswer (λ (r : Kept). r ≡ walked s cursor)
+  pub start-one : (s : Set) (table : ℕ) (cursor : List ℕ) → OneAnswer (λ (r : Kept). r ≡ startedInto s table cursor)
+  pub walk-one : (s : Set) (cursor : List ℕ) → OneAnswer (λ (r : Kept). r ≡ walkedInto s cursor)

@@ -29,8 +29,8 @@ written w c =
     set high 10 (c .last)
 
 -- "a refused call leaves it as it was": the word of a refusal is 2^32 or more.
-unfoldable pub kept : List ℕ → ℕ → Cursor → List ℕ
-kept w told c = pick (ltb told 4294967296) (written w c) w
+unfoldable pub leftIn : List ℕ → ℕ → Cursor → List ℕ
+leftIn w told c = pick (ltb told 4294967296) (written w c) w
 
 -- What a call comes to: its word, and what it leaves in the cursor's words.
 pub record Kept : Type 0 where
@@ -38,14 +38,14 @@ pub record Kept : Type 0 where
   pub cursor : List ℕ
 
 abbrev pub stepped : List ℕ → Step → Kept
-stepped w s = record { word = answerWord (s .answer); cursor = kept w (answerWord (s .answer)) (s .cursor) }
+stepped w s = record { word = answerWord (s .answer); cursor = leftIn w (answerWord (s .answer)) (s .cursor) }
 
 -- "another length is 1"
 abbrev pub ofEleven : List ℕ → Step → Kept
 ofEleven w s = pick (eqb (length w) 11) (stepped w s) (record { word = answerWord (refused 1); cursor = w })
 
-unfoldable pub started : Set → ℕ → List ℕ → Kept
-started s table w = ofEleven w (starts s table)
+unfoldable pub startedInto : Set → ℕ → List ℕ → Kept
+startedInto s table w = ofEleven w (starts s table)
 
-unfoldable pub walked : Set → List ℕ → Kept
-walked s w = ofEleven w (nexts s (cursorIn w))
+unfoldable pub walkedInto : Set → List ℕ → Kept
+walkedInto s w = ofEleven w (nexts s (cursorIn w))

@@ -6,12 +6,12 @@ use Rattle.slots.specs.Answers.{Answer, Value, none, some}
 use Rattle.index_rules.specs.Index.{Index, Outcome}
 
 -- The value beside a number: the one that comes with it, 0 with a refusal that has none, and bare where nothing comes with number 0.
-abbrev pub valued : ℕ → ℕ → Value → ℕ
-valued bare number (some v) = v
-valued bare number none = pick (eqb number 0) bare 0
+abbrev pub valueBeside : ℕ → ℕ → Value → ℕ
+valueBeside bare number (some v) = v
+valueBeside bare number none = pick (eqb number 0) bare 0
 
 abbrev pub wordOf : ℕ → Answer → ℕ
-wordOf bare a = valued bare (a .number) (a .value) + 4294967296 * a .number
+wordOf bare a = valueBeside bare (a .number) (a .value) + 4294967296 * a .number
 
 -- "4,294,967,295 for Nothing and Done"
 unfoldable pub answerWord : Answer → ℕ
@@ -22,9 +22,9 @@ unfoldable pub checkWord : Answer → ℕ
 checkWord = wordOf 0
 
 -- What a call that writes comes to: its word, and all that it leaves in the lent slices.
-pub record Told : Type 0 where
+pub record Worded : Type 0 where
   pub word : ℕ
   pub left : Index
 
-unfoldable pub told : Outcome → Told
-told o = record { word = answerWord (o .answer); left = o .left }
+unfoldable pub worded : Outcome → Worded
+worded o = record { word = answerWord (o .answer); left = o .left }

@@ -1,10 +1,7 @@
 // The frozen set's entry points.
 use crate::cursor::keep;
 use crate::cursor::read;
-use crate::words::accepted_word;
-use crate::words::given_word;
-use crate::words::looked_word;
-use crate::words::started_word;
+use crate::words::packed;
 use crate::words::word;
 use sets::accept::accept;
 use sets::lookup::lookup;
@@ -14,7 +11,7 @@ ghost use Rattle.set_rules.specs.Words.{lentSet};
 ghost use Rattle.set_rules.specs.Accepting.{accepts};
 ghost use Rattle.set_rules.specs.Lookup.{lookups};
 ghost use Rattle.exports.specs.Words.{answerWord};
-ghost use Rattle.exports.specs.Cursors.{Kept, started, walked};
+ghost use Rattle.exports.specs.Cursors.{Kept, startedInto, walkedInto};
 
 // Whether a frozen set is accepted.
 #[no_mangle]
@@ -30,7 +27,7 @@ pub extern "C" fn oz_accept(
         (lentSet (now (lengths .entry)) (now (bins .entry)) (now (heads .entry)) (now (names .entry)) (now (cells .entry)))) ⌝ }
 {
     let acceptance = accept(lengths, bins, heads, names, cells);
-    accepted_word(acceptance)
+    word(acceptance.answer())
 }
 
 // The slot of a frozen set that has a pair, from a table on.
@@ -51,7 +48,7 @@ pub extern "C" fn oz_lookup(
         (now (cells .entry))) table hash key) ⌝ }
 {
     let looked = lookup(lengths, bins, heads, names, cells, table, hash, key);
-    looked_word(looked)
+    word(looked.answer())
 }
 
 // A cursor at the first bin of a table, written into eleven words; a refused call leaves them as they were.
@@ -66,16 +63,16 @@ pub extern "C" fn oz_start(
     cursor: &mut [u32],
 ) -> u64
     ensures { λ r. ⌜ record { word = r; cursor = now (cursor .exit) }
-        ≡ started (lentSet (now (lengths .entry)) (now (bins .entry)) (now (heads .entry)) (now (names .entry))
+        ≡ startedInto (lentSet (now (lengths .entry)) (now (bins .entry)) (now (heads .entry)) (now (names .entry))
         (now (cells .entry))) table (now (cursor .entry)) ⌝ }
 {
     if cursor.len() != 11 {
-        return word(1, 0);
+        return packed(1, 0);
     }
     let start = Cursor::start(lengths, bins, heads, names, cells, table);
-    let answer = start.answer;
+    let startedInto = start.answer;
     let made = start.cursor;
-    let told = started_word(answer);
+    let told = word(startedInto.answer());
     keep(cursor, told, made);
     told
 }
@@ -91,17 +88,17 @@ pub extern "C" fn oz_walk(
     cursor: &mut [u32],
 ) -> u64
     ensures { λ r. ⌜ record { word = r; cursor = now (cursor .exit) }
-        ≡ walked (lentSet (now (lengths .entry)) (now (bins .entry)) (now (heads .entry)) (now (names .entry)) (now (cells .entry)))
+        ≡ walkedInto (lentSet (now (lengths .entry)) (now (bins .entry)) (now (heads .entry)) (now (names .entry)) (now (cells .entry)))
         (now (cursor .entry)) ⌝ }
 {
     if cursor.len() != 11 {
-        return word(1, 0);
+        return packed(1, 0);
     }
     let at = read(cursor);
     let step = at.next(lengths, bins, heads, names, cells);
-    let answer = step.answer;
+    let given = step.answer;
     let after = step.cursor;
-    let told = given_word(answer);
+    let told = word(given.answer());
     keep(cursor, told, after);
     told
 }

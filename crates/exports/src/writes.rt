@@ -1,8 +1,5 @@
 // The live tree's entry points that write. A refusal writes nothing.
-use crate::words::fresh_word;
-use crate::words::inserted_word;
-use crate::words::removed_word;
-use crate::words::rolled_word;
+use crate::words::word;
 use index::fresh::fresh;
 use index::insert::insert;
 use index::remove::remove;
@@ -13,7 +10,7 @@ ghost use Rattle.index_rules.specs.Fresh.{freshes};
 ghost use Rattle.index_rules.specs.Insert.{inserts};
 ghost use Rattle.index_rules.specs.Remove.{removes};
 ghost use Rattle.index_rules.specs.Rollback.{rolls};
-ghost use Rattle.exports.specs.Words.{Told, told};
+ghost use Rattle.exports.specs.Words.{Worded, worded};
 
 // An empty index is written into slices of fit lengths.
 #[no_mangle]
@@ -24,10 +21,10 @@ pub extern "C" fn oz_fresh(
     lines: &mut [u64],
 ) -> u64
     ensures { λ r. ⌜ record { word = r; left = lent (now (names .exit)) (now (cells .exit)) (now (head .exit)) (now (lines .exit)) }
-        ≡ told (freshes (lent (now (names .entry)) (now (cells .entry)) (now (head .entry)) (now (lines .entry)))) ⌝ }
+        ≡ worded (freshes (lent (now (names .entry)) (now (cells .entry)) (now (head .entry)) (now (lines .entry)))) ⌝ }
 {
     let made = fresh(names, cells, head, lines);
-    fresh_word(made)
+    word(made.answer())
 }
 
 // A pair with its place joins the tree, and the journal takes a line.
@@ -42,10 +39,10 @@ pub extern "C" fn oz_insert(
     place: u32,
 ) -> u64
     ensures { λ r. ⌜ record { word = r; left = lent (now (names .exit)) (now (cells .exit)) (now (head .exit)) (now (lines .exit)) }
-        ≡ told (inserts (lent (now (names .entry)) (now (cells .entry)) (now (head .entry)) (now (lines .entry))) hash key place) ⌝ }
+        ≡ worded (inserts (lent (now (names .entry)) (now (cells .entry)) (now (head .entry)) (now (lines .entry))) hash key place) ⌝ }
 {
     let inserted = insert(names, cells, head, lines, hash, key, place);
-    inserted_word(inserted)
+    word(inserted.answer())
 }
 
 // A pair leaves the tree, and the journal takes a line.
@@ -59,10 +56,10 @@ pub extern "C" fn oz_remove(
     key: u64,
 ) -> u64
     ensures { λ r. ⌜ record { word = r; left = lent (now (names .exit)) (now (cells .exit)) (now (head .exit)) (now (lines .exit)) }
-        ≡ told (removes (lent (now (names .entry)) (now (cells .entry)) (now (head .entry)) (now (lines .entry))) hash key) ⌝ }
+        ≡ worded (removes (lent (now (names .entry)) (now (cells .entry)) (now (head .entry)) (now (lines .entry))) hash key) ⌝ }
 {
     let removed = remove(names, cells, head, lines, hash, key);
-    removed_word(removed)
+    word(removed.answer())
 }
 
 // The journal's lines above the mark are undone and cleared.
@@ -75,8 +72,8 @@ pub extern "C" fn oz_rollback(
     mark: u32,
 ) -> u64
     ensures { λ r. ⌜ record { word = r; left = lent (now (names .exit)) (now (cells .exit)) (now (head .exit)) (now (lines .exit)) }
-        ≡ told (rolls (lent (now (names .entry)) (now (cells .entry)) (now (head .entry)) (now (lines .entry))) mark) ⌝ }
+        ≡ worded (rolls (lent (now (names .entry)) (now (cells .entry)) (now (head .entry)) (now (lines .entry))) mark) ⌝ }
 {
     let rolled = rollback(names, cells, head, lines, mark);
-    rolled_word(rolled)
+    word(rolled.answer())
 }

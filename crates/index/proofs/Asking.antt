@@ -11,9 +11,9 @@ use denote.Enum.Declared.{tagOf}
 use Rattle.slots.specs.Words.{null, pick}
 use Rattle.slots.specs.Answers.{Answer, Value, some, none, given}
 use Rattle.slots.proofs.Laws.{given-is, number, value}
-use Rattle.tree_rules.specs.Find.{found}
+use Rattle.tree_rules.specs.Find.{slotsOf, found}
 use Rattle.tree_rules.specs.Chain.{tally}
-use Rattle.index_rules.specs.Live.{Live, Fit, rootOf, countOf, capacityOf, fits}
+use Rattle.index_rules.specs.Live.{Live, Fit, rootOf, countOf, fits}
 use Rattle.index_rules.specs.Sound.{Sound, used, sound, sounds}
 use Rattle.index_rules.specs.Index.{Index, FitIndex, Outcome, outcome, fitsIndex, fitsJournal, lengthOf}
 use Rattle.index_rules.specs.Insert.{soughtIn}
@@ -112,7 +112,7 @@ tally-most (suc n) f h = omega (arith, h n, tally-most n f h)
 
 pub count-most : {t : Live} → Fit t → Sound t → countOf t ≤ 4096
 count-most {t} f h =
-    omega (arith, f .most, f .two, h .t1 .count, tally-most (capacityOf t) (used (t .cells)) (used-one (t .cells)))
+    omega (arith, f .most, f .two, h .t1 .count, tally-most (slotsOf (t .names)) (used (t .cells)) (used-one (t .cells)))
 
 -- The case that a driver's tests come to: a refusal, which writes nothing, or a slot and what the call leaves.
 module _ (ix : Index) (u : ℕ → Index) (o : Outcome) where

@@ -8,7 +8,7 @@ use native.Mathlib.Omega.{arith}
 use lib.ListN.{length, set}
 use Rattle.slots.specs.Words.{null, rename, hashPart, keyPart}
 use Rattle.slots.specs.Answers.{given, refused}
-use Rattle.index_rules.specs.Live.{Live, lentTree, capacityOf}
+use Rattle.index_rules.specs.Live.{Live, lentTree}
 use Rattle.index_rules.specs.Index.{Index, Outcome, outcome, index, lent, linesOf}
 use Rattle.index_rules.specs.Insert.{headed}
 use Rattle.index_rules.specs.Remove.{wiped}

@@ -11,10 +11,11 @@ use borrow.Author.Tests.{eq-eqb, ne-eqb, le-leb, lt-leb}
 use Rattle.slots.specs.Words.{null, pick, place, state, prev, next, free, cell, write, rename, hashPart, keyPart}
 use Rattle.slots.specs.Answers.{some, none}
 use Rattle.redblack.specs.Links.{Links}
-use Rattle.redblack.specs.Hanging.{inserted, placed}
-use Rattle.index_rules.specs.Live.{Live, rootOf, firstOf, countOf, capacityOf}
+use Rattle.redblack.specs.Hanging.{inserted, spotted}
+use Rattle.index_rules.specs.Live.{Live, rootOf, firstOf, countOf}
 use Rattle.index_rules.specs.Insert.{freeFrom, fronted, headed, grown}
 use Rattle.index.specs.Frees.{slotOf, grownIf}
+use Rattle.tree_rules.specs.Find.{slotsOf}
 
 abbrev pub links : List ℕ → ℕ → Links
 links cells root = record { cells = cells; root = root }
@@ -73,7 +74,7 @@ module _ (t : Live) (x hash key p : ℕ) where
         → root ≡ rootOf t → first ≡ firstOf t
         → names ≡ rename (rename (t .names) x hashPart hash) x keyPart key
         → c1 ≡ write (t .cells) x place p → c2 ≡ fronted c1 x first
-        → hung ≡ inserted (capacityOf t) (links c2 root) x (placed (capacityOf t) names (links c2 root) hash key)
+        → hung ≡ inserted (slotsOf (t .names)) (links c2 root) x (spotted (slotsOf (t .names)) names (links c2 root) hash key)
         → head ≡ headed (t .head) (hung .root) x (count + 1)
         → record { names = names; cells = hung .cells; head = head } ≡ grownIf t x hash key p
     unfolding grown

@@ -10,7 +10,7 @@ use types.Run.{OneOf}
 use denote.Enum.Declared.{tagOf}
 use Rattle.slots.specs.Words.{null}
 use Rattle.slots.specs.Answers.{Value, some, none, given, refused}
-use Rattle.index_rules.specs.Live.{Live, capacityOf}
+use Rattle.index_rules.specs.Live.{Live}
 use Rattle.index_rules.specs.Sound.{sound}
 use Rattle.index_rules.specs.Index.{Index, index, outcome, fitsIndex, lengthOf, linesOf, appended}
 use Rattle.index_rules.specs.Insert.{freeFrom, lowestFree, soughtIn, grown, inserts}
@@ -21,6 +21,7 @@ use Rattle.index.specs.declared.insert.Inserted.the-variants.{At, Unfit,
 use Rattle.index.proofs.insert.Inserted.{the-type}
 use Rattle.index.proofs.Asking.{Settled, refuses, accepts}
 use Rattle.index.proofs.Room.{slot-some, slot-none}
+use Rattle.tree_rules.specs.Find.{slotsOf}
 
 module _ (ix : Index) (hash key : ℕ) where
   abbrev t : Live
@@ -41,18 +42,18 @@ module _ (ix : Index) (hash key : ℕ) where
       present s p = rw (e, f, s)
 
       module _ (s : soughtIn t hash key ≡ none) where
-        pub full : none ≡ slotOf (freeFrom (capacityOf t) (t .cells) 0) → (p : ℕ) → refused 5 ≡ inserts ix hash key p .answer
+        pub full : none ≡ slotOf (freeFrom (slotsOf (t .names)) (t .cells) 0) → (p : ℕ) → refused 5 ≡ inserts ix hash key p .answer
         unfolding inserts lowestFree
         full v p = rw (e, f, s, slot-none _ v)
 
-        module _ {x : ℕ} (v : some x ≡ slotOf (freeFrom (capacityOf t) (t .cells) 0)) where
+        module _ {x : ℕ} (v : some x ≡ slotOf (freeFrom (slotsOf (t .names)) (t .cells) 0)) where
           pub journal-full : eqb (lengthOf (ix .lines)) (linesOf (ix .lines)) ≡ true → (p : ℕ) → refused 6 ≡ inserts ix hash key p .answer
           unfolding inserts lowestFree
           journal-full l p = rw (e, f, s, slot-some _ _ v .0, l)
 
           pub taken : eqb (lengthOf (ix .lines)) (linesOf (ix .lines)) ≡ false → (p : ℕ) → given x ≡ inserts ix hash key p .answer
           unfolding inserts lowestFree
-          taken l p = let w = slot-some (freeFrom (capacityOf t) (t .cells) 0) x v in rw (e, f, s, w .0, l, w .1)
+          taken l p = let w = slot-some (freeFrom (slotsOf (t .names)) (t .cells) 0) x v in rw (e, f, s, w .0, l, w .1)
 
   module _ (p : ℕ) where
     -- What an accepted insert leaves.

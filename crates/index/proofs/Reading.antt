@@ -6,6 +6,7 @@ use lib.Dec.{eqb}
 use Rattle.slots.specs.Words.{pick}
 use Rattle.slots.specs.Answers.{Value, some, none}
 use Rattle.slots.proofs.Laws.{told-apart}
+use Rattle.slots.proofs.Claims.{answer-one-to-one}
 use Rattle.index.specs.Reads.{foundOf, checkedOf, soundOf}
 use Rattle.index.specs.Reading.{Reading}
 use Rattle.index.specs.declared.find.Found.{Found}
@@ -63,7 +64,7 @@ reading =
       soundness-one-to-one = soundness-one-to-one;
       sound-one = λ t a b p q. soundness-one-to-one a b (p ∙ sym q);
       fit-one = λ t a b p q. p ∙ sym q;
-      word-one = λ head k a b p q. p ∙ sym q;
+      answer-one = λ _ a b p q. answer-one-to-one a b (p ∙ sym q);
       slots-fine-one = λ t n a b p q. p ∙ sym q;
       used-slots-one = λ cells n a b p q. p ∙ sym q;
     }

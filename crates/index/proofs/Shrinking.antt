@@ -8,11 +8,12 @@ use borrow.Author.Tests.{le-leb, lt-leb}
 use Rattle.slots.specs.Words.{null, pick, place, state, parent, left, right, prev, next, free, cell, write, rename, hashPart, keyPart}
 use Rattle.redblack.specs.Links.{Links}
 use Rattle.redblack.specs.Removal.{removed}
-use Rattle.index_rules.specs.Live.{Live, rootOf, firstOf, countOf, capacityOf}
+use Rattle.index_rules.specs.Live.{Live, rootOf, firstOf, countOf}
 use Rattle.index_rules.specs.Insert.{headed}
 use Rattle.index_rules.specs.Remove.{unchained, wiped, shrunk}
 use Rattle.index.specs.Frees.{shrunkIf}
 use Rattle.index.proofs.Growing.{links}
+use Rattle.tree_rules.specs.Find.{slotsOf}
 
 module _ (cells : List ℕ) (x : ℕ) where
   pub unchain : {p q : ℕ} {l1 l2 : List ℕ}
@@ -39,7 +40,7 @@ module _ (t : Live) (x : ℕ) where
       → count ≡ countOf t → fewer ≡ count - 1
       → names ≡ rename (rename (t .names) x hashPart 0) x keyPart 0
       → c1 ≡ unchained (t .cells) x
-      → gone ≡ removed (capacityOf t) (links c1 root) x
+      → gone ≡ removed (slotsOf (t .names)) (links c1 root) x
       → c2 ≡ wiped (gone .cells) x
       → head ≡ headed (t .head) (gone .root) new fewer
       → record { names = names; cells = c2; head = head } ≡ shrunkIf t x

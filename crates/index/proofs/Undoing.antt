@@ -13,7 +13,7 @@ use lib.Dec.{eqb, ltb}
 use borrow.Author.Tests.{eq-eqb, ne-eqb, lt-ltb, le-ltb}
 use Rattle.slots.specs.Words.{null, pick, place, cell}
 use Rattle.slots.specs.Answers.{Value, some, none}
-use Rattle.index_rules.specs.Live.{Live, countOf, capacityOf}
+use Rattle.index_rules.specs.Live.{Live, countOf}
 use Rattle.index_rules.specs.Index.{lineWord, kindWord, hashWord, keyWord, placeWord}
 use Rattle.index_rules.specs.Insert.{freeFrom, lowestFree, soughtIn, headed, grown}
 use Rattle.index_rules.specs.Remove.{shrunk}
@@ -23,6 +23,7 @@ use Rattle.index.specs.Rolls.{undoOf}
 use Rattle.index.specs.declared.lines.Undoing.{Undoing}
 use Rattle.index.specs.declared.lines.Undoing.the-variants.{Done, Misfit}
 use Rattle.index.proofs.Room.{slot-some, slot-none}
+use Rattle.tree_rules.specs.Find.{slotsOf}
 
 -- An insert line: its pair is not there, has another place, or goes.
 module _ (t : Live) (hash key p : ℕ) where
@@ -42,18 +43,18 @@ module _ (t : Live) (hash key p : ℕ) where
   put-there s = rw s
 
   module _ (s : soughtIn t hash key ≡ none) where
-    pub put-full : none ≡ slotOf (freeFrom (capacityOf t) (t .cells) 0) → misfit ≡ putBack t (soughtIn t hash key) hash key p
+    pub put-full : none ≡ slotOf (freeFrom (slotsOf (t .names)) (t .cells) 0) → misfit ≡ putBack t (soughtIn t hash key) hash key p
     unfolding lowestFree
-    put-full v = rw (s, slot-none (freeFrom (capacityOf t) (t .cells) 0) v)
+    put-full v = rw (s, slot-none (freeFrom (slotsOf (t .names)) (t .cells) 0) v)
 
-    module _ {x : ℕ} (v : some x ≡ slotOf (freeFrom (capacityOf t) (t .cells) 0)) where
+    module _ {x : ℕ} (v : some x ≡ slotOf (freeFrom (slotsOf (t .names)) (t .cells) 0)) where
       pub put-wide : 4294967296 ≤ p → misfit ≡ putBack t (soughtIn t hash key) hash key p
       unfolding lowestFree
-      put-wide h = let w = slot-some (freeFrom (capacityOf t) (t .cells) 0) x v in rw (s, w .0, le-ltb p 4294967296 h)
+      put-wide h = let w = slot-some (freeFrom (slotsOf (t .names)) (t .cells) 0) x v in rw (s, w .0, le-ltb p 4294967296 h)
 
       pub put-done : {u : Live} → p < 4294967296 → u ≡ grown t x hash key p → stays u ≡ putBack t (soughtIn t hash key) hash key p
       unfolding lowestFree
-      put-done h g = let w = slot-some (freeFrom (capacityOf t) (t .cells) 0) x v in rw (s, w .0, lt-ltb p 4294967296 h, ← w .1, ← g)
+      put-done h g = let w = slot-some (freeFrom (slotsOf (t .names)) (t .cells) 0) x v in rw (s, w .0, lt-ltb p 4294967296 h, ← w .1, ← g)
 
 -- A line of kind 1, of kind 2, of another kind.
 module _ (t : Live) (lines : List ℕ) (k : ℕ) {kind hash key p : ℕ}

@@ -9,7 +9,7 @@ use Rattle.slots.specs.Words.{null, pick}
 use Rattle.slots.specs.Answers.{Value, none, some}
 use Rattle.tree_rules.specs.Find.{slotsOf}
 use Rattle.tree_rules.specs.Rules.{then, reached, rises, coloured, level, obeyed, treeSize}
-use Rattle.index_rules.specs.Live.{Live, rootOf, countOf, capacityOf}
+use Rattle.index_rules.specs.Live.{Live, rootOf, countOf}
 use Rattle.index_rules.specs.Sound.{leaves, rule1, rule2, rule3, rule4, rule5, rule6, rule7, sound}
 use Rattle.index.specs.Sound.{treeRules}
 
@@ -39,7 +39,7 @@ module _ (t : Live) {root : ℕ} (r : root ≡ rootOf t) where
   unfolding treeSize obeyed rule3 rule4 rule5 rule6
   sized =
       rw r
-      (four (capacityOf t) (countOf t)
+      (four (slotsOf (t .names)) (countOf t)
       (reached (slotsOf (t .names)) (slotsOf (t .names)) (t .cells) null (rootOf t) (slotsOf (t .names)))
       (rises (t .names) (t .cells) (rootOf t))
       (coloured (slotsOf (t .names)) (t .cells) (rootOf t))

@@ -2,7 +2,7 @@
 use mathlib.Core.Path.{_≡_}
 use mathlib.Core.List.{List}
 use Prim.Native.Nat.{ℕ}
-use lib.ListN.{getD, set}
+use lib.ListN.{set}
 use lib.Dec.{eqb}
 use Rattle.slots.specs.Words.{rename, hashPart, keyPart}
 use Rattle.slots.specs.Answers.{OneAnswer}
@@ -20,7 +20,7 @@ pub record Driving : Type 0 where
   pub put-pair-one : (names : List ℕ) (x hash key : ℕ) → OneAnswer (λ l. l ≡ rename (rename names x hashPart hash) x keyPart key)
   pub grow-one : (t : Live) (x hash key p : ℕ) → OneAnswer (λ u. u ≡ grownIf t x hash key p)
   pub shrink-one : (t : Live) (x : ℕ) → OneAnswer (λ u. u ≡ shrunkIf t x)
-  pub word-one : (lines : List ℕ) (i : ℕ) → OneAnswer (λ r. r ≡ getD lines i 0)
+  pub length-of-one : (lines : List ℕ) → OneAnswer (λ r. r ≡ lengthOf lines)
   pub fit-journal-one : (lines : List ℕ) → OneAnswer (λ r. r ≡ fitsJournal lines)
   pub is-full-one : (lines : List ℕ) → OneAnswer (λ r. r ≡ eqb (lengthOf lines) (linesOf lines))
   pub line-word-one : (lines : List ℕ) (k f : ℕ) → OneAnswer (λ r. r ≡ lineWord lines k f)

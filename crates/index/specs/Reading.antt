@@ -2,9 +2,8 @@
 use mathlib.Core.Path.{_≡_}
 use mathlib.Core.List.{List}
 use Prim.Native.Nat.{ℕ}
-use lib.ListN.{getD}
-use Rattle.slots.specs.Words.{null}
-use Rattle.slots.specs.Answers.{OneAnswer}
+use Rattle.slots.specs.Answers.{Answer, OneAnswer}
+use Rattle.slots.specs.Coded.{answerOf}
 use Rattle.index_rules.specs.Live.{Live, fits}
 use Rattle.index_rules.specs.Find.{finds}
 use Rattle.index_rules.specs.Check.{checks}
@@ -23,6 +22,6 @@ pub record Reading : Type 0 where
   pub soundness-one-to-one : (a b : Soundness) → soundOf a ≡ soundOf b → a ≡ b
   pub sound-one : (t : Live) → OneAnswer (λ r. soundOf r ≡ sounds t)
   pub fit-one : (t : Live) → OneAnswer (λ r. r ≡ fits t)
-  pub word-one : (head : List ℕ) (k : ℕ) → OneAnswer (λ r. r ≡ getD head k null)
+  pub answer-one : (a : Answer) → OneAnswer (λ r. answerOf r ≡ a)
   pub slots-fine-one : (t : Live) (n : ℕ) → OneAnswer (λ r. r ≡ slotsFine n n t)
   pub used-slots-one : (cells : List ℕ) (n : ℕ) → OneAnswer (λ r. r ≡ tally n (used cells))

@@ -1,19 +1,8 @@
 // Whether lent slices are a live tree's: their lengths, and a capacity of 1 to 4,096 slots.
 use slots::MOST_SLOTS;
-use slots::NULL;
 ghost use mathlib.Core.Path.{_≡_};
-ghost use Prim.Native.Nat.{ℕ};
-ghost use lib.ListN.{getD};
-ghost use Rattle.slots.specs.Words.{null};
 ghost use Rattle.index_rules.specs.Live.{fits, lentTree};
 ghost use Rattle.index_rules.specs.Index.{lent};
-
-// The words of the header, by their place.
-pub const ROOT: usize = 0;
-
-pub const FIRST: usize = 1;
-
-pub const COUNT: usize = 2;
 
 // Whether the three slices are a live tree's: their lengths agree, and the capacity is 1 to 4,096.
 pub fn fit(names: &[u64], cells: &[u32], head: &[u32]) -> bool
@@ -36,11 +25,4 @@ pub fn fit(names: &[u64], cells: &[u32], head: &[u32]) -> bool
         return false;
     }
     true
-}
-
-// Word k of the header; null where there is no such word.
-pub fn word(head: &[u32], k: usize) -> u32
-    ensures { λ r. ⌜ r ≡ getD (now (head .entry)) k null ⌝ }
-{
-    if k < head.len() { head[k] } else { NULL }
 }

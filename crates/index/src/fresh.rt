@@ -6,7 +6,11 @@ use crate::journal::cut;
 use crate::shrink::wipe;
 use slots::MOST_LINES;
 use slots::NULL;
+use slots::answer::Answer;
+use slots::answer::given;
+use slots::answer::refused;
 ghost use mathlib.Core.Path.{_≡_};
+ghost use Rattle.slots.specs.Coded.{answerOf};
 ghost use lib.ListN.{length};
 ghost use Prim.Native.Nat.{_≤_, _*_};
 ghost use Rattle.index_rules.specs.Live.{lentTree};
@@ -18,6 +22,18 @@ ghost use Rattle.index.specs.Fresh.{freshOf};
 pub enum Freshness {
     Made,
     Unfit,
+}
+
+impl Freshness {
+    // The number and the value.
+    pub fn answer(self) -> Answer
+        ensures { λ r. ⌜ answerOf r ≡ (freshOf self) ⌝ }
+    {
+        match self {
+            Freshness::Made => given(1),
+            Freshness::Unfit => refused(1),
+        }
+    }
 }
 
 // Whether the slices are as long as an index's.

@@ -1,9 +1,7 @@
 // A free slot takes a pair and its place: "insert" after the check.
-use crate::fit::COUNT;
-use crate::fit::FIRST;
-use crate::fit::ROOT;
-use crate::fit::word;
 use links::hang::hang_slot;
+use slots::COUNT;
+use slots::FIRST;
 use slots::FREE;
 use slots::HASH;
 use slots::KEY;
@@ -12,10 +10,13 @@ use slots::NEXT;
 use slots::NULL;
 use slots::PLACE;
 use slots::PREV;
+use slots::ROOT;
 use slots::STATE;
 use slots::get;
 use slots::put;
 use slots::put_name;
+use slots::put_word;
+use slots::word;
 ghost use mathlib.Core.Path.{_≡_};
 ghost use lib.ListN.{set};
 ghost use Rattle.slots.specs.Words.{rename, hashPart, keyPart};
@@ -53,15 +54,6 @@ fn front(cells: &mut [u32], x: u32, first: u32)
     put(cells, first, PREV, x);
 }
 
-// Writes word k of the header; nothing where there is no such word.
-fn put_word(head: &mut [u32], k: usize, v: u32)
-    ensures { λ _. ⌜ now (head .exit) ≡ set (now (head .entry)) k v ⌝ }
-{
-    if k < head.len() {
-        head[k] = v;
-    }
-}
-
 // The header holds root, first and the count.
 pub fn head_put(head: &mut [u32], root: u32, first: u32, count: u32)
     ensures { λ _. ⌜ now (head .exit) ≡ headed (now (head .entry)) root first count ⌝ }
@@ -96,13 +88,13 @@ pub fn grow(
     if MOST_NAMES < names.len() {
         return;
     }
-    let count = word(head, COUNT);
+    let count = word(head, COUNT, NULL);
     if count == NULL {
         return;
     }
     let n = (names.len() / 2) as u32;
-    let root = word(head, ROOT);
-    let first = word(head, FIRST);
+    let root = word(head, ROOT, NULL);
+    let first = word(head, FIRST, NULL);
     let more = count + 1;
     put_pair(names, x, hash, key);
     put(cells, x, PLACE, place);

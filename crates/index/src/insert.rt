@@ -1,6 +1,4 @@
 // insert: a pair with its place joins the tree, and the journal takes a line.
-use crate::fit::ROOT;
-use crate::fit::word;
 use crate::fit_index::Fitness;
 use crate::fit_index::fit_index;
 use crate::grow::Free;
@@ -11,9 +9,17 @@ use crate::journal::append;
 use crate::journal::is_full;
 use crate::sound::Soundness;
 use crate::sound::sound;
+use slots::NULL;
+use slots::ROOT;
+use slots::answer::Answer;
+use slots::answer::Value;
+use slots::answer::given;
+use slots::answer::refused;
+use slots::word;
 use tree::find::Found;
 use tree::find::find_tree_node;
 ghost use mathlib.Core.Path.{_≡_};
+ghost use Rattle.slots.specs.Coded.{answerOf};
 ghost use Prim.Native.Nat.{ℕ};
 ghost use Rattle.index_rules.specs.Index.{lent, outcome};
 ghost use Rattle.index_rules.specs.Insert.{inserts};
@@ -29,6 +35,25 @@ pub enum Inserted {
     JournalFull, // 6
 }
 
+impl Inserted {
+    // The number and the value.
+    pub fn answer(self) -> Answer
+        ensures { λ r. ⌜ answerOf r ≡ (insertedOf self) ⌝ }
+    {
+        match self {
+            Inserted::At(slot) => given(slot),
+            Inserted::Unfit => refused(1),
+            Inserted::Damaged => refused(2),
+            Inserted::Present(slot) => Answer {
+                number: 3,
+                value: Value::Some(slot),
+            },
+            Inserted::Full => refused(5),
+            Inserted::JournalFull => refused(6),
+        }
+    }
+}
+
 // What insert answers, before anything is written: the tests 1, 2, 3, 5, 6 in turn, else the slot that the pair takes.
 fn ask(names: &[u64], cells: &[u32], head: &[u32], lines: &[u64], hash: u64, key: u64) -> Inserted
     ensures { λ r. ⌜ ((p : ℕ) → insertedOf r
@@ -42,7 +67,7 @@ fn ask(names: &[u64], cells: &[u32], head: &[u32], lines: &[u64], hash: u64, key
     let Soundness::Yes = verdict else {
         return Inserted::Damaged;
     };
-    let root = word(head, ROOT);
+    let root = word(head, ROOT, NULL);
     let found = find_tree_node(names, cells, root, hash, key);
     let Found::At(slot) = found else {
         let free = lowest_free(cells, (names.len() / 2) as u32);

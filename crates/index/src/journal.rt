@@ -1,7 +1,9 @@
 // A journal's words: word 0 is its length, then come four words to a line. Only this file knows a line's width.
 use slots::MOST_LINES;
+use slots::put_wide;
+use slots::wide;
 ghost use mathlib.Core.Path.{_≡_};
-ghost use lib.ListN.{getD, set};
+ghost use lib.ListN.{set};
 ghost use lib.Dec.{eqb};
 ghost use Rattle.index_rules.specs.Index.{fitsJournal, lengthOf, linesOf, lineWord, lined};
 ghost use Rattle.index_rules.specs.Rollback.{blanked};
@@ -21,20 +23,11 @@ pub const INSERT: u64 = 1;
 
 pub const REMOVE: u64 = 2;
 
-// Word i; 0 where there is no such word.
-pub fn word(lines: &[u64], i: usize) -> u64
-    ensures { λ r. ⌜ r ≡ getD (now (lines .entry)) i 0 ⌝ }
+// How many lines there are.
+pub fn length_of(lines: &[u64]) -> u64
+    ensures { λ r. ⌜ r ≡ lengthOf (now (lines .entry)) ⌝ }
 {
-    if i < lines.len() { lines[i] } else { 0 }
-}
-
-// Writes word i; nothing where there is no such word.
-fn put_word(lines: &mut [u64], i: usize, v: u64)
-    ensures { λ _. ⌜ now (lines .exit) ≡ set (now (lines .entry)) i v ⌝ }
-{
-    if i < lines.len() {
-        lines[i] = v;
-    }
+    wide(lines, 0)
 }
 
 // Whether the words are a journal's: a capacity of 0 to 1,024 lines, and a length that does not pass it.
@@ -52,7 +45,7 @@ pub fn fit_journal(lines: &[u64]) -> bool
     if n != 1 + 4 * capacity {
         return false;
     }
-    let length = word(lines, 0);
+    let length = length_of(lines);
     length <= capacity as u64
 }
 
@@ -61,7 +54,7 @@ pub fn is_full(lines: &[u64]) -> bool
     ensures { λ r. ⌜ r ≡ eqb (lengthOf (now (lines .entry))) (linesOf (now (lines .entry))) ⌝ }
 {
     let n = lines.len();
-    let length = word(lines, 0);
+    let length = length_of(lines);
     if n < 1 {
         return length == 0;
     }
@@ -74,7 +67,7 @@ pub fn line_word(lines: &[u64], k: usize, f: u32) -> u64
     ensures { λ r. ⌜ r ≡ lineWord (now (lines .entry)) k f ⌝ }
 {
     if k < lines.len() {
-        word(lines, 1 + 4 * k + f as usize)
+        wide(lines, 1 + 4 * k + f as usize)
     } else {
         0
     }
@@ -88,22 +81,22 @@ fn put_line(lines: &mut [u64], k: usize, kind: u64, hash: u64, key: u64, place: 
         return;
     }
     let at = 1 + 4 * k;
-    put_word(lines, at, kind);
-    put_word(lines, at + 1, hash);
-    put_word(lines, at + 2, key);
-    put_word(lines, at + 3, place);
+    put_wide(lines, at, kind);
+    put_wide(lines, at + 1, hash);
+    put_wide(lines, at + 2, key);
+    put_wide(lines, at + 3, place);
 }
 
-// Each accepted insert or remove appends a line. Nothing where the length passes 1,024.
+// Each accepted insert or remove appends a line. Nothing where the length passes the limit.
 pub fn append(lines: &mut [u64], kind: u64, hash: u64, key: u64, place: u32)
     ensures { λ _. ⌜ now (lines .exit) ≡ appendedIf (now (lines .entry)) kind hash key place ⌝ }
 {
-    let length = word(lines, 0);
-    if 1024 < length {
+    let length = length_of(lines);
+    if (MOST_LINES as u64) < length {
         return;
     }
     put_line(lines, length as usize, kind, hash, key, place as u64);
-    put_word(lines, 0, length + 1);
+    put_wide(lines, 0, length + 1);
 }
 
 // So many lines from m on are cleared to zero.
@@ -122,5 +115,5 @@ pub fn cut(lines: &mut [u64], m: u32, count: u32)
     ensures { λ _. ⌜ now (lines .exit) ≡ set (blanked count (now (lines .entry)) m) 0 m ⌝ }
 {
     blank(lines, m, count);
-    put_word(lines, 0, m as u64);
+    put_wide(lines, 0, m as u64);
 }

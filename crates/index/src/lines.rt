@@ -1,6 +1,4 @@
 // A line of the journal is undone on the tree by the same drivers.
-use crate::fit::ROOT;
-use crate::fit::word;
 use crate::grow::Free;
 use crate::grow::grow;
 use crate::grow::lowest_free;
@@ -12,8 +10,11 @@ use crate::journal::LINE_PLACE;
 use crate::journal::REMOVE;
 use crate::journal::line_word;
 use crate::shrink::shrink;
+use slots::NULL;
 use slots::PLACE;
+use slots::ROOT;
 use slots::get;
+use slots::word;
 use tree::find::Found;
 use tree::find::find_tree_node;
 ghost use mathlib.Core.Path.{_≡_};
@@ -45,7 +46,7 @@ fn take_back(
         ≡ takenBack (lentTree (now (names .entry)) (now (cells .entry)) (now (head .entry)))
         (soughtIn (lentTree (now (names .entry)) (now (cells .entry)) (now (head .entry))) hash key) place ⌝ }
 {
-    let root = word(head, ROOT);
+    let root = word(head, ROOT, NULL);
     let found = find_tree_node(names, cells, root, hash, key);
     let Found::At(x) = found else {
         return Undoing::Misfit;
@@ -74,7 +75,7 @@ fn put_back(
         ≡ putBack (lentTree (now (names .entry)) (now (cells .entry)) (now (head .entry)))
         (soughtIn (lentTree (now (names .entry)) (now (cells .entry)) (now (head .entry))) hash key) hash key place ⌝ }
 {
-    let root = word(head, ROOT);
+    let root = word(head, ROOT, NULL);
     let found = find_tree_node(names, cells, root, hash, key);
     let Found::At(_) = found else {
         let free = lowest_free(cells, (names.len() / 2) as u32);

@@ -1,6 +1,4 @@
 // remove: a pair leaves the tree, and the journal takes a line.
-use crate::fit::ROOT;
-use crate::fit::word;
 use crate::fit_index::Fitness;
 use crate::fit_index::fit_index;
 use crate::journal::REMOVE;
@@ -9,11 +7,18 @@ use crate::journal::is_full;
 use crate::shrink::shrink;
 use crate::sound::Soundness;
 use crate::sound::sound;
+use slots::NULL;
 use slots::PLACE;
+use slots::ROOT;
+use slots::answer::Answer;
+use slots::answer::given;
+use slots::answer::refused;
 use slots::get;
+use slots::word;
 use tree::find::Found;
 use tree::find::find_tree_node;
 ghost use mathlib.Core.Path.{_≡_};
+ghost use Rattle.slots.specs.Coded.{answerOf};
 ghost use Rattle.index_rules.specs.Index.{lent, outcome};
 ghost use Rattle.index_rules.specs.Remove.{removes};
 ghost use Rattle.index.specs.Calls.{removedOf};
@@ -25,6 +30,21 @@ pub enum Removed {
     Damaged, // 2
     Absent, // 4
     JournalFull, // 6
+}
+
+impl Removed {
+    // The number and the value.
+    pub fn answer(self) -> Answer
+        ensures { λ r. ⌜ answerOf r ≡ (removedOf self) ⌝ }
+    {
+        match self {
+            Removed::At(slot) => given(slot),
+            Removed::Unfit => refused(1),
+            Removed::Damaged => refused(2),
+            Removed::Absent => refused(4),
+            Removed::JournalFull => refused(6),
+        }
+    }
 }
 
 // What remove answers, before anything is written: the tests 1, 2, 4, 6 in turn, else the slot that the pair frees.
@@ -40,7 +60,7 @@ fn ask(names: &[u64], cells: &[u32], head: &[u32], lines: &[u64], hash: u64, key
     let Soundness::Yes = verdict else {
         return Removed::Damaged;
     };
-    let root = word(head, ROOT);
+    let root = word(head, ROOT, NULL);
     let found = find_tree_node(names, cells, root, hash, key);
     let Found::At(x) = found else {
         return Removed::Absent;

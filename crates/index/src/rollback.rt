@@ -1,22 +1,27 @@
 // rollback: the lines above a mark are undone, from the last down, and cleared.
 use crate::backup::copy_cells;
 use crate::backup::copy_names;
-use crate::fit::COUNT;
-use crate::fit::FIRST;
-use crate::fit::ROOT;
-use crate::fit::word;
 use crate::fit_index::Fitness;
 use crate::fit_index::fit_index;
 use crate::grow::head_put;
 use crate::journal::cut;
-use crate::journal::word as journal_word;
+use crate::journal::length_of;
 use crate::lines::Undoing;
 use crate::lines::unroll;
 use crate::sound::Soundness;
 use crate::sound::sound;
+use slots::COUNT;
+use slots::FIRST;
 use slots::MOST_CELLS;
 use slots::MOST_NAMES;
+use slots::NULL;
+use slots::ROOT;
+use slots::answer::Answer;
+use slots::answer::given;
+use slots::answer::refused;
+use slots::word;
 ghost use mathlib.Core.Path.{_≡_};
+ghost use Rattle.slots.specs.Coded.{answerOf};
 ghost use Prim.Native.Nat.{_+_, _≤_, _<_};
 ghost use lib.ListN.{length, getD};
 ghost use Rattle.slots.specs.Words.{null, mostNames};
@@ -35,6 +40,21 @@ pub enum RolledBack {
     Misfit, // 8
 }
 
+impl RolledBack {
+    // The number and the value.
+    pub fn answer(self) -> Answer
+        ensures { λ r. ⌜ answerOf r ≡ (rolledOf self) ⌝ }
+    {
+        match self {
+            RolledBack::Lines(count) => given(count),
+            RolledBack::Unfit => refused(1),
+            RolledBack::Damaged => refused(2),
+            RolledBack::BadMark => refused(7),
+            RolledBack::Misfit => refused(8),
+        }
+    }
+}
+
 // What rollback answers before it looks at a line: the tests 1, 2, 7 in turn, else the number of lines to undo.
 fn ask(names: &[u64], cells: &[u32], head: &[u32], lines: &[u64], mark: u32) -> RolledBack
     ensures { λ r. ⌜ rolledOf r ≡ opened (lent (now (names .entry)) (now (cells .entry)) (now (head .entry)) (now (lines .entry))) mark ⌝ }
@@ -47,7 +67,7 @@ fn ask(names: &[u64], cells: &[u32], head: &[u32], lines: &[u64], mark: u32) -> 
     let Soundness::Yes = verdict else {
         return RolledBack::Damaged;
     };
-    let length = journal_word(lines, 0);
+    let length = length_of(lines);
     if length < mark as u64 {
         return RolledBack::BadMark;
     }
@@ -77,9 +97,9 @@ fn undo(
     let mut old_cells = [0u32; MOST_CELLS];
     copy_names(names, &mut old_names, names.len());
     copy_cells(cells, &mut old_cells, cells.len());
-    let root = word(head, ROOT);
-    let first = word(head, FIRST);
-    let entries = word(head, COUNT);
+    let root = word(head, ROOT, NULL);
+    let first = word(head, FIRST, NULL);
+    let entries = word(head, COUNT, NULL);
     let unrolled = unroll(names, cells, head, lines, m, count);
     let Undoing::Done = unrolled else {
         let n = names.len();

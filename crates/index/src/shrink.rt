@@ -1,11 +1,9 @@
 // A slot leaves the tree: "remove" after the check.
-use crate::fit::COUNT;
-use crate::fit::FIRST;
-use crate::fit::ROOT;
-use crate::fit::word;
 use crate::grow::head_put;
 use crate::grow::put_pair;
 use links::unlink::unlink_slot;
+use slots::COUNT;
+use slots::FIRST;
 use slots::FREE;
 use slots::LEFT;
 use slots::MOST_NAMES;
@@ -15,9 +13,11 @@ use slots::PARENT;
 use slots::PLACE;
 use slots::PREV;
 use slots::RIGHT;
+use slots::ROOT;
 use slots::STATE;
 use slots::get;
 use slots::put;
+use slots::word;
 ghost use mathlib.Core.Path.{_≡_};
 ghost use Prim.Native.Nat.{_-_};
 ghost use lib.Dec.{eqb};
@@ -77,9 +77,9 @@ pub fn shrink(names: &mut [u64], cells: &mut [u32], head: &mut [u32], x: u32)
         return;
     }
     let n = (names.len() / 2) as u32;
-    let root = word(head, ROOT);
-    let first = new_first(cells, word(head, FIRST), x);
-    let count = one_less(word(head, COUNT));
+    let root = word(head, ROOT, NULL);
+    let first = new_first(cells, word(head, FIRST, NULL), x);
+    let count = one_less(word(head, COUNT, NULL));
     put_pair(names, x, 0, 0);
     unchain(cells, x);
     let top = unlink_slot(cells, root, x, n);

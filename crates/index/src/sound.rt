@@ -1,9 +1,7 @@
 // The full check of a live tree: T1 to T7, where one walk of the tree answers for T3 to T6.
-use crate::fit::COUNT;
-use crate::fit::FIRST;
-use crate::fit::ROOT;
 use crate::fit::fit;
-use crate::fit::word;
+use slots::COUNT;
+use slots::FIRST;
 use slots::FREE;
 use slots::HASH;
 use slots::KEY;
@@ -15,9 +13,14 @@ use slots::PLACE;
 use slots::PREV;
 use slots::RED;
 use slots::RIGHT;
+use slots::ROOT;
 use slots::STATE;
+use slots::answer::Answer;
+use slots::answer::given;
+use slots::answer::refused;
 use slots::get;
 use slots::name;
+use slots::word;
 use tree::chain::chain;
 use tree::check::in_range;
 use tree::check::links_in;
@@ -25,6 +28,7 @@ use tree::rules::Rest;
 use tree::rules::Size;
 use tree::rules::tree_size;
 ghost use mathlib.Core.Path.{_≡_};
+ghost use Rattle.slots.specs.Coded.{answerOf};
 ghost use mathlib.Core.Bool.{true, false};
 ghost use mathlib.Core.List.{[]};
 ghost use Prim.Native.Nat.{_≤_};
@@ -145,15 +149,15 @@ fn rule1(names: &[u64], cells: &[u32], head: &[u32]) -> bool
     if !fine {
         return false;
     }
-    let root = in_range(n, word(head, ROOT));
+    let root = in_range(n, word(head, ROOT, NULL));
     if !root {
         return false;
     }
-    let first = in_range(n, word(head, FIRST));
+    let first = in_range(n, word(head, FIRST, NULL));
     if !first {
         return false;
     }
-    let count = word(head, COUNT);
+    let count = word(head, COUNT, NULL);
     let counted = used_slots(cells, n as u32);
     if count != counted {
         return false;
@@ -181,12 +185,12 @@ fn null_if_none(link: u32, count: u32) -> bool
 fn rule2(head: &[u32]) -> bool
     ensures { λ r. ⌜ r ≡ obeys2 (lentTree [] [] (now (head .entry))) ⌝ }
 {
-    let count = word(head, COUNT);
-    let root = null_if_none(word(head, ROOT), count);
+    let count = word(head, COUNT, NULL);
+    let root = null_if_none(word(head, ROOT, NULL), count);
     if !root {
         return false;
     }
-    null_if_none(word(head, FIRST), count)
+    null_if_none(word(head, FIRST, NULL), count)
 }
 
 // T3 to T6 in one walk: the tree from the root obeys them, and has as many slots as the count says.
@@ -195,12 +199,12 @@ fn rules_of_the_tree(names: &[u64], cells: &[u32], head: &[u32]) -> bool
         r ≡ treeRules (record { names = now (names .entry); cells = now (cells .entry); head = now (head .entry) })
         ⌝ }
 {
-    let root = word(head, ROOT);
+    let root = word(head, ROOT, NULL);
     let size = tree_size(names, cells, root);
     let Size::Slots(m) = size else {
         return false;
     };
-    let count = word(head, COUNT);
+    let count = word(head, COUNT, NULL);
     if m != count as usize {
         return false;
     }
@@ -226,7 +230,7 @@ fn rule7(names: &[u64], cells: &[u32], head: &[u32]) -> bool
     ensures { λ r. ⌜ r ≡ obeys7 (lentTree (now (names .entry)) (now (cells .entry)) (now (head .entry))) ⌝ }
 {
     let n = names.len() / 2;
-    let first = word(head, FIRST);
+    let first = word(head, FIRST, NULL);
     let occupied = not_free(cells, first);
     if !occupied {
         return false;
@@ -235,7 +239,7 @@ fn rule7(names: &[u64], cells: &[u32], head: &[u32]) -> bool
     let Rest::Left(rest) = walk else {
         return false;
     };
-    let count = word(head, COUNT);
+    let count = word(head, COUNT, NULL);
     if n - rest != count as usize {
         return false;
     }
@@ -267,6 +271,19 @@ pub enum Soundness {
     Yes,
     No,
     Unfit, // 1
+}
+
+impl Soundness {
+    // The number and the value.
+    pub fn answer(self) -> Answer
+        ensures { λ r. ⌜ answerOf r ≡ (soundOf self) ⌝ }
+    {
+        match self {
+            Soundness::Yes => given(1),
+            Soundness::No => given(0),
+            Soundness::Unfit => refused(1),
+        }
+    }
 }
 
 // Whether the tree is sound, by the full check of T1 to T7. Unfit where the slices are not a live tree's.

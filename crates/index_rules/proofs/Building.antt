@@ -15,10 +15,11 @@ use Rattle.tree_rules.specs.Chain.{Chain, ended, linked}
 use Rattle.tree_rules.proofs.Counting.{times-cases, times-around, exactly-length}
 use Rattle.tree_rules.proofs.Reaching.{length-node, hangs-stand, hangs-inside}
 use Rattle.tree_rules.proofs.Chaining.{chain-inside}
-use Rattle.index_rules.specs.Live.{Live, Fit, rootOf, firstOf, countOf, capacityOf}
+use Rattle.index_rules.specs.Live.{Live, Fit, rootOf, firstOf, countOf}
 use Rattle.index_rules.specs.Sound.{Sound, used, Cleared}
 use Rattle.index_rules.proofs.Built.{Built}
 use Rattle.index_rules.proofs.Rules.{small, used-hued}
+use Rattle.tree_rules.specs.Find.{slotsOf}
 
 -- The links of a slot of a tree name slots.
 pub record TreeLinks (n : ℕ) (cells : List ℕ) (k : ℕ) : Type 0 where
@@ -59,7 +60,7 @@ hue-used black = omega arith
 hue-used red = omega arith
 
 module _ {t : Live} (fit : Fit t) (b : Built t) where
-  member : (k : ℕ) → k < capacityOf t → (P : Type 0) → (times k (slots (b .tree)) ≡ 0 → P) → (1 ≤ times k (slots (b .tree)) → P) → P
+  member : (k : ℕ) → k < slotsOf (t .names) → (P : Type 0) → (times k (slots (b .tree)) ≡ 0 → P) → (1 ≤ times k (slots (b .tree)) → P) → P
   member k l P none some = go (ℕ-discrete (times k (slots (b .tree))) 0)
     where
       go : Dec (times k (slots (b .tree)) ≡ 0) → P
@@ -67,49 +68,49 @@ module _ {t : Live} (fit : Fit t) (b : Built t) where
       go (no d) = some (omega arith)
 
   -- A slot is used exactly where it stands in the tree.
-  uses : (k : ℕ) → k < capacityOf t → used (t .cells) k ≡ times k (slots (b .tree))
+  uses : (k : ℕ) → k < slotsOf (t .names) → used (t .cells) k ≡ times k (slots (b .tree))
   uses k l =
       member k l (used (t .cells) k ≡ times k (slots (b .tree)))
       (λ e. (let z : used (t .cells) k ≡ 0 = rw (eq-eqb (cell (t .cells) k state) free (b .others k l e .0)) in omega arith))
-      (λ y. (let s = hangs-stand (capacityOf t) (t .cells) (b .rooted .hangs) y in
+      (λ y. (let s = hangs-stand (slotsOf (t .names)) (t .cells) (b .rooted .hangs) y in
       omega (arith, used-hued (t .cells) k (s .hue) (s .words .hued), b .rooted .once k)))
 
-  links : (k : ℕ) → k < capacityOf t → LinksNamed (capacityOf t) (t .cells) k
+  links : (k : ℕ) → k < slotsOf (t .names) → LinksNamed (slotsOf (t .names)) (t .cells) k
   links k l =
-      member k l (LinksNamed (capacityOf t) (t .cells) k)
+      member k l (LinksNamed (slotsOf (t .names)) (t .cells) k)
       (λ e. (let c = b .others k l e .1 in
       record { parents = inl (c .parents); lefts = inl (c .lefts); rights = inl (c .rights); prevs = inl (c .prevs); nexts = inl (c .nexts) }))
       (λ y. (let h = hangs-links k (inl refl) (b .rooted .hangs) y in
       let c = chain-links k (inl refl) (b .linked) (omega (arith, b .same k l)) in
       record { parents = h .parents; lefts = h .lefts; rights = h .rights; prevs = c .0; nexts = c .1 }))
 
-  states : (k : ℕ) → k < capacityOf t → cell (t .cells) k state ≤ 2
+  states : (k : ℕ) → k < slotsOf (t .names) → cell (t .cells) k state ≤ 2
   states k l =
       member k l (cell (t .cells) k state ≤ 2) (λ e. omega (arith, b .others k l e .0))
-      (λ y. (let s = hangs-stand (capacityOf t) (t .cells) (b .rooted .hangs) y in omega (arith, s .words .hued, hue-most (s .hue))))
+      (λ y. (let s = hangs-stand (slotsOf (t .names)) (t .cells) (b .rooted .hangs) y in omega (arith, s .words .hued, hue-most (s .hue))))
 
-  cleared : (k : ℕ) → k < capacityOf t → cell (t .cells) k state ≡ free → Cleared t k
+  cleared : (k : ℕ) → k < slotsOf (t .names) → cell (t .cells) k state ≡ free → Cleared t k
   cleared k l z =
       member k l (Cleared t k) (λ e. b .others k l e .1)
-      (λ y. (let s = hangs-stand (capacityOf t) (t .cells) (b .rooted .hangs) y in absurd (hue-used (s .hue) (sym (s .words .hued) ∙ z))))
+      (λ y. (let s = hangs-stand (slotsOf (t .names)) (t .cells) (b .rooted .hangs) y in absurd (hue-used (s .hue) (sym (s .words .hued) ∙ z))))
 
-  tree-inside : (k : ℕ) → 1 ≤ times k (slots (b .tree)) → k < capacityOf t
-  tree-inside k z = hangs-inside (capacityOf t) (t .cells) (b .rooted .hangs) z
+  tree-inside : (k : ℕ) → 1 ≤ times k (slots (b .tree)) → k < slotsOf (t .names)
+  tree-inside k z = hangs-inside (slotsOf (t .names)) (t .cells) (b .rooted .hangs) z
 
-  tallied : length (slots (b .tree)) ≡ Rattle.tree_rules.specs.Chain.tally (capacityOf t) (used (t .cells))
-  tallied = exactly-length (capacityOf t) (slots (b .tree)) tree-inside (used (t .cells)) uses
+  tallied : length (slots (b .tree)) ≡ Rattle.tree_rules.specs.Chain.tally (slotsOf (t .names)) (used (t .cells))
+  tallied = exactly-length (slotsOf (t .names)) (slots (b .tree)) tree-inside (used (t .cells)) uses
 
   chained-same : length (b .chain) ≡ length (slots (b .tree))
   chained-same =
-      exactly-length (capacityOf t) (b .chain) (λ k z. chain-inside (capacityOf t) (t .cells) (b .linked) z) (used (t .cells)) (λ k l. uses k l ∙ b .same k l)
+      exactly-length (slotsOf (t .names)) (b .chain) (λ k z. chain-inside (slotsOf (t .names)) (t .cells) (b .linked) z) (used (t .cells)) (λ k l. uses k l ∙ b .same k l)
       ∙ sym tallied
 
-  root-null : (u : Tree) → {q : ℕ} → Hangs (capacityOf t) (t .cells) q u → (top u ≡ null) ↔ (length (slots u) ≡ 0)
+  root-null : (u : Tree) → {q : ℕ} → Hangs (slotsOf (t .names)) (t .cells) q u → (top u ≡ null) ↔ (length (slots u) ≡ 0)
   unfolding slots
   root-null leaf hangsNone = (λ e. refl, λ e. refl)
   root-null (node c l i r) (hangsSome k x y) = (λ e. absurd (omega (arith, k .inside, small fit)), λ e. absurd (omega (arith, length-node c l i r)))
 
-  first-null : {q i : ℕ} {l : List ℕ} → Chain (capacityOf t) (t .cells) q i l → (i ≡ null) ↔ (length l ≡ 0)
+  first-null : {q i : ℕ} {l : List ℕ} → Chain (slotsOf (t .names)) (t .cells) q i l → (i ≡ null) ↔ (length l ≡ 0)
   first-null (ended e) = (λ z. refl, λ z. e)
   first-null (linked w p c) = (λ e. absurd (omega (arith, small fit)), λ e. absurd (omega arith))
 

@@ -11,7 +11,7 @@ use Rattle.slots.specs.Words.{place, cell}
 use Rattle.slots.specs.Answers.{given}
 use Rattle.tree_rules.specs.Tree.{Tree}
 use Rattle.redblack.specs.Holding.{Has, Stands}
-use Rattle.index_rules.specs.Live.{capacityOf}
+use Rattle.tree_rules.specs.Find.{slotsOf}
 use Rattle.index_rules.specs.Sound.{Sound}
 use Rattle.index_rules.specs.Index.{Index, FitIndex, lengthOf, lineWord, at, kindWord, hashWord, keyWord, placeWord}
 use Rattle.index_rules.specs.Insert.{inserts}
@@ -61,17 +61,17 @@ module _ (ix : Index) (h : Sound (ix .live)) where
   abbrev mark : ℕ
   mark = lengthOf (ix .lines)
 
-  abbrev slotsIn : ℕ
-  slotsIn = capacityOf (ix .live)
+  abbrev slotCount : ℕ
+  slotCount = slotsOf (ix .live .names)
 
   -- What holds after any calls.
   record Good (jx : Index) : Type 0 where
     fit : FitIndex jx
     sound : Sound (jx .live)
-    capacity : capacityOf (jx .live) ≡ slotsIn
+    capacity : slotsOf (jx .live .names) ≡ slotCount
     above : mark ≤ lengthOf (jx .lines)
     kept : (j : ℕ) → 0 < j → j < at mark 0 → getD (jx .lines) j 0 ≡ getD (ix .lines) j 0
-    undoes : Undoes slotsIn (jx .lines) mark (lengthOf (jx .lines)) (contents sound) (contents h)
+    undoes : Undoes slotCount (jx .lines) mark (lengthOf (jx .lines)) (contents sound) (contents h)
     places : Places (contents sound)
 
   -- A line appended that takes the change back.
@@ -89,8 +89,8 @@ module _ (ix : Index) (h : Sound (ix .live)) where
       let here : In (lineEntry lines′ k) (contents s) = rw (line-entry o, d .2) (in-put (entry hash key p) (contents (g .sound))) in
       let less : without (lineWord lines′ k hashWord) (lineWord lines′ k keyWord) (contents s) ≡ contents (g .sound) =
       ap (λ (e : Entry). without (e .hash) (e .key) (contents s)) (line-entry o) ∙ ap (without hash key) (d .2) ∙ without-put (entry hash key p) (contents (g .sound)) lacks in
-      let older : Undoes slotsIn lines′ mark k (contents (g .sound)) (contents h) = undoes-frame lines′ (λ j a b. line-same o j b) (g .undoes) in
-      let all : Undoes slotsIn lines′ mark (suc k) (contents s) (contents h) = insertLine (g .above) (o .kinds) here (subst (λ (l : List Entry). Undoes slotsIn lines′ mark k l (contents h)) (sym less) older) in
+      let older : Undoes slotCount lines′ mark k (contents (g .sound)) (contents h) = undoes-frame lines′ (λ j a b. line-same o j b) (g .undoes) in
+      let all : Undoes slotCount lines′ mark (suc k) (contents s) (contents h) = insertLine (g .above) (o .kinds) here (subst (λ (l : List Entry). Undoes slotCount lines′ mark k l (contents h)) (sym less) older) in
       let len : lengthOf lines′ ≡ suc k = o .count ∙ add-one k in
       record {
         fit = d .1;
@@ -98,7 +98,7 @@ module _ (ix : Index) (h : Sound (ix .live)) where
         capacity = d .5 ∙ g .capacity;
         above = omega (arith, o .count, g .above);
         kept = λ j a b. o .below j a (omega (arith, g .above)) ∙ g .kept j a b;
-        undoes = subst (λ (i : ℕ). Undoes slotsIn lines′ mark i (contents s) (contents h)) (sym len) all;
+        undoes = subst (λ (i : ℕ). Undoes slotCount lines′ mark i (contents s) (contents h)) (sym len) all;
         places = subst (λ (l : List Entry). Places l) (sym (d .2)) (put-all (λ (e : Entry). e .at < 4294967296) (entry hash key p) (contents (g .sound)) small (g .places));
       }
 
@@ -120,12 +120,12 @@ module _ (ix : Index) (h : Sound (ix .live)) where
       subst (λ (e : Entry). Lacks (e .hash) (e .key) (contents s)) (sym (line-entry o)) (rw (d .2) (lacks-without (entry hash key p) (contents (g .sound)) rises was)) in
       let again : put (lineEntry lines′ k) (contents s) ≡ contents (g .sound) =
       ap (λ (e : Entry). put e (contents s)) (line-entry o) ∙ ap (put (entry hash key p)) (d .2) ∙ put-without (entry hash key p) (contents (g .sound)) rises was in
-      let room : length (contents s) < slotsIn =
+      let room : length (contents s) < slotCount =
       omega (arith, ap length (d .2), length-without (entry hash key p) (contents (g .sound)) rises was, contents-most (g .fit .tree) (g .sound), g .capacity) in
-      let older : Undoes slotsIn lines′ mark k (contents (g .sound)) (contents h) = undoes-frame lines′ (λ j a b. line-same o j b) (g .undoes) in
+      let older : Undoes slotCount lines′ mark k (contents (g .sound)) (contents h) = undoes-frame lines′ (λ j a b. line-same o j b) (g .undoes) in
       let small : lineWord lines′ k placeWord < 4294967296 = rw (o .places) (g .places (entry hash key p) was) in
-      let all : Undoes slotsIn lines′ mark (suc k) (contents s) (contents h) =
-      removeLine (g .above) (o .kinds) lacks room small (subst (λ (l : List Entry). Undoes slotsIn lines′ mark k l (contents h)) (sym again) older) in
+      let all : Undoes slotCount lines′ mark (suc k) (contents s) (contents h) =
+      removeLine (g .above) (o .kinds) lacks room small (subst (λ (l : List Entry). Undoes slotCount lines′ mark k l (contents h)) (sym again) older) in
       let len : lengthOf lines′ ≡ suc k = o .count ∙ add-one k in
       record {
         fit = d .1;
@@ -133,7 +133,7 @@ module _ (ix : Index) (h : Sound (ix .live)) where
         capacity = d .5 ∙ g .capacity;
         above = omega (arith, o .count, g .above);
         kept = λ j a b. o .below j a (omega (arith, g .above)) ∙ g .kept j a b;
-        undoes = subst (λ (i : ℕ). Undoes slotsIn lines′ mark i (contents s) (contents h)) (sym len) all;
+        undoes = subst (λ (i : ℕ). Undoes slotCount lines′ mark i (contents s) (contents h)) (sym len) all;
         places = subst (λ (l : List Entry). Places l) (sym (d .2)) (λ e j. g .places e (without-in hash key (contents (g .sound)) e j));
       }
 
@@ -146,18 +146,18 @@ module _ (ix : Index) (h : Sound (ix .live)) where
       let s = d .0 in
       let b = d .3 in
       let cut = undoes-cut m w (r .1) (g .undoes) in
-      let here : Undoes slotsIn (jx .lines) m (lengthOf (jx .lines)) (contents (g .sound)) (contents s) = rw (← g .capacity) (d .2) in
+      let here : Undoes slotCount (jx .lines) m (lengthOf (jx .lines)) (contents (g .sound)) (contents s) = rw (← g .capacity) (d .2) in
       let same : cut .0 ≡ contents s = undoes-one (cut .1) here in
       let lines′ = rolls jx m .left .lines in
-      let rest : Undoes slotsIn lines′ mark m (contents s) (contents h) =
-      undoes-frame lines′ (λ j a l. back-same b j l) (subst (λ (l : List Entry). Undoes slotsIn (jx .lines) mark m l (contents h)) same (cut .2)) in
+      let rest : Undoes slotCount lines′ mark m (contents s) (contents h) =
+      undoes-frame lines′ (λ j a l. back-same b j l) (subst (λ (l : List Entry). Undoes slotCount (jx .lines) mark m l (contents h)) same (cut .2)) in
       record {
         fit = d .1;
         sound = s;
         capacity = d .4 ∙ g .capacity;
         above = omega (arith, b .count);
         kept = λ j a l. b .below j a (omega arith) ∙ g .kept j a l;
-        undoes = subst (λ (i : ℕ). Undoes slotsIn lines′ mark i (contents s) (contents h)) (sym (b .count)) rest;
+        undoes = subst (λ (i : ℕ). Undoes slotCount lines′ mark i (contents s) (contents h)) (sym (b .count)) rest;
         places = undoes-places here (g .places);
       }
 
@@ -189,7 +189,7 @@ module _ (ix : Index) (h : Sound (ix .live)) where
       let g = calls-good calls allowed ix start in
       let jx = after calls ix in
       let claim = rollback-claims jx mark in
-      let here : Undoes (capacityOf (jx .live)) (jx .lines) mark (lengthOf (jx .lines)) (contents (g .sound)) (contents h) = rw (g .capacity) (g .undoes) in
+      let here : Undoes (slotsOf (jx .live .names)) (jx .lines) mark (lengthOf (jx .lines)) (contents (g .sound)) (contents h) = rw (g .capacity) (g .undoes) in
       let q = claim .accepted (lengthOf (jx .lines) - mark) .1 (g .fit, g .above, refl, (g .sound, (contents h, here))) in
       let d = claim .done (lengthOf (jx .lines) - mark) q (g .sound) in
       record {

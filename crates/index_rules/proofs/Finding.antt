@@ -12,7 +12,7 @@ use Rattle.index_rules.specs.Live.{Live, Fit, rootOf}
 use Rattle.index_rules.specs.Sound.{Sound}
 use Rattle.index_rules.specs.Find.{finds}
 use Rattle.index_rules.specs.Contents.{Entry, entry, entryOf, contents, HasAt, HoldSame, In}
-use Rattle.index_rules.specs.Claims.{FindsSound, Holds}
+use Rattle.index_rules.specs.Claims.{FindsSound, Contained}
 use Rattle.index_rules.proofs.Reading.{on-fit}
 use Rattle.index_rules.proofs.Seeking.{found-at, found-none}
 use Rattle.index_rules.proofs.Deciding.{Seen, there, absent, seen}
@@ -75,7 +75,7 @@ module _ {t u : Live} (h : Sound t) (g : Sound u) where
     λ a. in-has h hash key p (subst (λ (l : List Entry). In (entry hash key p) l) (sym q) (has-in g hash key p a)),
   )
 
-pub hold-claims : (t : Live) (fit : Fit t) → Holds t fit
+pub hold-claims : (t : Live) (fit : Fit t) → Contained t fit
 hold-claims t fit =
     record {
       one = contents-one fit;

@@ -8,7 +8,8 @@ use lib.ListN.{length}
 use lib.Dec.{eqb, leb}
 use borrow.Author.Tests.{eqb-true, leb-true, eq-eqb, le-leb}
 use Rattle.slots.specs.Words.{pick}
-use Rattle.index_rules.specs.Live.{Live, Fit, capacityOf, fits}
+use Rattle.index_rules.specs.Live.{Live, Fit, fits}
+use Rattle.tree_rules.specs.Find.{slotsOf}
 
 -- A chain of tests is true where each is.
 pub both : (a b : Bool) → pick a b false ≡ true → (a ≡ true) × (b ≡ true)
@@ -16,7 +17,7 @@ both true b e = (refl, e)
 both false b e = absurd (false≢true e)
 
 -- The capacity is half the names.
-pub half : {t : Live} (h : Fit t) → capacityOf t ≡ h .capacity
+pub half : {t : Live} (h : Fit t) → slotsOf (t .names) ≡ h .capacity
 half h = omega (arith, h .two)
 
 pub fit-fits : (t : Live) → Fit t → fits t ≡ true
@@ -34,7 +35,7 @@ fit-fits t h =
 pub fits-fit : (t : Live) → fits t ≡ true → Fit t
 unfolding fits
 fits-fit t e =
-    let n = capacityOf t in
+    let n = slotsOf (t .names) in
     let h1 = both (leb 1 n) _ e in
     let h2 = both (leb n 4096) _ (h1 .1) in
     let h3 = both (eqb (length (t .names)) (2 * n)) _ (h2 .1) in

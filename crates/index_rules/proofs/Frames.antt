@@ -19,12 +19,13 @@ use Rattle.tree_rules.specs.Tree.Hangs.{none as hangsNone, some as hangsSome}
 use Rattle.tree_rules.specs.Chain.{Chain, ended, linked}
 use Rattle.tree_rules.proofs.Counting.{times-append, times-head, times-else, times-rest, exactly-length}
 use Rattle.tree_rules.proofs.Reaching.{hangs-inside}
-use Rattle.redblack.specs.Balance.{Less as Without}
+use Rattle.redblack.specs.Balance.{OneFewer as Without}
 use Rattle.redblack.specs.Holding.{RedBlackTree}
-use Rattle.index_rules.specs.Live.{Live, Fit, countOf, capacityOf}
+use Rattle.index_rules.specs.Live.{Live, Fit, countOf}
 use Rattle.index_rules.specs.Sound.{Sound, used}
 use Rattle.index_rules.specs.Insert.{headed}
 use Rattle.index_rules.proofs.Rules.{small}
+use Rattle.tree_rules.specs.Find.{slotsOf}
 
 -- What stands in a list is none that does not.
 pub none-of : {x k : ℕ} (l : List ℕ) → times x l ≡ 0 → 1 ≤ times k l → k ≢ x
@@ -167,16 +168,16 @@ module _ (head : List ℕ) (root first count : ℕ) where
 
 -- In a sound tree the slots of the tree, of the chain and the used ones are the same, and the count is their number.
 module _ {t : Live} (h : Sound t) where
-  pub tree-inside : (k : ℕ) → 1 ≤ times k (slots (h .tree)) → k < capacityOf t
-  tree-inside k z = hangs-inside (capacityOf t) (t .cells) (h .t3 .rooted .hangs) z
+  pub tree-inside : (k : ℕ) → 1 ≤ times k (slots (h .tree)) → k < slotsOf (t .names)
+  tree-inside k z = hangs-inside (slotsOf (t .names)) (t .cells) (h .t3 .rooted .hangs) z
 
-  pub same-slots : (k : ℕ) → k < capacityOf t → times k (slots (h .tree)) ≡ times k (h .chain)
+  pub same-slots : (k : ℕ) → k < slotsOf (t .names) → times k (slots (h .tree)) ≡ times k (h .chain)
   same-slots k l = sym (h .t3 .all k l) ∙ h .t7 .all k l
 
-  pub free-nowhere : (k : ℕ) → k < capacityOf t → cell (t .cells) k state ≡ free → times k (slots (h .tree)) ≡ 0
+  pub free-nowhere : (k : ℕ) → k < slotsOf (t .names) → cell (t .cells) k state ≡ free → times k (slots (h .tree)) ≡ 0
   free-nowhere k l e = sym (h .t3 .all k l) ∙ rw (eq-eqb (cell (t .cells) k state) free e)
 
-  pub nowhere-free : (k : ℕ) → k < capacityOf t → times k (slots (h .tree)) ≡ 0 → cell (t .cells) k state ≡ free
+  pub nowhere-free : (k : ℕ) → k < slotsOf (t .names) → times k (slots (h .tree)) ≡ 0 → cell (t .cells) k state ≡ free
   nowhere-free k l e = go (ℕ-discrete (cell (t .cells) k state) free)
     where
       go : Dec (cell (t .cells) k state ≡ free) → cell (t .cells) k state ≡ free
@@ -184,10 +185,10 @@ module _ {t : Live} (h : Sound t) where
       go (no d) = let z : used (t .cells) k ≡ 1 = rw (ne-eqb (cell (t .cells) k state) free d) in absurd (omega (arith, h .t3 .all k l))
 
   pub sound-count : countOf t ≡ length (slots (h .tree))
-  sound-count = h .t1 .count ∙ sym (exactly-length (capacityOf t) (slots (h .tree)) tree-inside (used (t .cells)) (h .t3 .all))
+  sound-count = h .t1 .count ∙ sym (exactly-length (slotsOf (t .names)) (slots (h .tree)) tree-inside (used (t .cells)) (h .t3 .all))
 
   -- A slot outside the tree is no link of the chain.
-  pub off-chain : Fit t → (k j : ℕ) → k < capacityOf t → times k (slots (h .tree)) ≡ 0 → (j ≡ null) ⊎ (1 ≤ times j (h .chain)) → j ≢ k
+  pub off-chain : Fit t → (k j : ℕ) → k < slotsOf (t .names) → times k (slots (h .tree)) ≡ 0 → (j ≡ null) ⊎ (1 ≤ times j (h .chain)) → j ≢ k
   off-chain fit k j l z (inl e) f = omega (arith, small fit)
   off-chain fit k j l z (inr y) f = none-of (h .chain) (sym (same-slots k l) ∙ z) y f
 

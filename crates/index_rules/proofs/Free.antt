@@ -9,8 +9,9 @@ use native.Mathlib.Omega.{arith}
 use lib.Dec.{eqb}
 use borrow.Author.Tests.{eqb-true, eqb-false}
 use Rattle.slots.specs.Words.{null, pick, state, free, cell}
-use Rattle.index_rules.specs.Live.{Live, capacityOf}
+use Rattle.index_rules.specs.Live.{Live}
 use Rattle.index_rules.specs.Insert.{freeFrom, lowestFree}
+use Rattle.tree_rules.specs.Find.{slotsOf}
 
 -- None of the slots from k up to m is free.
 NoneFree : List ℕ → ℕ → ℕ → Type 0
@@ -48,24 +49,24 @@ scanned (suc m) cells k = go (eqb (cell cells k state) free) refl (scanned m cel
 
 -- The slot x is free, and none below it is.
 pub record LowestFree (t : Live) (x : ℕ) : Type 0 where
-  pub inside : x < capacityOf t
+  pub inside : x < slotsOf (t .names)
   pub unused : cell (t .cells) x state ≡ free
   pub lowest : (k : ℕ) → k < x → cell (t .cells) k state ≢ free
 
 module _ (t : Live) where
   pub lowest-free : lowestFree t ≢ null → LowestFree t (lowestFree t)
   unfolding lowestFree NoneFree
-  lowest-free d = go (scanned (capacityOf t) (t .cells) 0)
+  lowest-free d = go (scanned (slotsOf (t .names)) (t .cells) 0)
     where
-      go : Least (t .cells) 0 (0 + capacityOf t) (lowestFree t) ⊎ ((lowestFree t ≡ null) × NoneFree (t .cells) 0 (0 + capacityOf t)) → LowestFree t (lowestFree t)
+      go : Least (t .cells) 0 (0 + slotsOf (t .names)) (lowestFree t) ⊎ ((lowestFree t ≡ null) × NoneFree (t .cells) 0 (0 + slotsOf (t .names))) → LowestFree t (lowestFree t)
       go (inl h) = record { inside = omega (arith, h .inside); unused = h .unused; lowest = λ k l. h .before k (omega arith) l }
       go (inr h) = absurd (d (h .0))
 
-  pub none-free : capacityOf t ≤ null → (lowestFree t ≡ null) ↔ ((k : ℕ) → k < capacityOf t → cell (t .cells) k state ≢ free)
+  pub none-free : slotsOf (t .names) ≤ null → (lowestFree t ≡ null) ↔ ((k : ℕ) → k < slotsOf (t .names) → cell (t .cells) k state ≢ free)
   unfolding lowestFree NoneFree
-  none-free small = go (scanned (capacityOf t) (t .cells) 0)
+  none-free small = go (scanned (slotsOf (t .names)) (t .cells) 0)
     where
-      go : Least (t .cells) 0 (0 + capacityOf t) (lowestFree t) ⊎ ((lowestFree t ≡ null) × NoneFree (t .cells) 0 (0 + capacityOf t))
-          → (lowestFree t ≡ null) ↔ ((k : ℕ) → k < capacityOf t → cell (t .cells) k state ≢ free)
+      go : Least (t .cells) 0 (0 + slotsOf (t .names)) (lowestFree t) ⊎ ((lowestFree t ≡ null) × NoneFree (t .cells) 0 (0 + slotsOf (t .names)))
+          → (lowestFree t ≡ null) ↔ ((k : ℕ) → k < slotsOf (t .names) → cell (t .cells) k state ≢ free)
       go (inl h) = (λ e. absurd (omega (arith, h .inside)), λ f. absurd (f (lowestFree t) (omega (arith, h .inside)) (h .unused)))
       go (inr h) = (λ e k l. h .1 k (omega arith) (omega arith), λ f. h .0)

@@ -15,7 +15,7 @@ use Rattle.slots.proofs.Laws.{number, cell-same, cell-across, cell-else, roomy-
 use Rattle.tree_rules.specs.Tree.{leaf, slots, times, Hangs, Rising, Calm, Meets, end}
 use Rattle.tree_rules.specs.Chain.{Chain}
 use Rattle.tree_rules.proofs.Counting.{exactly-length}
-use Rattle.index_rules.specs.Live.{Live, Fit, fits, rootOf, firstOf, countOf, capacityOf}
+use Rattle.index_rules.specs.Live.{Live, Fit, fits, rootOf, firstOf, countOf}
 use Rattle.index_rules.specs.Sound.{Sound, Cleared, used}
 use Rattle.index_rules.specs.Index.{Index, FitIndex, lengthOf, linesOf, at}
 use Rattle.index_rules.specs.Insert.{headed}
@@ -26,6 +26,7 @@ use Rattle.index_rules.specs.Claims.{Freshes}
 use Rattle.index_rules.proofs.Fit.{both, half, fit-fits, fits-fit}
 use Rattle.index_rules.proofs.Journal.{rolledLines, rolled-length, rolled-count, rolled-zero, rolled-past}
 use Rattle.index_rules.proofs.Frames.{roomy-cells, roomy-names, name-same, name-across, name-else, roomy-rename, length-rename, headed-length, headed-root, headed-first, headed-count}
+use Rattle.tree_rules.specs.Find.{slotsOf}
 
 -- The slot i is free and cleared.
 record Blank (t : Live) (i : ℕ) : Type 0 where
@@ -134,8 +135,8 @@ bared-blank {n} (suc k) t c d b i l = go (ℕ-discrete i k) (λ m. bared-blank k
     go (no m) again = again (omega arith)
 
 -- A tree whose slots are all blank, with a header of nothing.
-module _ {t : Live} (fit : Fit t) (blank : (i : ℕ) → i < capacityOf t → Blank t i) (root : rootOf t ≡ null) (first : firstOf t ≡ null) (none : countOf t ≡ 0) where
-  unused : (i : ℕ) → i < capacityOf t → used (t .cells) i ≡ 0
+module _ {t : Live} (fit : Fit t) (blank : (i : ℕ) → i < slotsOf (t .names) → Blank t i) (root : rootOf t ≡ null) (first : firstOf t ≡ null) (none : countOf t ≡ 0) where
+  unused : (i : ℕ) → i < slotsOf (t .names) → used (t .cells) i ≡ 0
   unused i l = simp (eq-eqb (cell (t .cells) i state) free (blank i l .states))
 
   unfoldable empty-sound : Sound t
@@ -151,7 +152,7 @@ module _ {t : Live} (fit : Fit t) (blank : (i : ℕ) → i < capacityOf t → Bl
               first = inl first;
               states = λ i l. omega (arith, blank i l .states);
               cleared = λ i l e. blank i l .cleared;
-              count = none ∙ exactly-length (capacityOf t) [] (λ k m. absurd (omega arith)) (used (t .cells)) unused;
+              count = none ∙ exactly-length (slotsOf (t .names)) [] (λ k m. absurd (omega arith)) (used (t .cells)) unused;
             };
         t2 = record { root = (λ e. none, λ e. root); first = (λ e. none, λ e. first) };
         t3 = record { rooted = record { from = root; hangs = Hangs.none; once = λ k. omega arith }; all = unused };
@@ -190,7 +191,7 @@ module _ (ix : Index) where
   made h = rw (fit-lengths ix h)
 
   abbrev bareTree : Live
-  bareTree = bared (capacityOf (ix .live)) (ix .live)
+  bareTree = bared (slotsOf (ix .live .names)) (ix .live)
 
   abbrev emptied : Live
   emptied = record { names = bareTree .names; cells = bareTree .cells; head = headed (bareTree .head) null null 0 }
@@ -225,12 +226,12 @@ module _ (ix : Index) where
 
   module _ (h : FitLengths ix) where
     head-three : length (bareTree .head) ≡ 3
-    head-three = ap length (bared-head (capacityOf (ix .live)) (ix .live)) ∙ h .tree .three
+    head-three = ap length (bared-head (slotsOf (ix .live .names)) (ix .live)) ∙ h .tree .three
 
     wide : length (emptied .names) ≡ length (ix .live .names)
-    wide = bared-wide (capacityOf (ix .live)) (ix .live)
+    wide = bared-wide (slotsOf (ix .live .names)) (ix .live)
 
-    same-capacity : capacityOf emptied ≡ capacityOf (ix .live)
+    same-capacity : slotsOf (emptied .names) ≡ slotsOf (ix .live .names)
     same-capacity = ap (λ (n : ℕ). n / 2) wide
 
     fit : Fit emptied
@@ -240,13 +241,13 @@ module _ (ix : Index) where
           least = h .tree .least;
           most = h .tree .most;
           two = wide ∙ h .tree .two;
-          seven = bared-long (capacityOf (ix .live)) (ix .live) ∙ h .tree .seven;
+          seven = bared-long (slotsOf (ix .live .names)) (ix .live) ∙ h .tree .seven;
           three = headed-length (bareTree .head) null null 0 ∙ head-three;
         }
 
-    blank : (i : ℕ) → i < capacityOf emptied → Blank emptied i
+    blank : (i : ℕ) → i < slotsOf (emptied .names) → Blank emptied i
     blank i l =
-        let b = bared-blank {n = h .tree .capacity} (capacityOf (ix .live)) (ix .live) (h .tree .seven) (h .tree .two) (omega (arith, half (h .tree))) i (omega (arith, same-capacity)) in
+        let b = bared-blank {n = h .tree .capacity} (slotsOf (ix .live .names)) (ix .live) (h .tree .seven) (h .tree .two) (omega (arith, half (h .tree))) i (omega (arith, same-capacity)) in
         record { states = b .states; cleared = record { hash = b .cleared .hash; key = b .cleared .key; placed = b .cleared .placed; parents = b .cleared .parents; lefts = b .cleared .lefts; rights = b .cleared .rights; prevs = b .cleared .prevs; nexts = b .cleared .nexts } }
 
     unfoldable sound : Sound emptied

@@ -16,14 +16,14 @@ use Rattle.tree_rules.specs.Chain.{Chain, linked}
 use Rattle.tree_rules.proofs.Counting.{times-head, times-else}
 use Rattle.tree_rules.proofs.Chaining.{chain-once}
 use Rattle.redblack.specs.Links.{Links, read}
-use Rattle.redblack.specs.Hanging.{inserted, placed}
-use Rattle.redblack.specs.Balance.{Less}
+use Rattle.redblack.specs.Hanging.{inserted, spotted}
+use Rattle.redblack.specs.Balance.{OneFewer}
 use Rattle.redblack.specs.Holding.{Holds, RedBlackTree, Has}
 use Rattle.redblack.specs.Kept.{Agree}
 use Rattle.redblack.specs.Claims.{HangsSlot}
 use Rattle.redblack.proofs.Kept.{place-aside, prev-aside, next-aside}
 use Rattle.redblack.proofs.Claims.{claims}
-use Rattle.index_rules.specs.Live.{Live, Fit, rootOf, firstOf, capacityOf}
+use Rattle.index_rules.specs.Live.{Live, Fit, rootOf, firstOf}
 use Rattle.index_rules.specs.Sound.{Sound, Cleared}
 use Rattle.index_rules.proofs.Built.{Built}
 use Rattle.index_rules.specs.Insert.{fronted, grown}
@@ -32,16 +32,17 @@ use Rattle.index_rules.proofs.Fit.{half}
 use Rattle.index_rules.proofs.Rules.{small}
 use Rattle.index_rules.proofs.Building.{built-sound, built-tree, built-chain}
 use Rattle.index_rules.proofs.Frames.{Still, none-of, off-chain, sound-balanced, same-slots, free-nowhere, nowhere-free, sound-count, hangs-frame, chain-frame, chain-behind, chain-starts, rising-frame, without-else, without-same, without-length, roomy-cells, roomy-names, name-same, name-across, name-else, roomy-rename, length-rename, headed-length, headed-root, headed-first, headed-count}
+use Rattle.tree_rules.specs.Find.{slotsOf}
 
 -- The tree u is t with the slot x, which holds the pair (hash, key) and the place p.
 pub record Grown (t u : Live) (h : Sound t) (x hash key p : ℕ) : Type 0 where
   pub sound : Sound u
   pub chain : sound .chain ≡ x ∷ h .chain
-  pub slotted : Less x (slots (sound .tree)) (slots (h .tree))
+  pub slotted : OneFewer x (slots (sound .tree)) (slots (h .tree))
   pub keeps : (k : ℕ) → 1 ≤ times k (slots (h .tree)) → Alike t u k
   pub takes : Takes t u x hash key p
 
-module _ {t : Live} (fit : Fit t) (h : Sound t) (x hash key p : ℕ) (inside : x < capacityOf t) (unused : cell (t .cells) x state ≡ free) where
+module _ {t : Live} (fit : Fit t) (h : Sound t) (x hash key p : ℕ) (inside : x < slotsOf (t .names)) (unused : cell (t .cells) x state ≡ free) where
   absent : times x (slots (h .tree)) ≡ 0
   absent = free-nowhere h x inside unused
 
@@ -51,10 +52,10 @@ module _ {t : Live} (fit : Fit t) (h : Sound t) (x hash key p : ℕ) (inside : x
   chain-x : (k : ℕ) → 1 ≤ times k (h .chain) → k ≢ x
   chain-x k z = none-of (h .chain) (sym (same-slots h x inside) ∙ absent) z
 
-  not-first : (k : ℕ) → k < capacityOf t → times k (slots (h .tree)) ≡ 0 → k ≢ firstOf t
+  not-first : (k : ℕ) → k < slotsOf (t .names) → times k (slots (h .tree)) ≡ 0 → k ≢ firstOf t
   not-first k l z e = off-chain h fit k (firstOf t) l z (chain-starts (h .t7 .linked)) (sym e)
 
-  room : (k : ℕ) → k < capacityOf t → roomy fields (t .cells) k ≡ true
+  room : (k : ℕ) → k < slotsOf (t .names) → roomy fields (t .cells) k ≡ true
   room k l = roomy-cells (t .cells) k (fit .seven) (omega (arith, half fit))
 
   abbrev wide : List ℕ
@@ -76,7 +77,7 @@ module _ {t : Live} (fit : Fit t) (h : Sound t) (x hash key p : ℕ) (inside : x
   unfolding fronted
   wide-prev k d e = simp cell-else
 
-  first-prev : firstOf t < capacityOf t → cell wide (firstOf t) prev ≡ x
+  first-prev : firstOf t < slotsOf (t .names) → cell wide (firstOf t) prev ≡ x
   unfolding fronted
   first-prev l = simp (cell-same, roomy-write, room (firstOf t) l)
 
@@ -93,8 +94,8 @@ module _ {t : Live} (fit : Fit t) (h : Sound t) (x hash key p : ℕ) (inside : x
 
   -- Hanging leaves every place as it was, whatever the order says.
   hung-place : (l : List ℕ) (s : Links) (k : ℕ)
-      → read (inserted (capacityOf t) s x (placed (capacityOf t) l s hash key)) k place ≡ read s k place
-  hung-place l s k = claims .hangs-slot (capacityOf t) (capacityOf t) l s (h .tree) x hash key .keeps place place-aside .same k
+      → read (inserted (slotsOf (t .names)) s x (spotted (slotsOf (t .names)) l s hash key)) k place ≡ read s k place
+  hung-place l s k = claims .hangs-slot (slotsOf (t .names)) (slotsOf (t .names)) l s (h .tree) x hash key .keeps place place-aside .same k
 
   -- Which slot has which pair and place.
   takes : Takes t (grown t x hash key p) x hash key p
@@ -116,15 +117,15 @@ module _ {t : Live} (fit : Fit t) (h : Sound t) (x hash key p : ℕ) (inside : x
   links = record { cells = wide; root = rootOf t }
 
   abbrev hung : Links
-  hung = inserted (capacityOf t) links x (placed (capacityOf t) names links hash key)
+  hung = inserted (slotsOf (t .names)) links x (spotted (slotsOf (t .names)) names links hash key)
 
-  fronted-chain : Chain (capacityOf t) wide null x (x ∷ h .chain)
+  fronted-chain : Chain (slotsOf (t .names)) wide null x (x ∷ h .chain)
   fronted-chain =
       linked {l = h .chain} inside x-prev
       (rw x-next
-      (chain-behind (chain-once (capacityOf t) (t .cells) (small fit) (firstOf t) (h .t7 .linked)) first-prev (λ k z d. wide-prev k (chain-x k z) d) (λ k z. wide-next k (chain-x k z)) (h .t7 .linked)))
+      (chain-behind (chain-once (slotsOf (t .names)) (t .cells) (small fit) (firstOf t) (h .t7 .linked)) first-prev (λ k z d. wide-prev k (chain-x k z) d) (λ k z. wide-next k (chain-x k z)) (h .t7 .linked)))
 
-  holds : Holds (capacityOf t) links (h .tree)
+  holds : Holds (slotsOf (t .names)) links (h .tree)
   holds =
       record {
         long = wide-length ∙ omega (arith, fit .seven, half fit);
@@ -140,8 +141,8 @@ module _ {t : Live} (fit : Fit t) (h : Sound t) (x hash key p : ℕ) (inside : x
   risen : Rising names (slots (h .tree))
   risen = rising-frame (λ k z. takes .others k (not-x k z) .pairs) (h .t4)
 
-  hangs-slot : HangsSlot (capacityOf t) (capacityOf t) names links (h .tree) x hash key
-  hangs-slot = claims .hangs-slot (capacityOf t) (capacityOf t) names links (h .tree) x hash key
+  hangs-slot : HangsSlot (slotsOf (t .names)) (slotsOf (t .names)) names links (h .tree) x hash key
+  hangs-slot = claims .hangs-slot (slotsOf (t .names)) (slotsOf (t .names)) names links (h .tree) x hash key
 
   pub grown-fit : Fit (grown t x hash key p)
   unfolding grown
@@ -155,7 +156,7 @@ module _ {t : Live} (fit : Fit t) (h : Sound t) (x hash key p : ℕ) (inside : x
         three = headed-length (t .head) _ _ _ ∙ fit .three;
       }
 
-  cap : capacityOf (grown t x hash key p) ≡ capacityOf t
+  cap : slotsOf ((grown t x hash key p) .names) ≡ slotsOf (t .names)
   unfolding grown
   cap = simp length-rename
 
@@ -165,23 +166,23 @@ module _ {t : Live} (fit : Fit t) (h : Sound t) (x hash key p : ℕ) (inside : x
         let d = not-x (e .slot) (e .stands) in
         fresh (record { slot = e .slot; stands = e .stands; named = sym (takes .others (e .slot) d .pairs) ∙ e .named })
 
-    result : (u : Tree) × Holds (capacityOf t) hung u × RedBlackTree u × Rising names (slots u) × Less x (slots u) (slots (h .tree))
+    result : (u : Tree) × Holds (slotsOf (t .names)) hung u × RedBlackTree u × Rising names (slots u) × OneFewer x (slots u) (slots (h .tree))
     result = hangs-slot .hangs holds (sound-balanced h) risen fresh-still inside absent (takes .named) (omega arith)
 
     spared : (k : ℕ) → k ≢ x → times k (slots (h .tree)) ≡ 0 → Agree links hung k
     spared k d z = hangs-slot .spares holds (sound-balanced h) risen fresh-still inside absent (omega arith) k d z
 
-    hung-chain : Chain (capacityOf t) (hung .cells) null x (x ∷ h .chain)
+    hung-chain : Chain (slotsOf (t .names)) (hung .cells) null x (x ∷ h .chain)
     hung-chain = chain-frame (λ k z. record { prevs = hangs-slot .keeps prev prev-aside .same k; nexts = hangs-slot .keeps next next-aside .same k }) fronted-chain
 
-    same : (k : ℕ) → k < capacityOf t → times k (slots (result .0)) ≡ times k (x ∷ h .chain)
+    same : (k : ℕ) → k < slotsOf (t .names) → times k (slots (result .0)) ≡ times k (x ∷ h .chain)
     same k l = go (ℕ-discrete k x)
       where
         go : Dec (k ≡ x) → times k (slots (result .0)) ≡ times k (x ∷ h .chain)
         go (yes e) = rw e (without-same (result .4) ∙ omega (arith, times-head x (h .chain), same-slots h x inside))
         go (no d) = without-else k (result .4) d ∙ same-slots h k l ∙ sym (times-else k x (h .chain) d)
 
-    others : (k : ℕ) → k < capacityOf t → times k (slots (result .0)) ≡ 0 → (cell (hung .cells) k state ≡ free) × Cleared (grown t x hash key p) k
+    others : (k : ℕ) → k < slotsOf (t .names) → times k (slots (result .0)) ≡ 0 → (cell (hung .cells) k state ≡ free) × Cleared (grown t x hash key p) k
     unfolding grown
     others k l z =
         let s = wide-still k in

@@ -9,7 +9,7 @@ use Rattle.slots.specs.Words.{place, cell}
 use Rattle.slots.specs.Pairs.{Pair, pair, pairOf}
 use Rattle.tree_rules.specs.Tree.{slots, times}
 use Rattle.tree_rules.proofs.Counting.{times-append, times-head, times-rest, times-cases}
-use Rattle.redblack.specs.Balance.{Less}
+use Rattle.redblack.specs.Balance.{OneFewer}
 use Rattle.redblack.specs.Holding.{Has}
 use Rattle.index_rules.specs.Live.{Live, countOf}
 use Rattle.index_rules.specs.Sound.{Sound}
@@ -44,7 +44,7 @@ pub record Split (t u : Live) (l k : List ℕ) (e : Entry) : Type 0 where
   pub more : map (entryOf u) l ≡ lower ++ (e ∷ upper)
   pub less : map (entryOf t) k ≡ lower ++ upper
 
-split : (t u : Live) (x : ℕ) (l k : List ℕ) (e : Entry) → Less x l k → entryOf u x ≡ e → ((j : ℕ) → 1 ≤ times j k → Alike t u j)
+split : (t u : Live) (x : ℕ) (l k : List ℕ) (e : Entry) → OneFewer x l k → entryOf u x ≡ e → ((j : ℕ) → 1 ≤ times j k → Alike t u j)
     → Split t u l k e
 split t u x l k e h n keep =
     let a = h .before in

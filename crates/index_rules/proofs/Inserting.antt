@@ -14,7 +14,7 @@ use Rattle.slots.specs.Answers.{Answer, some, none, given, refused}
 use Rattle.slots.proofs.Laws.{number, some-is, value}
 use Rattle.tree_rules.specs.Tree.{Tree}
 use Rattle.redblack.specs.Holding.{Has, Stands}
-use Rattle.index_rules.specs.Live.{Live, Fit, capacityOf}
+use Rattle.index_rules.specs.Live.{Live, Fit}
 use Rattle.index_rules.specs.Sound.{Sound, sound}
 use Rattle.index_rules.specs.Index.{Index, FitIndex, Outcome, outcome, fitsIndex, lengthOf, linesOf, appended, at}
 use Rattle.index_rules.specs.Insert.{lowestFree, soughtIn, inserts}
@@ -30,6 +30,7 @@ use Rattle.index_rules.proofs.Deciding.{Seen, there, absent, seen}
 use Rattle.index_rules.proofs.Seeking.{found-at, found-none}
 use Rattle.index_rules.proofs.Holding.{grown-contents}
 use Rattle.index_rules.proofs.Unrolling.{tree-one, grown-capacity}
+use Rattle.tree_rules.specs.Find.{slotsOf}
 
 -- A test that is not true is false.
 pub false-of : (b : Bool) → (b ≡ true → ⊥) → b ≡ false
@@ -77,7 +78,7 @@ module _ (ix : Index) (hash key p : ℕ) where
   Leaves : Sound (ix .live) → ℕ → Outcome → Type 0
   Leaves h x o =
       (g : Sound (o .left .live)) × FitIndex (o .left) × (contents g ≡ put (entry hash key p) (contents h)) × (g .chain ≡ x ∷ h .chain)
-      × OneLine (ix .lines) (o .left .lines) 1 hash key p × (capacityOf (o .left .live) ≡ capacityOf (ix .live))
+      × OneLine (ix .lines) (o .left .lines) 1 hash key p × (slotsOf (o .left .live .names) ≡ slotsOf (ix .live .names))
       × Takes (ix .live) (o .left .live) x hash key p
 
   line-more : FitIndex ix → lengthOf (ix .lines) ≢ linesOf (ix .lines)

@@ -19,7 +19,7 @@ use Rattle.tree_rules.specs.Claims.{Tests}
 use Rattle.tree_rules.proofs.Counting.{times-append, times-head, times-rest, times-cases}
 use Rattle.tree_rules.proofs.Reaching.{length-node, hangs-inside, rooted-most}
 use Rattle.tree_rules.proofs.Claims.{claims}
-use Rattle.index_rules.specs.Live.{Live, Fit, rootOf, firstOf, capacityOf}
+use Rattle.index_rules.specs.Live.{Live, Fit, rootOf, firstOf}
 use Rattle.index_rules.specs.Sound.{Sound}
 use Rattle.index_rules.specs.Check.{checks}
 use Rattle.index_rules.proofs.Rules.{small}
@@ -179,7 +179,7 @@ sound-passes {t} fit h =
     check-claims t .passes .1 (
       fit,
       (
-        capacityOf t - length (slots (h .tree)),
+        slotsOf (t .names) - length (slots (h .tree)),
         rw (rooted .from)
             (passes (t .names) (t .cells) (small fit) (rooted .hangs) (h .t5 .calm) (h .t4) (λ d e. absurd (e refl))
             (record {
@@ -187,12 +187,12 @@ sound-passes {t} fit h =
               nexts = λ k z d. chain-next k (h .t7 .linked) (in-chain k z) d;
               prevs = λ k z d. back k d (chain-back k (h .t7 .linked) (in-chain k z));
             })
-            (capacityOf t) (rooted-most (capacityOf t) (t .cells) (small fit) (rootOf t) rooted)),
+            (slotsOf (t .names)) (rooted-most (slotsOf (t .names)) (t .cells) (small fit) (rootOf t) rooted)),
       ),
     )
   where
-    inside : (k : ℕ) → 1 ≤ times k (slots (h .tree)) → k < capacityOf t
-    inside k z = hangs-inside (capacityOf t) (t .cells) (h .t3 .rooted .hangs) z
+    inside : (k : ℕ) → 1 ≤ times k (slots (h .tree)) → k < slotsOf (t .names)
+    inside k z = hangs-inside (slotsOf (t .names)) (t .cells) (h .t3 .rooted .hangs) z
 
     in-chain : (k : ℕ) → 1 ≤ times k (slots (h .tree)) → 1 ≤ times k (h .chain)
     in-chain k z = omega (arith, z, h .t3 .all k (inside k z), h .t7 .all k (inside k z))

@@ -12,9 +12,8 @@ use Rattle.slots.specs.Pairs.{Pair, pair, pairOf}
 use Rattle.slots.specs.Answers.{Answer, some, none, given, refused}
 use Rattle.slots.proofs.Laws.{number}
 use Rattle.tree_rules.specs.Tree.{Tree}
-use Rattle.redblack.specs.Balance.{Less}
+use Rattle.redblack.specs.Balance.{OneFewer}
 use Rattle.redblack.specs.Holding.{Has, Stands}
-use Rattle.index_rules.specs.Live.{capacityOf}
 use Rattle.index_rules.specs.Sound.{Sound, sound}
 use Rattle.index_rules.specs.Index.{Index, FitIndex, Outcome, outcome, fitsIndex, lengthOf, linesOf, at}
 use Rattle.index_rules.specs.Insert.{soughtIn}
@@ -29,14 +28,15 @@ use Rattle.index_rules.proofs.Deciding.{Seen, there, absent, seen}
 use Rattle.index_rules.proofs.Holding.{shrunk-contents}
 use Rattle.index_rules.proofs.Unrolling.{tree-one, shrunk-capacity}
 use Rattle.index_rules.proofs.Inserting.{value-inj, unfit-false, unsound-false, sought-at, sought-none}
+use Rattle.tree_rules.specs.Find.{slotsOf}
 
 module _ (ix : Index) (hash key : ℕ) where
   -- What an accepted removal leaves, of the very tree h.
   Leaves : Sound (ix .live) → ℕ → Outcome → Type 0
   Leaves h x o =
-      (g : Sound (o .left .live)) × FitIndex (o .left) × (contents g ≡ without hash key (contents h)) × Less x (h .chain) (g .chain)
+      (g : Sound (o .left .live)) × FitIndex (o .left) × (contents g ≡ without hash key (contents h)) × OneFewer x (h .chain) (g .chain)
       × OneLine (ix .lines) (o .left .lines) 2 hash key (cell (ix .live .cells) x place)
-      × (capacityOf (o .left .live) ≡ capacityOf (ix .live)) × Frees (ix .live) (o .left .live) x
+      × (slotsOf (o .left .live .names) ≡ slotsOf (ix .live .names)) × Frees (ix .live) (o .left .live) x
 
   unfit-one : fitsIndex ix ≡ false → removes ix hash key ≡ outcome (refused 1) ix
   unfolding removes

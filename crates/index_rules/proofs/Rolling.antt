@@ -8,7 +8,7 @@ use native.Mathlib.Omega.{arith}
 use borrow.Author.Tests.{lt-ltb, le-ltb}
 use Rattle.slots.specs.Answers.{Answer, given, refused}
 use Rattle.slots.proofs.Laws.{number}
-use Rattle.index_rules.specs.Live.{Live, capacityOf}
+use Rattle.index_rules.specs.Live.{Live}
 use Rattle.index_rules.specs.Sound.{Sound, sound}
 use Rattle.index_rules.specs.Index.{Index, FitIndex, Outcome, outcome, fitsIndex, lengthOf}
 use Rattle.index_rules.specs.Rollback.{Undo, stays, misfit, unrolled, rolls}
@@ -20,6 +20,7 @@ use Rattle.index_rules.proofs.Sounding.{sound-yes, yes-sound, unsound}
 use Rattle.index_rules.proofs.Journal.{fits-index, index-fits, back-to}
 use Rattle.index_rules.proofs.Unrolling.{Rolled, unrolled-undoes, undoes-unrolled}
 use Rattle.index_rules.proofs.Inserting.{value-inj, unfit-false, unsound-false}
+use Rattle.tree_rules.specs.Find.{slotsOf}
 
 not-stays : {u : Live} → misfit ≡ stays u → ⊥
 not-stays e = let z : _≡_ {A = ℕ} 0 1 = cc in omega arith
@@ -37,7 +38,7 @@ module _ (ix : Index) (m : ℕ) where
   fits-of f h l t s = subst (λ (k : ℕ). Rolled h (ix .lines) m k t) (whole l) (unrolled-undoes (ix .lines) m count (f .tree) h t s)
 
   of-fits : FitIndex ix → (h : Sound (ix .live)) → m ≤ lengthOf (ix .lines)
-      → Fits (capacityOf (ix .live)) (ix .lines) m (lengthOf (ix .lines)) (contents h)
+      → Fits (slotsOf (ix .live .names)) (ix .lines) m (lengthOf (ix .lines)) (contents h)
       → (t : Live) × (unrolled count (ix .live) (ix .lines) m ≡ stays t)
   of-fits f h l r = undoes-unrolled (ix .lines) m count (lengthOf (ix .lines)) (r .1) (sym (whole l)) (f .tree) h refl refl
 
@@ -45,8 +46,8 @@ module _ (ix : Index) (m : ℕ) where
   Leaves : Sound (ix .live) → Outcome → Type 0
   Leaves h o =
       (g : Sound (o .left .live)) × FitIndex (o .left)
-      × Undoes (capacityOf (ix .live)) (ix .lines) m (lengthOf (ix .lines)) (contents h) (contents g)
-      × BackTo m (ix .lines) (o .left .lines) × (capacityOf (o .left .live) ≡ capacityOf (ix .live))
+      × Undoes (slotsOf (ix .live .names)) (ix .lines) m (lengthOf (ix .lines)) (contents h) (contents g)
+      × BackTo m (ix .lines) (o .left .lines) × (slotsOf (o .left .live .names) ≡ slotsOf (ix .live .names))
 
   unfit-one : fitsIndex ix ≡ false → rolls ix m ≡ outcome (refused 1) ix
   unfolding rolls
@@ -95,7 +96,7 @@ module _ (ix : Index) (m : ℕ) where
     one : (FitIndex ix → ⊥) → rolls ix m ≡ outcome (refused 1) ix → Did
     two : FitIndex ix → (Sound (ix .live) → ⊥) → rolls ix m ≡ outcome (refused 2) ix → Did
     seven : FitIndex ix → Sound (ix .live) → lengthOf (ix .lines) < m → rolls ix m ≡ outcome (refused 7) ix → Did
-    eight : FitIndex ix → (h : Sound (ix .live)) → m ≤ lengthOf (ix .lines) → (Fits (capacityOf (ix .live)) (ix .lines) m (lengthOf (ix .lines)) (contents h) → ⊥)
+    eight : FitIndex ix → (h : Sound (ix .live)) → m ≤ lengthOf (ix .lines) → (Fits (slotsOf (ix .live .names)) (ix .lines) m (lengthOf (ix .lines)) (contents h) → ⊥)
         → rolls ix m ≡ outcome (refused 8) ix → Did
     taken : FitIndex ix → (h : Sound (ix .live)) → m ≤ lengthOf (ix .lines) → (t : Live) → unrolled count (ix .live) (ix .lines) m ≡ stays t
         → rolls ix m .answer ≡ given count → ((h : Sound (ix .live)) → Leaves h (rolls ix m)) → Did
@@ -155,10 +156,10 @@ module _ (ix : Index) (m : ℕ) where
       go (taken f h l t s e r) = absurd (omega (arith, number (sym q ∙ e)))
 
   eight-then : rolls ix m .answer ≡ refused 8
-      → FitIndex ix × (m ≤ lengthOf (ix .lines)) × ((h : Sound (ix .live)) × (Fits (capacityOf (ix .live)) (ix .lines) m (lengthOf (ix .lines)) (contents h) → ⊥))
+      → FitIndex ix × (m ≤ lengthOf (ix .lines)) × ((h : Sound (ix .live)) × (Fits (slotsOf (ix .live .names)) (ix .lines) m (lengthOf (ix .lines)) (contents h) → ⊥))
   eight-then q = go did
     where
-      go : Did → FitIndex ix × (m ≤ lengthOf (ix .lines)) × ((h : Sound (ix .live)) × (Fits (capacityOf (ix .live)) (ix .lines) m (lengthOf (ix .lines)) (contents h) → ⊥))
+      go : Did → FitIndex ix × (m ≤ lengthOf (ix .lines)) × ((h : Sound (ix .live)) × (Fits (slotsOf (ix .live .names)) (ix .lines) m (lengthOf (ix .lines)) (contents h) → ⊥))
       go (one n e) = absurd (omega (arith, clash e q))
       go (two f n e) = absurd (omega (arith, clash e q))
       go (seven f h l e) = absurd (omega (arith, clash e q))
@@ -166,10 +167,10 @@ module _ (ix : Index) (m : ℕ) where
       go (taken f h l t s e r) = absurd (omega (arith, number (sym q ∙ e)))
 
   given-then : (c : ℕ) → rolls ix m .answer ≡ given c
-      → FitIndex ix × (m ≤ lengthOf (ix .lines)) × (c ≡ lengthOf (ix .lines) - m) × ((h : Sound (ix .live)) × Fits (capacityOf (ix .live)) (ix .lines) m (lengthOf (ix .lines)) (contents h))
+      → FitIndex ix × (m ≤ lengthOf (ix .lines)) × (c ≡ lengthOf (ix .lines) - m) × ((h : Sound (ix .live)) × Fits (slotsOf (ix .live .names)) (ix .lines) m (lengthOf (ix .lines)) (contents h))
   given-then c q = go did
     where
-      go : Did → FitIndex ix × (m ≤ lengthOf (ix .lines)) × (c ≡ lengthOf (ix .lines) - m) × ((h : Sound (ix .live)) × Fits (capacityOf (ix .live)) (ix .lines) m (lengthOf (ix .lines)) (contents h))
+      go : Did → FitIndex ix × (m ≤ lengthOf (ix .lines)) × (c ≡ lengthOf (ix .lines) - m) × ((h : Sound (ix .live)) × Fits (slotsOf (ix .live .names)) (ix .lines) m (lengthOf (ix .lines)) (contents h))
       go (one n e) = absurd (omega (arith, clash e q))
       go (two f n e) = absurd (omega (arith, clash e q))
       go (seven f h l e) = absurd (omega (arith, clash e q))
@@ -223,7 +224,7 @@ module _ (ix : Index) (m : ℕ) where
         done = done;
       }
     where
-      no-undo : FitIndex ix → (h : Sound (ix .live)) → m ≤ lengthOf (ix .lines) → (Fits (capacityOf (ix .live)) (ix .lines) m (lengthOf (ix .lines)) (contents h) → ⊥)
+      no-undo : FitIndex ix → (h : Sound (ix .live)) → m ≤ lengthOf (ix .lines) → (Fits (slotsOf (ix .live .names)) (ix .lines) m (lengthOf (ix .lines)) (contents h) → ⊥)
           → unrolled count (ix .live) (ix .lines) m ≡ misfit
       no-undo f h l n = go (unrolled count (ix .live) (ix .lines) m) refl
         where

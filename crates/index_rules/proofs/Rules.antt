@@ -22,16 +22,17 @@ use Rattle.tree_rules.proofs.Chaining.{chain-inside, chained-chain, chain-once,
 use Rattle.tree_rules.proofs.Rising.{rises-rising}
 use Rattle.tree_rules.proofs.Colouring.{coloured-coloured}
 use Rattle.tree_rules.proofs.Levelling.{level-level}
-use Rattle.index_rules.specs.Live.{Live, Fit, rootOf, firstOf, countOf, capacityOf}
+use Rattle.index_rules.specs.Live.{Live, Fit, rootOf, firstOf, countOf}
 use Rattle.index_rules.specs.Sound.{used, Cleared, T1, T2, T3, T4, T5, T6, T7, isCleared, slotFine, slotsFine, rule1, agree, rule2, leaves, rule3, rule4, rule5, rule6, rule7}
 use Rattle.index_rules.proofs.Fit.{both, half}
+use Rattle.tree_rules.specs.Find.{slotsOf}
 
 -- The other way: both tests hold.
 pub and : {a b : Bool} → a ≡ true → b ≡ true → pick a b false ≡ true
 and {a} {b} e f = rw (e, f)
 
 -- Fit words end long before slot null.
-pub small : {t : Live} → Fit t → capacityOf t ≤ null
+pub small : {t : Live} → Fit t → slotsOf (t .names) ≤ null
 small h = omega (arith, half h, h .most)
 
 pub ends : {t : Live} → Fit t → length (t .cells) ≤ 7 * null
@@ -108,22 +109,22 @@ module _ (t : Live) where
     where
       to : rule1 t ≡ true → T1 t
       to e =
-          let h1 = both (slotsFine (capacityOf t) (capacityOf t) t) _ e in
-          let h2 = both (inRange (capacityOf t) (rootOf t)) _ (h1 .1) in
-          let h3 = both (inRange (capacityOf t) (firstOf t)) _ (h2 .1) in
+          let h1 = both (slotsFine (slotsOf (t .names)) (slotsOf (t .names)) t) _ e in
+          let h2 = both (inRange (slotsOf (t .names)) (rootOf t)) _ (h1 .1) in
+          let h3 = both (inRange (slotsOf (t .names)) (firstOf t)) _ (h2 .1) in
           record {
-            links = λ i l. all-fine (capacityOf t) (capacityOf t) (h1 .0) i l .links;
-            root = named (capacityOf t) (rootOf t) (h2 .0);
-            first = named (capacityOf t) (firstOf t) (h3 .0);
-            states = λ i l. all-fine (capacityOf t) (capacityOf t) (h1 .0) i l .states;
-            cleared = λ i l z. all-fine (capacityOf t) (capacityOf t) (h1 .0) i l .cleared z;
+            links = λ i l. all-fine (slotsOf (t .names)) (slotsOf (t .names)) (h1 .0) i l .links;
+            root = named (slotsOf (t .names)) (rootOf t) (h2 .0);
+            first = named (slotsOf (t .names)) (firstOf t) (h3 .0);
+            states = λ i l. all-fine (slotsOf (t .names)) (slotsOf (t .names)) (h1 .0) i l .states;
+            cleared = λ i l z. all-fine (slotsOf (t .names)) (slotsOf (t .names)) (h1 .0) i l .cleared z;
             count = eqb-true _ _ (h3 .1);
           }
 
       from : T1 t → rule1 t ≡ true
       from h =
-          and (fine-all (capacityOf t) (capacityOf t) (λ i l. record { links = h .links i l; states = h .states i l; cleared = h .cleared i l }))
-          (and (ranged (capacityOf t) (rootOf t) (h .root)) (and (ranged (capacityOf t) (firstOf t) (h .first)) (eq-eqb _ _ (h .count))))
+          and (fine-all (slotsOf (t .names)) (slotsOf (t .names)) (λ i l. record { links = h .links i l; states = h .states i l; cleared = h .cleared i l }))
+          (and (ranged (slotsOf (t .names)) (rootOf t) (h .root)) (and (ranged (slotsOf (t .names)) (firstOf t) (h .first)) (eq-eqb _ _ (h .count))))
 
 -- Two tests agree where one holds exactly if the other does.
 agrees : (a b x y : ℕ) → agree (eqb a b) (eqb x y) ≡ true → (a ≡ b) ↔ (x ≡ y)
@@ -182,24 +183,24 @@ module _ {t : Live} (fit : Fit t) (one : T1 t) where
     where
       to : rule3 t ≡ true → (tree : Tree) × T3 t tree
       to e =
-          let h = left-of (capacityOf t) (countOf t) _ e in
-          let r = reached-rooted (capacityOf t) (t .cells) (small fit) (rootOf t) (h .0) (h .1) in
+          let h = left-of (slotsOf (t .names)) (countOf t) _ e in
+          let r = reached-rooted (slotsOf (t .names)) (t .cells) (small fit) (rootOf t) (h .0) (h .1) in
           let tree = r .0 in (
             tree,
             record {
               rooted = r .1;
               all =
-                  exactly (capacityOf t) (slots tree) (λ k z. hangs-inside (capacityOf t) (t .cells) (r .1 .hangs) z) (used (t .cells)) (r .1 .once)
-                  (λ k z. (let s = hangs-stand (capacityOf t) (t .cells) (r .1 .hangs) z in used-hued (t .cells) k (s .hue) (s .words .hued)))
+                  exactly (slotsOf (t .names)) (slots tree) (λ k z. hangs-inside (slotsOf (t .names)) (t .cells) (r .1 .hangs) z) (used (t .cells)) (r .1 .once)
+                  (λ k z. (let s = hangs-stand (slotsOf (t .names)) (t .cells) (r .1 .hangs) z in used-hued (t .cells) k (s .hue) (s .words .hued)))
                   (omega (arith, r .2, h .2, one .count));
             },
           )
 
       from : (tree : Tree) → T3 t tree → rule3 t ≡ true
       from tree h =
-          let m = rooted-most (capacityOf t) (t .cells) (small fit) (rootOf t) (h .rooted) in
-          let c = exactly-length (capacityOf t) (slots tree) (λ k z. hangs-inside (capacityOf t) (t .cells) (h .rooted .hangs) z) (used (t .cells)) (h .all) in
-          rw (rooted-reached (capacityOf t) (t .cells) (small fit) (rootOf t) (h .rooted)) (eq-eqb _ _ (all-but (capacityOf t) (length (slots tree)) (countOf t) m (c ∙ sym (one .count))))
+          let m = rooted-most (slotsOf (t .names)) (t .cells) (small fit) (rootOf t) (h .rooted) in
+          let c = exactly-length (slotsOf (t .names)) (slots tree) (λ k z. hangs-inside (slotsOf (t .names)) (t .cells) (h .rooted .hangs) z) (used (t .cells)) (h .all) in
+          rw (rooted-reached (slotsOf (t .names)) (t .cells) (small fit) (rootOf t) (h .rooted)) (eq-eqb _ _ (all-but (slotsOf (t .names)) (length (slots tree)) (countOf t) m (c ∙ sym (one .count))))
 
   module _ {tree : Tree} (three : T3 t tree) where
     pub rule-four : (rule4 t ≡ true) ↔ T4 t tree
@@ -208,20 +209,20 @@ module _ {t : Live} (fit : Fit t) (one : T1 t) where
 
     pub rule-five : (rule5 t ≡ true) ↔ T5 tree
     unfolding rule5
-    rule-five = coloured-coloured (capacityOf t) (t .cells) (small fit) (ends fit) (rootOf t) (three .rooted)
+    rule-five = coloured-coloured (slotsOf (t .names)) (t .cells) (small fit) (ends fit) (rootOf t) (three .rooted)
 
     pub rule-six : (rule6 t ≡ true) ↔ T6 tree
     unfolding rule6
-    rule-six = level-level (capacityOf t) (t .cells) (small fit) (rootOf t) (three .rooted)
+    rule-six = level-level (slotsOf (t .names)) (t .cells) (small fit) (rootOf t) (three .rooted)
 
   -- A free slot of the chain would be its first.
-  chain-used : {chain : List ℕ} → Chain (capacityOf t) (t .cells) null (firstOf t) chain → cell (t .cells) (firstOf t) state ≢ free
+  chain-used : {chain : List ℕ} → Chain (slotsOf (t .names)) (t .cells) null (firstOf t) chain → cell (t .cells) (firstOf t) state ≢ free
       → (k : ℕ) → 1 ≤ times k chain → used (t .cells) k ≡ 1
   chain-used c d k z = used-not (t .cells) k (λ e. go e (chain-prev c z))
     where
-      go : cell (t .cells) k state ≡ free → ((cell (t .cells) k prev ≡ null) × (k ≡ firstOf t)) ⊎ (cell (t .cells) k prev < capacityOf t) → ⊥
+      go : cell (t .cells) k state ≡ free → ((cell (t .cells) k prev ≡ null) × (k ≡ firstOf t)) ⊎ (cell (t .cells) k prev < slotsOf (t .names)) → ⊥
       go e (inl h) = d (rw (h .1) at e)
-      go e (inr h) = omega (arith, small fit, one .cleared k (chain-inside (capacityOf t) (t .cells) c z) e .prevs)
+      go e (inr h) = omega (arith, small fit, one .cleared k (chain-inside (slotsOf (t .names)) (t .cells) c z) e .prevs)
 
   first-in : {n i : ℕ} {cells chain : List ℕ} → Chain n cells null i chain → i ≢ null → 1 ≤ times i chain
   first-in (ended e) d = absurd (d e)
@@ -253,15 +254,15 @@ module _ {t : Live} (fit : Fit t) (one : T1 t) where
       to : rule7 t ≡ true → (chain : List ℕ) × T7 t chain
       to e =
           let f = both firstTest _ e in
-          let h = left-of (capacityOf t) (countOf t) _ (f .1) in
-          let r = chained-chain (capacityOf t) (t .cells) (small fit) (firstOf t) (h .0) (h .1) in
+          let h = left-of (slotsOf (t .names)) (countOf t) _ (f .1) in
+          let r = chained-chain (slotsOf (t .names)) (t .cells) (small fit) (firstOf t) (h .0) (h .1) in
           let chain = r .0 in (
             chain,
             record {
               linked = r .1;
               all =
-                  exactly (capacityOf t) chain (λ k z. chain-inside (capacityOf t) (t .cells) (r .1) z) (used (t .cells))
-                  (chain-once (capacityOf t) (t .cells) (small fit) (firstOf t) (r .1))
+                  exactly (slotsOf (t .names)) chain (λ k z. chain-inside (slotsOf (t .names)) (t .cells) (r .1) z) (used (t .cells))
+                  (chain-once (slotsOf (t .names)) (t .cells) (small fit) (firstOf t) (r .1))
                   (λ k z. chain-used (r .1) (first-used (f .0) (has-first k (small fit) (r .1) z)) k z)
                   (omega (arith, r .2, h .2, one .count));
             },
@@ -269,13 +270,13 @@ module _ {t : Live} (fit : Fit t) (one : T1 t) where
 
       from : (chain : List ℕ) → T7 t chain → rule7 t ≡ true
       from chain h =
-          let m = chain-most (capacityOf t) (t .cells) (small fit) (firstOf t) (h .linked) in
-          let c = exactly-length (capacityOf t) chain (λ k z. chain-inside (capacityOf t) (t .cells) (h .linked) z) (used (t .cells)) (h .all) in
+          let m = chain-most (slotsOf (t .names)) (t .cells) (small fit) (firstOf t) (h .linked) in
+          let c = exactly-length (slotsOf (t .names)) chain (λ k z. chain-inside (slotsOf (t .names)) (t .cells) (h .linked) z) (used (t .cells)) (h .all) in
           and (used-first (λ d z. unused d z))
-          (rw (chain-chained (capacityOf t) (t .cells) (small fit) (firstOf t) (h .linked)) (eq-eqb _ _ (all-but (capacityOf t) (length chain) (countOf t) m (c ∙ sym (one .count)))))
+          (rw (chain-chained (slotsOf (t .names)) (t .cells) (small fit) (firstOf t) (h .linked)) (eq-eqb _ _ (all-but (slotsOf (t .names)) (length chain) (countOf t) m (c ∙ sym (one .count)))))
         where
           unused : firstOf t ≢ null → cell (t .cells) (firstOf t) state ≡ free → ⊥
           unused d z =
               let y = first-in (h .linked) d in
               let u : used (t .cells) (firstOf t) ≡ 0 = rw (eq-eqb (cell (t .cells) (firstOf t) state) free z) in
-              omega (arith, y, u, h .all (firstOf t) (chain-inside (capacityOf t) (t .cells) (h .linked) y))
+              omega (arith, y, u, h .all (firstOf t) (chain-inside (slotsOf (t .names)) (t .cells) (h .linked) y))

@@ -10,7 +10,7 @@ use lib.ListN.{length}
 use Rattle.slots.specs.Words.{null, left, right, cell, nameOf, hashPart, keyPart, Colour}
 use Rattle.slots.specs.Pairs.{Pair, pair, pairOf, Less}
 use Rattle.slots.specs.Answers.{Answer, given, nothing}
-use Rattle.tree_rules.specs.Find.{Look, here, on, looked, Search, after, slotsOf, searched, found}
+use Rattle.tree_rules.specs.Find.{Look, here, on, looked, Search, lookedThen, slotsOf, searched, found}
 use Rattle.tree_rules.specs.Tree.{Tree, leaf, node, top, slots, times, Hangs, Rising}
 use Rattle.tree_rules.specs.Tree.Hangs.{none as hangsNone, some as hangsSome}
 use Rattle.tree_rules.specs.Claims.{Looks}
@@ -19,7 +19,7 @@ use Rattle.tree_rules.proofs.Counting.{times-append, times-head, times-rest, ti
 use Rattle.tree_rules.proofs.Reaching.{length-node, rooted-most}
 use Rattle.tree_rules.proofs.Claims.{claims}
 use Rattle.redblack.specs.Holding.{Has}
-use Rattle.index_rules.specs.Live.{Live, Fit, rootOf, capacityOf}
+use Rattle.index_rules.specs.Live.{Live, Fit, rootOf}
 use Rattle.index_rules.specs.Sound.{Sound}
 use Rattle.index_rules.proofs.Rules.{small}
 use Rattle.index_rules.proofs.Passing.{rising-before, rising-after, rising-front, rising-back}
@@ -92,11 +92,11 @@ module _ (names cells : List ℕ) (few : slotsOf names ≤ null) (hash key : ℕ
   -- The answer of a look that goes on, and of one that ends.
   step-on : {i q : ℕ} (v : ℕ) → i < slotsOf names → looked names cells i hash key ≡ on q → searched names cells (suc v) i hash key .answer ≡ searched names cells v q hash key .answer
   step-on {i} v l e =
-      ap (λ (s : Search). s .answer) (at-slot names cells hash key v i (omega arith) l ∙ ap (λ (o : Look). after o i (λ q. searched names cells v q hash key)) e)
+      ap (λ (s : Search). s .answer) (at-slot names cells hash key v i (omega arith) l ∙ ap (λ (o : Look). lookedThen o i (λ q. searched names cells v q hash key)) e)
 
   step-here : {i : ℕ} (v : ℕ) → i < slotsOf names → looked names cells i hash key ≡ here → searched names cells (suc v) i hash key .answer ≡ given i
   step-here {i} v l e =
-      ap (λ (s : Search). s .answer) (at-slot names cells hash key v i (omega arith) l ∙ ap (λ (o : Look). after o i (λ q. searched names cells v q hash key)) e)
+      ap (λ (s : Search). s .answer) (at-slot names cells hash key v i (omega arith) l ∙ ap (λ (o : Look). lookedThen o i (λ q. searched names cells v q hash key)) e)
 
   answered : {t : Tree} {a b : Answer} → a ≡ b → Answers t b → Answers t a
   answered e h = record { at = λ x z s. e ∙ h .at x z s; none = λ f. e ∙ h .none f }
@@ -188,8 +188,8 @@ module _ {t : Live} (fit : Fit t) (h : Sound t) (hash key : ℕ) where
   unfolding found
   whole =
       rw (h .t3 .rooted .from)
-      (seeks (t .names) (t .cells) (small fit) hash key (h .t3 .rooted .hangs) (h .t4) (capacityOf t)
-      (rooted-most (capacityOf t) (t .cells) (small fit) (rootOf t) (h .t3 .rooted)))
+      (seeks (t .names) (t .cells) (small fit) hash key (h .t3 .rooted .hangs) (h .t4) (slotsOf (t .names))
+      (rooted-most (slotsOf (t .names)) (t .cells) (small fit) (rootOf t) (h .t3 .rooted)))
 
   pub found-at : (x : ℕ) → 1 ≤ times x (slots (h .tree)) → pairOf (t .names) x ≡ pair hash key → found (t .names) (t .cells) (rootOf t) hash key .answer ≡ given x
   found-at x z s = whole .at x z s

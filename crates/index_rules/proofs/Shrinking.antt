@@ -17,13 +17,13 @@ use Rattle.tree_rules.proofs.Counting.{times-append, times-head, times-rest, ti
 use Rattle.tree_rules.proofs.Chaining.{chain-inside, chain-once}
 use Rattle.redblack.specs.Links.{Links, read}
 use Rattle.redblack.specs.Removal.{removed}
-use Rattle.redblack.specs.Balance.{Less}
+use Rattle.redblack.specs.Balance.{OneFewer}
 use Rattle.redblack.specs.Holding.{Holds, RedBlackTree}
 use Rattle.redblack.specs.Kept.{Agree}
 use Rattle.redblack.specs.Claims.{RemovesSlot}
 use Rattle.redblack.proofs.Kept.{place-aside, prev-aside, next-aside}
 use Rattle.redblack.proofs.Claims.{claims}
-use Rattle.index_rules.specs.Live.{Live, Fit, rootOf, firstOf, capacityOf}
+use Rattle.index_rules.specs.Live.{Live, Fit, rootOf, firstOf}
 use Rattle.index_rules.specs.Sound.{Sound, Cleared}
 use Rattle.index_rules.proofs.Built.{Built}
 use Rattle.index_rules.specs.Remove.{unchained, newFirst, wiped, shrunk}
@@ -32,14 +32,15 @@ use Rattle.index_rules.proofs.Fit.{half}
 use Rattle.index_rules.proofs.Rules.{small}
 use Rattle.index_rules.proofs.Building.{built-sound, built-tree, built-chain}
 use Rattle.index_rules.proofs.Frames.{Still, none-of, off-chain, sound-balanced, tree-inside, same-slots, nowhere-free, sound-count, hangs-frame, chain-frame, chain-behind, chain-starts, rising-frame, rising-without, without-else, without-same, without-length, roomy-cells, roomy-names, name-same, name-across, name-else, roomy-rename, length-rename, headed-length, headed-root, headed-first, headed-count}
+use Rattle.tree_rules.specs.Find.{slotsOf}
 
 -- A member of a list can be taken out of it.
-taken : (x : ℕ) (l : List ℕ) → 1 ≤ times x l → (m : List ℕ) × Less x l m
+taken : (x : ℕ) (l : List ℕ) → 1 ≤ times x l → (m : List ℕ) × OneFewer x l m
 unfolding times
 taken x [] z = absurd (omega arith)
 taken x (y ∷ l) z = times-cases x y l z (λ e. (l, record { before = []; after = l; whole = ap (λ (j : ℕ). j ∷ l) (sym e); rest = refl })) (λ w. onward (taken x l w))
   where
-    onward : (m : List ℕ) × Less x l m → (m : List ℕ) × Less x (y ∷ l) m
+    onward : (m : List ℕ) × OneFewer x l m → (m : List ℕ) × OneFewer x (y ∷ l) m
     onward (m, h) = (y ∷ m, record { before = y ∷ h .before; after = h .after; whole = ap (λ (j : List ℕ). y ∷ j) (h .whole); rest = ap (λ (j : List ℕ). y ∷ j) (h .rest) })
 
 module _ {n : ℕ} {cells : List ℕ} where
@@ -135,19 +136,19 @@ module _ (cells : List ℕ) (x : ℕ) where
 -- The tree u is t without the slot x.
 pub record Shrunk (t u : Live) (h : Sound t) (x : ℕ) : Type 0 where
   pub sound : Sound u
-  pub chain : Less x (h .chain) (sound .chain)
-  pub slotted : Less x (slots (h .tree)) (slots (sound .tree))
+  pub chain : OneFewer x (h .chain) (sound .chain)
+  pub slotted : OneFewer x (slots (h .tree)) (slots (sound .tree))
   pub keeps : (k : ℕ) → 1 ≤ times k (slots (sound .tree)) → Alike t u k
   pub frees : Frees t u x
 
 module _ {t : Live} (fit : Fit t) (h : Sound t) (x : ℕ) (here : 1 ≤ times x (slots (h .tree))) where
-  inside : x < capacityOf t
+  inside : x < slotsOf (t .names)
   inside = tree-inside h x here
 
   in-chain : 1 ≤ times x (h .chain)
   in-chain = omega (arith, here, same-slots h x inside)
 
-  long : length (t .cells) ≡ 7 * capacityOf t
+  long : length (t .cells) ≡ 7 * slotsOf (t .names)
   long = omega (arith, fit .seven, half fit)
 
   abbrev loose : List ℕ
@@ -157,14 +158,14 @@ module _ {t : Live} (fit : Fit t) (h : Sound t) (x : ℕ) (here : 1 ≤ times x 
   links = record { cells = loose; root = rootOf t }
 
   abbrev gone : Links
-  gone = removed (capacityOf t) links x
+  gone = removed (slotsOf (t .names)) links x
 
-  removes-slot : RemovesSlot (capacityOf t) (capacityOf t) links (h .tree) x
-  removes-slot = claims .removes-slot (capacityOf t) (capacityOf t) links (h .tree) x
+  removes-slot : RemovesSlot (slotsOf (t .names)) (slotsOf (t .names)) links (h .tree) x
+  removes-slot = claims .removes-slot (slotsOf (t .names)) (slotsOf (t .names)) links (h .tree) x
 
   -- A removal leaves every place as it was, whatever the links are.
-  gone-place : (s : Links) (k : ℕ) → read (removed (capacityOf t) s x) k place ≡ read s k place
-  gone-place s k = claims .removes-slot (capacityOf t) (capacityOf t) s (h .tree) x .keeps place place-aside .same k
+  gone-place : (s : Links) (k : ℕ) → read (removed (slotsOf (t .names)) s x) k place ≡ read s k place
+  gone-place s k = claims .removes-slot (slotsOf (t .names)) (slotsOf (t .names)) s (h .tree) x .keeps place place-aside .same k
 
   -- Which slot keeps which pair and place.
   others-stay : OthersStay t (shrunk t x) x
@@ -172,7 +173,7 @@ module _ {t : Live} (fit : Fit t) (h : Sound t) (x : ℕ) (here : 1 ≤ times x 
   others-stay y d =
       record { pairs = simp name-else; places = simp cell-else (gone-place _ y ∙ simp cell-across) }
 
-  holds : Holds (capacityOf t) links (h .tree)
+  holds : Holds (slotsOf (t .names)) links (h .tree)
   holds =
       record {
         long = loose-length (t .cells) x ∙ long;
@@ -185,10 +186,10 @@ module _ {t : Live} (fit : Fit t) (h : Sound t) (x : ℕ) (here : 1 ≤ times x 
             };
       }
 
-  result : (u : Tree) × Holds (capacityOf t) gone u × RedBlackTree u × Less x (slots (h .tree)) (slots u)
+  result : (u : Tree) × Holds (slotsOf (t .names)) gone u × RedBlackTree u × OneFewer x (slots (h .tree)) (slots u)
   result = removes-slot .removes holds (sound-balanced h) here (omega arith)
 
-  others-chain : (m : List ℕ) × Less x (h .chain) m
+  others-chain : (m : List ℕ) × OneFewer x (h .chain) m
   others-chain = taken x (h .chain) in-chain
 
   -- The old chain around x.
@@ -198,18 +199,18 @@ module _ {t : Live} (fit : Fit t) (h : Sound t) (x : ℕ) (here : 1 ≤ times x 
   abbrev back : List ℕ
   back = others-chain .1 .after
 
-  whole-chain : Chain (capacityOf t) (t .cells) null (firstOf t) (front ++ (x ∷ back))
-  whole-chain = subst (λ (l : List ℕ). Chain (capacityOf t) (t .cells) null (firstOf t) l) (others-chain .1 .whole) (h .t7 .linked)
+  whole-chain : Chain (slotsOf (t .names)) (t .cells) null (firstOf t) (front ++ (x ∷ back))
+  whole-chain = subst (λ (l : List ℕ). Chain (slotsOf (t .names)) (t .cells) null (firstOf t) l) (others-chain .1 .whole) (h .t7 .linked)
 
   within : (k : ℕ) → times k (h .chain) ≡ times k front + times k (x ∷ back)
   within k = ap (λ (l : List ℕ). times k l) (others-chain .1 .whole) ∙ times-append k front (x ∷ back)
 
   once : (k : ℕ) → times k (h .chain) ≤ 1
-  once = chain-once (capacityOf t) (t .cells) (small fit) (firstOf t) (h .t7 .linked)
+  once = chain-once (slotsOf (t .names)) (t .cells) (small fit) (firstOf t) (h .t7 .linked)
 
-  cut : Chain (capacityOf t) loose null (skip (t .cells) x front (firstOf t)) (others-chain .0)
+  cut : Chain (slotsOf (t .names)) loose null (skip (t .cells) x front (firstOf t)) (others-chain .0)
   cut =
-      subst (λ (l : List ℕ). Chain (capacityOf t) loose null (skip (t .cells) x front (firstOf t)) l) (sym (others-chain .1 .rest))
+      subst (λ (l : List ℕ). Chain (slotsOf (t .names)) loose null (skip (t .cells) x front (firstOf t)) l) (sym (others-chain .1 .rest))
       (chain-cut (t .cells) x long (small fit) front back (λ k. omega (arith, once k, within k, times-append k front (x ∷ back))) no-null whole-chain)
     where
       no-null : times null (front ++ (x ∷ back)) ≡ 0
@@ -217,7 +218,7 @@ module _ {t : Live} (fit : Fit t) (h : Sound t) (x : ℕ) (here : 1 ≤ times x 
         where
           go : Dec (times null (front ++ (x ∷ back)) ≡ 0) → times null (front ++ (x ∷ back)) ≡ 0
           go (yes e) = e
-          go (no d) = let z : 1 ≤ times null (front ++ (x ∷ back)) = omega arith in absurd (omega (arith, small fit, chain-inside (capacityOf t) (t .cells) whole-chain z))
+          go (no d) = let z : 1 ≤ times null (front ++ (x ∷ back)) = omega arith in absurd (omega (arith, small fit, chain-inside (slotsOf (t .names)) (t .cells) whole-chain z))
 
   first-is : newFirst t x ≡ skip (t .cells) x front (firstOf t)
   unfolding skip
@@ -226,7 +227,7 @@ module _ {t : Live} (fit : Fit t) (h : Sound t) (x : ℕ) (here : 1 ≤ times x 
       go : ((cell (t .cells) x prev ≡ null) × (front ≡ [])) ⊎ (1 ≤ times (cell (t .cells) x prev) front) → newFirst t x ≡ skip (t .cells) x front (firstOf t)
       go (inl e) = pick-eq _ _ (e .0) ∙ ap (λ (l : List ℕ). skip (t .cells) x l (firstOf t)) (sym (e .1))
       go (inr z) =
-          let l : cell (t .cells) x prev < capacityOf t = chain-inside (capacityOf t) (t .cells) (h .t7 .linked) (omega (arith, within (cell (t .cells) x prev))) in
+          let l : cell (t .cells) x prev < slotsOf (t .names) = chain-inside (slotsOf (t .names)) (t .cells) (h .t7 .linked) (omega (arith, within (cell (t .cells) x prev))) in
           let d : cell (t .cells) x prev ≢ null = omega (arith, small fit) in
           pick-ne _ _ d ∙ sym (skip-some (t .cells) x (cell (t .cells) x prev) front (firstOf t) z)
 
@@ -254,7 +255,7 @@ module _ {t : Live} (fit : Fit t) (h : Sound t) (x : ℕ) (here : 1 ≤ times x 
         rights = wiped-else (gone .cells) x k right d refl;
       }
 
-  clean-rooted : Rooted (capacityOf t) clean (gone .root) (result .0)
+  clean-rooted : Rooted (slotsOf (t .names)) clean (gone .root) (result .0)
   clean-rooted =
       record {
         from = result .1 .rooted .from;
@@ -262,7 +263,7 @@ module _ {t : Live} (fit : Fit t) (h : Sound t) (x : ℕ) (here : 1 ≤ times x 
         once = result .1 .rooted .once;
       }
 
-  clean-chain : Chain (capacityOf t) clean null (newFirst t x) (others-chain .0)
+  clean-chain : Chain (slotsOf (t .names)) clean null (newFirst t x) (others-chain .0)
   clean-chain =
       rw first-is
       (chain-frame (λ k z. (let d = none-of (others-chain .0) absent-chain z in
@@ -272,7 +273,7 @@ module _ {t : Live} (fit : Fit t) (h : Sound t) (x : ℕ) (here : 1 ≤ times x 
       }))
       cut)
 
-  same : (k : ℕ) → k < capacityOf t → times k (slots (result .0)) ≡ times k (others-chain .0)
+  same : (k : ℕ) → k < slotsOf (t .names) → times k (slots (result .0)) ≡ times k (others-chain .0)
   same k l = go (ℕ-discrete k x)
     where
       go : Dec (k ≡ x) → times k (slots (result .0)) ≡ times k (others-chain .0)
@@ -318,7 +319,7 @@ module _ {t : Live} (fit : Fit t) (h : Sound t) (x : ℕ) (here : 1 ≤ times x 
     },
   )
 
-  others : (k : ℕ) → k < capacityOf t → times k (slots (result .0)) ≡ 0 → (cell clean k state ≡ free) × Cleared (shrunk t x) k
+  others : (k : ℕ) → k < slotsOf (t .names) → times k (slots (result .0)) ≡ 0 → (cell clean k state ≡ free) × Cleared (shrunk t x) k
   unfolding shrunk
   others k l z = go (ℕ-discrete k x)
     where
@@ -357,7 +358,7 @@ module _ {t : Live} (fit : Fit t) (h : Sound t) (x : ℕ) (here : 1 ≤ times x 
         three = headed-length (t .head) _ _ _ ∙ fit .three;
       }
 
-  cap : capacityOf (shrunk t x) ≡ capacityOf t
+  cap : slotsOf ((shrunk t x) .names) ≡ slotsOf (t .names)
   unfolding shrunk
   cap = simp length-rename
 

@@ -16,7 +16,7 @@ use Rattle.tree_rules.specs.Tree.{Tree, slots, times}
 use Rattle.tree_rules.specs.Chain.{tally}
 use Rattle.tree_rules.proofs.Reaching.{rooted-unique}
 use Rattle.redblack.specs.Holding.{Has}
-use Rattle.index_rules.specs.Live.{Live, Fit, rootOf, capacityOf}
+use Rattle.index_rules.specs.Live.{Live, Fit, rootOf}
 use Rattle.index_rules.specs.Sound.{Sound, used}
 use Rattle.index_rules.specs.Index.{lineWord, kindWord, hashWord, keyWord, placeWord}
 use Rattle.index_rules.specs.Insert.{lowestFree, soughtIn, grown}
@@ -32,20 +32,21 @@ use Rattle.index_rules.proofs.Free.{lowest-free, none-free}
 use Rattle.index_rules.proofs.Deciding.{Seen, there, absent, seen}
 use Rattle.index_rules.proofs.Holding.{grown-contents, shrunk-contents, contents-length, stands-in, in-stands, lacks-of, of-lacks}
 use Rattle.index_rules.proofs.Seeking.{found-at, found-none}
+use Rattle.tree_rules.specs.Find.{slotsOf}
 
 -- A sound tree has one tree, and so one list of contents.
 pub tree-one : {t : Live} → Fit t → (h g : Sound t) → h .tree ≡ g .tree
-tree-one {t} fit h g = rooted-unique (capacityOf t) (t .cells) (small fit) (rootOf t) (h .t3 .rooted) (g .t3 .rooted)
+tree-one {t} fit h g = rooted-unique (slotsOf (t .names)) (t .cells) (small fit) (rootOf t) (h .t3 .rooted) (g .t3 .rooted)
 
 pub contents-one : {t : Live} → Fit t → (h g : Sound t) → contents h ≡ contents g
 contents-one {t} fit h g =
     ap (λ (u : Tree). Rattle.index_rules.specs.Contents.listed t u) (tree-one fit h g)
 
-pub grown-capacity : (t : Live) (x hash key p : ℕ) → capacityOf (grown t x hash key p) ≡ capacityOf t
+pub grown-capacity : (t : Live) (x hash key p : ℕ) → slotsOf ((grown t x hash key p) .names) ≡ slotsOf (t .names)
 unfolding grown
 grown-capacity t x hash key p = simp length-rename
 
-pub shrunk-capacity : (t : Live) (x : ℕ) → capacityOf (shrunk t x) ≡ capacityOf t
+pub shrunk-capacity : (t : Live) (x : ℕ) → slotsOf ((shrunk t x) .names) ≡ slotsOf (t .names)
 unfolding shrunk
 shrunk-capacity t x = simp length-rename
 
@@ -76,27 +77,27 @@ used-most cells k = go (eqb (cell cells k state) free)
     go true = omega arith
     go false = omega arith
 
-pub free-room : {t : Live} → Fit t → (h : Sound t) → (lowestFree t ≢ null) ↔ (length (contents h) < capacityOf t)
+pub free-room : {t : Live} → Fit t → (h : Sound t) → (lowestFree t ≢ null) ↔ (length (contents h) < slotsOf (t .names))
 free-room {t} fit h = (to, from)
   where
-    to : lowestFree t ≢ null → length (contents h) < capacityOf t
+    to : lowestFree t ≢ null → length (contents h) < slotsOf (t .names)
     to d =
         let f = lowest-free t d in
-        omega (arith, contents-length h, h .t1 .count, tally-fewer (capacityOf t) (lowestFree t) (used (t .cells)) (used-most (t .cells)) (f .inside) (rw (eq-eqb (cell (t .cells) (lowestFree t) state) free (f .unused))))
+        omega (arith, contents-length h, h .t1 .count, tally-fewer (slotsOf (t .names)) (lowestFree t) (used (t .cells)) (used-most (t .cells)) (f .inside) (rw (eq-eqb (cell (t .cells) (lowestFree t) state) free (f .unused))))
 
-    from : length (contents h) < capacityOf t → lowestFree t ≢ null
+    from : length (contents h) < slotsOf (t .names) → lowestFree t ≢ null
     from l e =
         let n = none-free t (small fit) .0 e in
-        omega (arith, contents-length h, h .t1 .count, tally-all (capacityOf t) (used (t .cells)) (λ k w. rw (ne-eqb (cell (t .cells) k state) free (n k w))))
+        omega (arith, contents-length h, h .t1 .count, tally-all (slotsOf (t .names)) (used (t .cells)) (λ k w. rw (ne-eqb (cell (t .cells) k state) free (n k w))))
 
-pub contents-most : {t : Live} → Fit t → (h : Sound t) → length (contents h) ≤ capacityOf t
-contents-most {t} fit h = omega (arith, contents-length h, h .t1 .count, tally-most (capacityOf t) (used (t .cells)) (used-most (t .cells)))
+pub contents-most : {t : Live} → Fit t → (h : Sound t) → length (contents h) ≤ slotsOf (t .names)
+contents-most {t} fit h = omega (arith, contents-length h, h .t1 .count, tally-most (slotsOf (t .names)) (used (t .cells)) (used-most (t .cells)))
 
 -- A tree that a line's undoing leaves, with its contents.
 pub record Left (t u : Live) (l : List Entry) : Type 0 where
   pub fit : Fit u
   pub sound : Sound u
-  pub capacity : capacityOf u ≡ capacityOf t
+  pub capacity : slotsOf (u .names) ≡ slotsOf (t .names)
   pub holds : contents sound ≡ l
 
 module _ {t : Live} (fit : Fit t) (h : Sound t) where
@@ -131,7 +132,7 @@ not-stays e = let z : _≡_ {A = ℕ} 0 1 = cc in omega arith
 pub data Stepped {t : Live} (h : Sound t) (lines : List ℕ) (k : ℕ) (u : Live) : Type 0 where
   took : lineWord lines k kindWord ≡ 1 → In (lineEntry lines k) (contents h)
       → Left t u (without (lineWord lines k hashWord) (lineWord lines k keyWord) (contents h)) → Stepped h lines k u
-  gave : lineWord lines k kindWord ≡ 2 → Lacks (lineWord lines k hashWord) (lineWord lines k keyWord) (contents h) → length (contents h) < capacityOf t
+  gave : lineWord lines k kindWord ≡ 2 → Lacks (lineWord lines k hashWord) (lineWord lines k keyWord) (contents h) → length (contents h) < slotsOf (t .names)
       → lineWord lines k placeWord < 4294967296 → Left t u (put (lineEntry lines k) (contents h)) → Stepped h lines k u
 
 module _ {t : Live} (fit : Fit t) (h : Sound t) (lines : List ℕ) (k : ℕ) where
@@ -187,7 +188,7 @@ module _ {t : Live} (fit : Fit t) (h : Sound t) (lines : List ℕ) (k : ℕ) whe
       let p : cell (t .cells) (s .slot) place ≡ lineWord lines k placeWord = ap (λ (r : Entry). r .at) (s .is) in
       (shrunk t (s .slot), rw (eq-eqb (lineWord lines k kindWord) 1 one, f, eq-eqb (cell (t .cells) (s .slot) place) (lineWord lines k placeWord) p))
 
-  pub step-gave : lineWord lines k kindWord ≡ 2 → Lacks (lineWord lines k hashWord) (lineWord lines k keyWord) (contents h) → length (contents h) < capacityOf t
+  pub step-gave : lineWord lines k kindWord ≡ 2 → Lacks (lineWord lines k hashWord) (lineWord lines k keyWord) (contents h) → length (contents h) < slotsOf (t .names)
       → lineWord lines k placeWord < 4294967296 → (u : Live) × (undone t lines k ≡ stays u)
   unfolding undone soughtIn
   step-gave two l r w =
@@ -201,22 +202,22 @@ module _ {t : Live} (fit : Fit t) (h : Sound t) (lines : List ℕ) (k : ℕ) whe
 pub record Rolled {t : Live} (h : Sound t) (lines : List ℕ) (m k : ℕ) (u : Live) : Type 0 where
   pub fit : Fit u
   pub sound : Sound u
-  pub capacity : capacityOf u ≡ capacityOf t
-  pub undoes : Undoes (capacityOf t) lines m k (contents h) (contents sound)
+  pub capacity : slotsOf (u .names) ≡ slotsOf (t .names)
+  pub undoes : Undoes (slotsOf (t .names)) lines m k (contents h) (contents sound)
 
-carry : {t v u : Live} (h : Sound t) (g : Sound v) (lines : List ℕ) (m k : ℕ) → capacityOf v ≡ capacityOf t → (r : Rolled g lines m k u) → Undoes (capacityOf t) lines m k (contents g) (contents (r .sound))
+carry : {t v u : Live} (h : Sound t) (g : Sound v) (lines : List ℕ) (m k : ℕ) → slotsOf (v .names) ≡ slotsOf (t .names) → (r : Rolled g lines m k u) → Undoes (slotsOf (t .names)) lines m k (contents g) (contents (r .sound))
 carry h g lines m k e r = rw (← e) (r .undoes)
 
 module _ (lines : List ℕ) (m : ℕ) where
   one-more : (k : ℕ) {t v u : Live} (h : Sound t) → m ≤ k → Stepped h lines k v → ((g : Sound v) → Fit v → Rolled g lines m k u) → Rolled h lines m (suc k) u
   one-more k {t} {v} {u} h w (took p i l) rest =
       let r = rest (l .sound) (l .fit) in
-      let x : Undoes (capacityOf t) lines m k (contents (l .sound)) (contents (r .sound)) = carry h (l .sound) lines m k (l .capacity) r in
-      record { fit = r .fit; sound = r .sound; capacity = r .capacity ∙ l .capacity; undoes = insertLine w p i (subst (λ (q : List Entry). Undoes (capacityOf t) lines m k q (contents (r .sound))) (l .holds) x) }
+      let x : Undoes (slotsOf (t .names)) lines m k (contents (l .sound)) (contents (r .sound)) = carry h (l .sound) lines m k (l .capacity) r in
+      record { fit = r .fit; sound = r .sound; capacity = r .capacity ∙ l .capacity; undoes = insertLine w p i (subst (λ (q : List Entry). Undoes (slotsOf (t .names)) lines m k q (contents (r .sound))) (l .holds) x) }
   one-more k {t} {v} {u} h w (gave p i f q l) rest =
       let r = rest (l .sound) (l .fit) in
-      let x : Undoes (capacityOf t) lines m k (contents (l .sound)) (contents (r .sound)) = carry h (l .sound) lines m k (l .capacity) r in
-      record { fit = r .fit; sound = r .sound; capacity = r .capacity ∙ l .capacity; undoes = removeLine w p i f q (subst (λ (q : List Entry). Undoes (capacityOf t) lines m k q (contents (r .sound))) (l .holds) x) }
+      let x : Undoes (slotsOf (t .names)) lines m k (contents (l .sound)) (contents (r .sound)) = carry h (l .sound) lines m k (l .capacity) r in
+      record { fit = r .fit; sound = r .sound; capacity = r .capacity ∙ l .capacity; undoes = removeLine w p i f q (subst (λ (q : List Entry). Undoes (slotsOf (t .names)) lines m k q (contents (r .sound))) (l .holds) x) }
 
   pub unrolled-undoes : (c : ℕ) {t : Live} → Fit t → (h : Sound t) (u : Live) → unrolled c t lines m ≡ stays u → Rolled h lines m (m + c) u
   unfolding unrolled
@@ -235,7 +236,7 @@ module _ (lines : List ℕ) (m : ℕ) where
       go misfit q rest = absurd (not-stays (rw (q, unrolled) at e))
 
   -- And lines that fit are undone.
-  pub undoes-unrolled : (c k : ℕ) {n : ℕ} {l l′ : List Entry} {t : Live} → Undoes n lines m k l l′ → k ≡ m + c → Fit t → (h : Sound t) → l ≡ contents h → n ≡ capacityOf t
+  pub undoes-unrolled : (c k : ℕ) {n : ℕ} {l l′ : List Entry} {t : Live} → Undoes n lines m k l l′ → k ≡ m + c → Fit t → (h : Sound t) → l ≡ contents h → n ≡ slotsOf (t .names)
       → (u : Live) × (unrolled c t lines m ≡ stays u)
   unfolding unrolled
   undoes-unrolled zero k {t = t} x e fit h q r = (t, refl)
@@ -246,7 +247,7 @@ module _ (lines : List ℕ) (m : ℕ) where
       next (s .0) (s .1) (undone-step fit h lines k (s .0) (s .1)) z (λ v g f a b. undoes-unrolled c k x z f g a b)
     where
       next : (v : Live) → undone t lines k ≡ stays v → Stepped h lines k v → k ≡ m + c
-          → ((v : Live) (g : Sound v) → Fit v → without (lineWord lines k hashWord) (lineWord lines k keyWord) l ≡ contents g → n ≡ capacityOf v → (u : Live) × (unrolled c v lines m ≡ stays u))
+          → ((v : Live) (g : Sound v) → Fit v → without (lineWord lines k hashWord) (lineWord lines k keyWord) l ≡ contents g → n ≡ slotsOf (v .names) → (u : Live) × (unrolled c v lines m ≡ stays u))
           → (u : Live) × (unrolled (suc c) t lines m ≡ stays u)
       next v y (took a b f) z rest =
           let o = rest v (f .sound) (f .fit) (ap (without (lineWord lines k hashWord) (lineWord lines k keyWord)) q ∙ sym (f .holds)) (r ∙ sym (f .capacity)) in
@@ -258,7 +259,7 @@ module _ (lines : List ℕ) (m : ℕ) where
       next (s .0) (s .1) (undone-step fit h lines k (s .0) (s .1)) z (λ v g j a b. undoes-unrolled c k x z j g a b)
     where
       next : (v : Live) → undone t lines k ≡ stays v → Stepped h lines k v → k ≡ m + c
-          → ((v : Live) (g : Sound v) → Fit v → put (lineEntry lines k) l ≡ contents g → n ≡ capacityOf v → (u : Live) × (unrolled c v lines m ≡ stays u))
+          → ((v : Live) (g : Sound v) → Fit v → put (lineEntry lines k) l ≡ contents g → n ≡ slotsOf (v .names) → (u : Live) × (unrolled c v lines m ≡ stays u))
           → (u : Live) × (unrolled (suc c) t lines m ≡ stays u)
       next v y (took a b f) z rest = absurd (omega arith)
       next v y (gave a b d g f) z rest =

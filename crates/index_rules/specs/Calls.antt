@@ -6,12 +6,13 @@ use Prim.Native.Nat.{ℕ, _+_, _<_, _≤_}
 use lib.ListN.{length, getD}
 use Rattle.slots.specs.Words.{place, state, free, cell}
 use Rattle.slots.specs.Pairs.{pair, pairOf}
-use Rattle.index_rules.specs.Live.{Live, capacityOf}
+use Rattle.index_rules.specs.Live.{Live}
 use Rattle.index_rules.specs.Index.{Index, Outcome, lengthOf, lineWord, at, kindWord, hashWord, keyWord, placeWord}
 use Rattle.index_rules.specs.Insert.{inserts}
 use Rattle.index_rules.specs.Remove.{removes}
 use Rattle.index_rules.specs.Rollback.{rolls}
 use Rattle.index_rules.specs.Contents.{Entry, In}
+use Rattle.tree_rules.specs.Find.{slotsOf}
 
 pub data Call : Type 0 where
   insertCall : ℕ → ℕ → ℕ → Call
@@ -41,12 +42,12 @@ Places l = (e : Entry) → In e l → e .at < 4294967296
 
 -- There is a free slot, and x is the lowest.
 pub record Lowest (t : Live) (x : ℕ) : Type 0 where
-  pub inside : x < capacityOf t
+  pub inside : x < slotsOf (t .names)
   pub unused : cell (t .cells) x state ≡ free
   pub lower : (k : ℕ) → k < x → cell (t .cells) k state ≢ free
 
 abbrev pub NoneFree : Live → Type 0
-NoneFree t = (k : ℕ) → k < capacityOf t → cell (t .cells) k state ≢ free
+NoneFree t = (k : ℕ) → k < slotsOf (t .names) → cell (t .cells) k state ≢ free
 
 -- The slot y has in u the pair and the place that it has in t.
 pub record Alike (t u : Live) (y : ℕ) : Type 0 where

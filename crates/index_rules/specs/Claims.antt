@@ -8,14 +8,14 @@ use lib.ListN.{length, getD}
 use Rattle.slots.specs.Words.{place, cell}
 use Rattle.slots.specs.Pairs.{pair, pairOf}
 use Rattle.slots.specs.Answers.{some, given, nothing, refused}
-use Rattle.tree_rules.specs.Find.{Lost, Here, Missed}
+use Rattle.tree_rules.specs.Find.{slotsOf, Lost, Here, Missed}
 use Rattle.tree_rules.specs.Check.{passed, failed, strayed, Walks}
-use Rattle.index_rules.specs.Live.{Live, Fit, rootOf, countOf, capacityOf}
+use Rattle.index_rules.specs.Live.{Live, Fit, rootOf, countOf}
 use Rattle.index_rules.specs.Find.{finds}
 use Rattle.index_rules.specs.Check.{checks}
 use Rattle.index_rules.specs.Sound.{Sound, T1, T2, T3, T4, T5, T6, T7, rule1, rule2, rule3, rule4, rule5, rule6, rule7, sounds}
 use Rattle.tree_rules.specs.Tree.{Tree, slots, Rising}
-use Rattle.redblack.specs.Balance.{Less}
+use Rattle.redblack.specs.Balance.{OneFewer}
 use Rattle.redblack.specs.Holding.{Stands, Has}
 use Rattle.index_rules.specs.Index.{Index, FitIndex, lengthOf, linesOf, at}
 use Rattle.index_rules.specs.Insert.{inserts}
@@ -40,10 +40,10 @@ pub record Finds (t : Live) (hash key : ℕ) : Type 0 where
 pub record Checks (t : Live) : Type 0 where
   pub one : (checks t ≡ refused 1) ↔ (Fit t → ⊥)
   -- "9": the root or one of a node's own five links out of range, or more visits than slots, where the walk comes to it
-  pub nine : (checks t ≡ refused 9) ↔ (Fit t × Walks (t .names) (t .cells) (rootOf t) (capacityOf t) strayed)
+  pub nine : (checks t ≡ refused 9) ↔ (Fit t × Walks (t .names) (t .cells) (rootOf t) (slotsOf (t .names)) strayed)
   -- "Passes, or the first failing test with its slot"
-  pub passes : (checks t ≡ nothing) ↔ (Fit t × ((v : ℕ) × Walks (t .names) (t .cells) (rootOf t) (capacityOf t) (passed v)))
-  pub fails : (test slot : ℕ) → (checks t ≡ record { number = 100 + test; value = some slot }) ↔ (Fit t × Walks (t .names) (t .cells) (rootOf t) (capacityOf t) (failed test slot))
+  pub passes : (checks t ≡ nothing) ↔ (Fit t × ((v : ℕ) × Walks (t .names) (t .cells) (rootOf t) (slotsOf (t .names)) (passed v)))
+  pub fails : (test slot : ℕ) → (checks t ≡ record { number = 100 + test; value = some slot }) ↔ (Fit t × Walks (t .names) (t .cells) (rootOf t) (slotsOf (t .names)) (failed test slot))
 
 -- The full check on any words: "yes exactly if sound", and each rule's own test exactly where the rule holds, given those before it.
 pub record Sounds (t : Live) : Type 0 where
@@ -67,7 +67,7 @@ pub record FindsSound (t : Live) (fit : Fit t) (h : Sound t) (hash key : ℕ) : 
   pub never-nine : finds t hash key ≡ refused 9 → ⊥
 
 -- The contents of a sound tree are one list, and it strictly rises: two trees have equal contents exactly if they hold the same.
-pub record Holds (t : Live) (fit : Fit t) : Type 0 where
+pub record Contained (t : Live) (fit : Fit t) : Type 0 where
   pub one : (h g : Sound t) → contents h ≡ contents g
   pub rising : (h : Sound t) → Rising (t .names) (slots (h .tree))
   pub many : (h : Sound t) → length (contents h) ≡ countOf t
@@ -98,7 +98,7 @@ pub record Inserts (ix : Index) (hash key p : ℕ) : Type 0 where
   pub done : (x : ℕ) → inserts ix hash key p .answer ≡ given x → (h : Sound (ix .live))
       → (g : Sound (inserts ix hash key p .left .live)) × FitIndex (inserts ix hash key p .left)
       × (contents g ≡ put (entry hash key p) (contents h)) × (g .chain ≡ x ∷ h .chain)
-      × OneLine (ix .lines) (inserts ix hash key p .left .lines) 1 hash key p × (capacityOf (inserts ix hash key p .left .live) ≡ capacityOf (ix .live))
+      × OneLine (ix .lines) (inserts ix hash key p .left .lines) 1 hash key p × (slotsOf ((inserts ix hash key p .left .live) .names) ≡ slotsOf (ix .live .names))
       × Takes (ix .live) (inserts ix hash key p .left .live) x hash key p
 
 -- remove on any words.
@@ -117,8 +117,8 @@ pub record Removes (ix : Index) (hash key : ℕ) : Type 0 where
   -- place it had; the slot answered is free
   pub done : (x : ℕ) → removes ix hash key .answer ≡ given x → (h : Sound (ix .live))
       → (g : Sound (removes ix hash key .left .live)) × FitIndex (removes ix hash key .left)
-      × (contents g ≡ without hash key (contents h)) × Less x (h .chain) (g .chain)
-      × OneLine (ix .lines) (removes ix hash key .left .lines) 2 hash key (cell (ix .live .cells) x place) × (capacityOf (removes ix hash key .left .live) ≡ capacityOf (ix .live))
+      × (contents g ≡ without hash key (contents h)) × OneFewer x (h .chain) (g .chain)
+      × OneLine (ix .lines) (removes ix hash key .left .lines) 2 hash key (cell (ix .live .cells) x place) × (slotsOf ((removes ix hash key .left .live) .names) ≡ slotsOf (ix .live .names))
       × Frees (ix .live) (removes ix hash key .left .live) x
 
 -- rollback on any words.
@@ -129,17 +129,17 @@ pub record Rolls (ix : Index) (m : ℕ) : Type 0 where
   pub seven : (rolls ix m .answer ≡ refused 7) ↔ (FitIndex ix × Sound (ix .live) × (lengthOf (ix .lines) < m))
   -- 8 Misfit, "the lines do not fit"
   pub eight : (rolls ix m .answer ≡ refused 8)
-      ↔ (FitIndex ix × (m ≤ lengthOf (ix .lines)) × ((h : Sound (ix .live)) × (Fits (capacityOf (ix .live)) (ix .lines) m (lengthOf (ix .lines)) (contents h) → ⊥)))
+      ↔ (FitIndex ix × (m ≤ lengthOf (ix .lines)) × ((h : Sound (ix .live)) × (Fits (slotsOf (ix .live .names)) (ix .lines) m (lengthOf (ix .lines)) (contents h) → ⊥)))
   -- accepted exactly else, and it answers the lines undone
   pub accepted : (c : ℕ) → (rolls ix m .answer ≡ given c)
       ↔ (FitIndex ix × (m ≤ lengthOf (ix .lines)) × (c ≡ lengthOf (ix .lines) - m)
-      × ((h : Sound (ix .live)) × Fits (capacityOf (ix .live)) (ix .lines) m (lengthOf (ix .lines)) (contents h)))
+      × ((h : Sound (ix .live)) × Fits (slotsOf (ix .live .names)) (ix .lines) m (lengthOf (ix .lines)) (contents h)))
   pub nothing-written : (rolls ix m .answer .number ≢ 0) → rolls ix m .left ≡ ix
   -- accepted: sound after, the contents are those that undoing gives, and the journal is back at the mark
   pub done : (c : ℕ) → rolls ix m .answer ≡ given c → (h : Sound (ix .live))
       → (g : Sound (rolls ix m .left .live)) × FitIndex (rolls ix m .left)
-      × Undoes (capacityOf (ix .live)) (ix .lines) m (lengthOf (ix .lines)) (contents h) (contents g)
-      × BackTo m (ix .lines) (rolls ix m .left .lines) × (capacityOf (rolls ix m .left .live) ≡ capacityOf (ix .live))
+      × Undoes (slotsOf (ix .live .names)) (ix .lines) m (lengthOf (ix .lines)) (contents h) (contents g)
+      × BackTo m (ix .lines) (rolls ix m .left .lines) × (slotsOf ((rolls ix m .left .live) .names) ≡ slotsOf (ix .live .names))
 
 -- An empty index is written into any slices of fit lengths, whatever their words were.
 pub record Freshes (ix : Index) : Type 0 where
@@ -149,7 +149,7 @@ pub record Freshes (ix : Index) : Type 0 where
   -- sound, with no entry, and every word of the journal 0
   pub done : FitLengths ix
       → (g : Sound (freshes ix .left .live)) × FitIndex (freshes ix .left) × (contents g ≡ []) × (lengthOf (freshes ix .left .lines) ≡ 0)
-      × ((j : ℕ) → getD (freshes ix .left .lines) j 0 ≡ 0) × (capacityOf (freshes ix .left .live) ≡ capacityOf (ix .live))
+      × ((j : ℕ) → getD (freshes ix .left .lines) j 0 ≡ 0) × (slotsOf ((freshes ix .left .live) .names) ≡ slotsOf (ix .live .names))
 
 -- Demand 3: "Take a sound tree and a journal within .. limits, and note the journal's length. Make any inserts and removes on them,
 -- refused ones too, and rollbacks to that mark or later ones; nothing else writes the two. A rollback to the mark is then accepted, the tree
@@ -168,7 +168,7 @@ pub record Claims : Type 0 where
   pub check : (t : Live) → Checks t
   pub sound : (t : Live) → Sounds t
   pub find-sound : (t : Live) (fit : Fit t) (h : Sound t) (hash key : ℕ) → FindsSound t fit h hash key
-  pub holds : (t : Live) (fit : Fit t) → Holds t fit
+  pub holds : (t : Live) (fit : Fit t) → Contained t fit
   pub insert : (ix : Index) (hash key p : ℕ) → Inserts ix hash key p
   pub remove : (ix : Index) (hash key : ℕ) → Removes ix hash key
   pub rollback : (ix : Index) (m : ℕ) → Rolls ix m

@@ -6,11 +6,12 @@ use lib.ListN.{length, set}
 use lib.Dec.{eqb, leb}
 use Rattle.slots.specs.Words.{null, pick, rename, hashPart, keyPart, _and_, mostLines}
 use Rattle.slots.specs.Answers.{given, refused}
-use Rattle.index_rules.specs.Live.{Live, Fit, fits, capacityOf}
+use Rattle.index_rules.specs.Live.{Live, Fit, fits}
 use Rattle.index_rules.specs.Index.{Index, index, Outcome, outcome, linesOf}
 use Rattle.index_rules.specs.Insert.{headed}
 use Rattle.index_rules.specs.Remove.{wiped}
 use Rattle.index_rules.specs.Rollback.{blanked}
+use Rattle.tree_rules.specs.Find.{slotsOf}
 
 -- The four slices are as long as an index's, whatever their words are.
 pub record FitLengths (ix : Index) : Type 0 where
@@ -33,7 +34,7 @@ bared (suc k) t =
 -- Every slot cleared, a header of nothing, and a journal of zeros; 1 where the lengths do not fit, and nothing is written.
 unfoldable pub freshes : Index → Outcome
 freshes ix =
-    let t = bared (capacityOf (ix .live)) (ix .live) in
+    let t = bared (slotsOf (ix .live .names)) (ix .live) in
     pick (fitsLengths ix)
     (outcome (given 1)
     (index (record { names = t .names; cells = t .cells; head = headed (t .head) null null 0 }) (set (blanked (linesOf (ix .lines)) (ix .lines) 0) 0 0)))

@@ -5,10 +5,10 @@ use lib.ListN.{set}
 use lib.Dec.{eqb}
 use Rattle.slots.specs.Words.{null, pick, place, state, prev, next, free, cell, write, rename, hashPart, keyPart}
 use Rattle.slots.specs.Answers.{Value, some, none, given, refused}
-use Rattle.tree_rules.specs.Find.{found}
+use Rattle.tree_rules.specs.Find.{slotsOf, found}
 use Rattle.redblack.specs.Links.{Links}
-use Rattle.redblack.specs.Hanging.{inserted, placed}
-use Rattle.index_rules.specs.Live.{Live, rootOf, firstOf, countOf, capacityOf}
+use Rattle.redblack.specs.Hanging.{inserted, spotted}
+use Rattle.index_rules.specs.Live.{Live, rootOf, firstOf, countOf}
 use Rattle.index_rules.specs.Sound.{sound}
 use Rattle.index_rules.specs.Index.{Index, index, Outcome, outcome, fitsIndex, lengthOf, linesOf, appended}
 
@@ -18,7 +18,7 @@ freeFrom zero cells k = null
 freeFrom (suc m) cells k = pick (eqb (cell cells k state) free) k (freeFrom m cells (suc k))
 
 unfoldable pub lowestFree : Live → ℕ
-lowestFree t = freeFrom (capacityOf t) (t .cells) 0
+lowestFree t = freeFrom (slotsOf (t .names)) (t .cells) 0
 
 -- The slot that has the pair, where there is one.
 unfoldable pub soughtIn : Live → ℕ → ℕ → Value
@@ -36,7 +36,7 @@ unfoldable pub grown : Live → ℕ → ℕ → ℕ → ℕ → Live
 grown t x hash key p =
     let names = rename (rename (t .names) x hashPart hash) x keyPart key in
     let links : Links = record { cells = fronted (write (t .cells) x place p) x (firstOf t); root = rootOf t } in
-    let hung = inserted (capacityOf t) links x (placed (capacityOf t) names links hash key) in
+    let hung = inserted (slotsOf (t .names)) links x (spotted (slotsOf (t .names)) names links hash key) in
     record { names = names; cells = hung .cells; head = headed (t .head) (hung .root) x (countOf t + 1) }
 
 -- "insert 1, 2, 3, 5, 6": a refusal writes nothing.

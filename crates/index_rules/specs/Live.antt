@@ -6,6 +6,7 @@ use Prim.Native.Nat.{ℕ, _*_, _/_, _≤_}
 use lib.ListN.{length, getD}
 use lib.Dec.{eqb, leb}
 use Rattle.slots.specs.Words.{null, _and_, mostSlots}
+use Rattle.tree_rules.specs.Find.{slotsOf}
 
 pub record Live : Type 0 where
   pub names : List ℕ
@@ -35,11 +36,8 @@ pub record Fit (t : Live) : Type 0 where
   pub seven : length (t .cells) ≡ 7 * capacity
   pub three : length (t .head) ≡ 3
 
-abbrev pub capacityOf : Live → ℕ
-capacityOf t = length (t .names) / 2
-
 -- The test of it.
 unfoldable pub fits : Live → Bool
 fits t =
-    let n = capacityOf t in
+    let n = slotsOf (t .names) in
     leb 1 n and leb n mostSlots and eqb (length (t .names)) (2 * n) and eqb (length (t .cells)) (7 * n) and eqb (length (t .head)) 3

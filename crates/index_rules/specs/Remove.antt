@@ -5,10 +5,11 @@ use lib.Dec.{eqb}
 use Rattle.slots.specs.Words.{null, pick, place, state, parent, left, right, prev, next, free, cell, write, rename, hashPart, keyPart}
 use Rattle.slots.specs.Answers.{some, none, given, refused}
 use Rattle.redblack.specs.Removal.{removed}
-use Rattle.index_rules.specs.Live.{Live, rootOf, firstOf, countOf, capacityOf}
+use Rattle.index_rules.specs.Live.{Live, rootOf, firstOf, countOf}
 use Rattle.index_rules.specs.Sound.{sound}
 use Rattle.index_rules.specs.Index.{Index, index, Outcome, outcome, fitsIndex, lengthOf, linesOf, appended}
 use Rattle.index_rules.specs.Insert.{soughtIn, headed}
+use Rattle.tree_rules.specs.Find.{slotsOf}
 
 -- The slot x out of the chain: what stood before it leads to what stood after, and back.
 unfoldable pub unchained : List ℕ → ℕ → List ℕ
@@ -28,7 +29,7 @@ wiped cells x =
 -- After the check: the slot x goes.
 unfoldable pub shrunk : Live → ℕ → Live
 shrunk t x =
-    let gone = removed (capacityOf t) (record { cells = unchained (t .cells) x; root = rootOf t }) x in
+    let gone = removed (slotsOf (t .names)) (record { cells = unchained (t .cells) x; root = rootOf t }) x in
     record {
       names = rename (rename (t .names) x hashPart 0) x keyPart 0;
       cells = wiped (gone .cells) x;

@@ -11,7 +11,8 @@ use Rattle.tree_rules.specs.Check.{inRange, linksIn, Named, LinksNamed}
 use Rattle.tree_rules.specs.Tree.{Tree, slots, times, Rooted, Rising, Coloured, Level}
 use Rattle.tree_rules.specs.Rules.{reached, rises, coloured, level}
 use Rattle.tree_rules.specs.Chain.{Chain, chained, tally}
-use Rattle.index_rules.specs.Live.{Live, rootOf, firstOf, countOf, capacityOf, fits}
+use Rattle.index_rules.specs.Live.{Live, rootOf, firstOf, countOf, fits}
+use Rattle.tree_rules.specs.Find.{slotsOf}
 
 -- 1 for a slot that is not free, 0 for a free one.
 abbrev pub used : List ℕ → ℕ → ℕ
@@ -30,12 +31,12 @@ pub record Cleared (t : Live) (i : ℕ) : Type 0 where
 
 -- T1 "links are null or name a slot; states are 0, 1 or 2; free slots are cleared; the header's count is the number of slots not free."
 pub record T1 (t : Live) : Type 0 where
-  pub links : (i : ℕ) → i < capacityOf t → LinksNamed (capacityOf t) (t .cells) i
-  pub root : Named (capacityOf t) (rootOf t)
-  pub first : Named (capacityOf t) (firstOf t)
-  pub states : (i : ℕ) → i < capacityOf t → cell (t .cells) i state ≤ 2
-  pub cleared : (i : ℕ) → i < capacityOf t → cell (t .cells) i state ≡ free → Cleared t i
-  pub count : countOf t ≡ tally (capacityOf t) (used (t .cells))
+  pub links : (i : ℕ) → i < slotsOf (t .names) → LinksNamed (slotsOf (t .names)) (t .cells) i
+  pub root : Named (slotsOf (t .names)) (rootOf t)
+  pub first : Named (slotsOf (t .names)) (firstOf t)
+  pub states : (i : ℕ) → i < slotsOf (t .names) → cell (t .cells) i state ≤ 2
+  pub cleared : (i : ℕ) → i < slotsOf (t .names) → cell (t .cells) i state ≡ free → Cleared t i
+  pub count : countOf t ≡ tally (slotsOf (t .names)) (used (t .cells))
 
 -- T2 "root and first are null exactly if the count is 0."
 pub record T2 (t : Live) : Type 0 where
@@ -44,8 +45,8 @@ pub record T2 (t : Live) : Type 0 where
 
 -- T3 "the root's parent is null, each child points back, and the slots reached from the root are the used ones, each once."
 pub record T3 (t : Live) (tree : Tree) : Type 0 where
-  pub rooted : Rooted (capacityOf t) (t .cells) (rootOf t) tree
-  pub all : (i : ℕ) → i < capacityOf t → used (t .cells) i ≡ times i (slots tree)
+  pub rooted : Rooted (slotsOf (t .names)) (t .cells) (rootOf t) tree
+  pub all : (i : ℕ) → i < slotsOf (t .names) → used (t .cells) i ≡ times i (slots tree)
 
 -- T4 "read left, self, right, the pairs strictly rise."
 abbrev pub T4 : Live → Tree → Type 0
@@ -61,8 +62,8 @@ T6 tree = Level tree
 
 -- T7 "from first, next visits each used slot once; prev is its reverse, null at first."
 pub record T7 (t : Live) (chain : List ℕ) : Type 0 where
-  pub linked : Chain (capacityOf t) (t .cells) null (firstOf t) chain
-  pub all : (i : ℕ) → i < capacityOf t → used (t .cells) i ≡ times i chain
+  pub linked : Chain (slotsOf (t .names)) (t .cells) null (firstOf t) chain
+  pub all : (i : ℕ) → i < slotsOf (t .names) → used (t .cells) i ≡ times i chain
 
 pub record Sound (t : Live) : Type 0 where
   pub tree : Tree
@@ -96,7 +97,7 @@ slotsFine (suc k) n t = slotFine n t k and slotsFine k n t
 
 unfoldable pub rule1 : Live → Bool
 rule1 t =
-    let n = capacityOf t in
+    let n = slotsOf (t .names) in
     slotsFine n n t and inRange n (rootOf t) and inRange n (firstOf t) and eqb (countOf t) (tally n (used (t .cells)))
 
 abbrev pub agree : Bool → Bool → Bool
@@ -113,21 +114,21 @@ leaves n m (some rest) = eqb (n - rest) m
 leaves n m none = false
 
 unfoldable pub rule3 : Live → Bool
-rule3 t = let n = capacityOf t in leaves n (countOf t) (reached n n (t .cells) null (rootOf t) n)
+rule3 t = let n = slotsOf (t .names) in leaves n (countOf t) (reached n n (t .cells) null (rootOf t) n)
 
 unfoldable pub rule4 : Live → Bool
 rule4 t = rises (t .names) (t .cells) (rootOf t)
 
 unfoldable pub rule5 : Live → Bool
-rule5 t = coloured (capacityOf t) (t .cells) (rootOf t)
+rule5 t = coloured (slotsOf (t .names)) (t .cells) (rootOf t)
 
 unfoldable pub rule6 : Live → Bool
-rule6 t = level (capacityOf t) (t .cells) (rootOf t)
+rule6 t = level (slotsOf (t .names)) (t .cells) (rootOf t)
 
 -- A free slot is cleared, so it could only be the first: that one is asked.
 unfoldable pub rule7 : Live → Bool
 rule7 t =
-    let n = capacityOf t in
+    let n = slotsOf (t .names) in
     pick (pick (eqb (firstOf t) null) true (pick (eqb (cell (t .cells) (firstOf t) state) free) false true))
     (leaves n (countOf t) (chained n n (t .cells) null (firstOf t)))
     false

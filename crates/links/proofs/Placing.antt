@@ -7,7 +7,7 @@ use Rattle.slots.specs.Words.{null, parent, left, right, write}
 use Rattle.slots.proofs.Laws.{pick-eq, pick-ne}
 use Rattle.redblack.specs.Links.{Links}
 use Rattle.redblack.specs.Insertion.{balancedInsertion}
-use Rattle.redblack.specs.Hanging.{Spot, spot, sideFor, descended, hooked, inserted, placed}
+use Rattle.redblack.specs.Hanging.{Spot, spot, sideFor, descended, hooked, inserted, spotted}
 use Rattle.links.specs.Spots.{links, spotOf}
 use Rattle.links.specs.declared.place.Spot as code
 use Rattle.links.proofs.Walks.{Walk}
@@ -20,12 +20,12 @@ descent names cells hash key = record { spent = λ p. refl; unrolled = λ n p. r
 
 -- The tree is empty, is not.
 module _ (steps : ℕ) (names : List ℕ) (s : Links) (hash key : ℕ) where
-  pub empty : s .root ≡ null → spot null left ≡ placed steps names s hash key
-  unfolding placed
+  pub empty : s .root ≡ null → spot null left ≡ spotted steps names s hash key
+  unfolding spotted
   empty h = rw (pick-eq _ _ h)
 
-  pub full : {w : Spot} → s .root ≢ null → w ≡ descended names (s .cells) steps (s .root) hash key → w ≡ placed steps names s hash key
-  unfolding placed
+  pub full : {w : Spot} → s .root ≢ null → w ≡ descended names (s .cells) steps (s .root) hash key → w ≡ spotted steps names s hash key
+  unfolding spotted
   full n e = rw (pick-ne _ _ n) e
 
 module _ (l : List ℕ) (x above side : ℕ) where
@@ -37,9 +37,9 @@ module _ (l : List ℕ) (x above side : ℕ) where
 
 module _ (budget : ℕ) (names : List ℕ) (s : Links) (x hash key : ℕ) where
   pub hang : {at : code.Spot} {l : List ℕ} {w : Links}
-      → spotOf at ≡ placed budget names s hash key
+      → spotOf at ≡ spotted budget names s hash key
       → ((root : ℕ) → links l root ≡ hooked (links (s .cells) root) x (spotOf at))
       → w ≡ balancedInsertion budget (links l (s .root)) x
-      → w ≡ inserted budget s x (placed budget names s hash key)
+      → w ≡ inserted budget s x (spotted budget names s hash key)
   unfolding inserted
   hang e1 e2 e3 = rw (← e1, ← e2 (s .root)) e3

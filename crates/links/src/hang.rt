@@ -8,7 +8,7 @@ use slots::RIGHT;
 use slots::put;
 ghost use mathlib.Core.Path.{_≡_};
 ghost use Prim.Native.Nat.{ℕ};
-ghost use Rattle.redblack.specs.Hanging.{spot, hooked, inserted, placed};
+ghost use Rattle.redblack.specs.Hanging.{spot, hooked, inserted, spotted};
 ghost use Rattle.redblack.specs.Links.{lentLinks};
 
 // The slot x hangs at the spot, with no child. The root, whatever it is, stays.
@@ -35,7 +35,7 @@ pub fn hang_slot(
 ) -> u32
     ensures { λ top. ⌜ lentLinks (now (cells .exit)) top
         ≡ inserted budget (lentLinks (now (cells .entry)) root) x
-        (placed budget (now (names .entry)) (lentLinks (now (cells .entry)) root) hash key) ⌝ }
+        (spotted budget (now (names .entry)) (lentLinks (now (cells .entry)) root) hash key) ⌝ }
 {
     let at = place(names, cells, root, hash, key, budget);
     let above = at.above;

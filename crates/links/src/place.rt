@@ -8,7 +8,7 @@ use slots::comes_before;
 use slots::get;
 use slots::name;
 ghost use mathlib.Core.Path.{_≡_};
-ghost use Rattle.redblack.specs.Hanging.{sideFor, descended, placed};
+ghost use Rattle.redblack.specs.Hanging.{sideFor, descended, spotted};
 ghost use Rattle.links.specs.Spots.{spotOf};
 ghost use Rattle.redblack.specs.Links.{lentLinks};
 
@@ -65,7 +65,7 @@ pub(crate) fn place(
     key: u64,
     steps: u32,
 ) -> Spot
-    ensures { λ r. ⌜ spotOf r ≡ placed steps (now (names .entry)) (lentLinks (now (cells .entry)) root) hash key ⌝ }
+    ensures { λ r. ⌜ spotOf r ≡ spotted steps (now (names .entry)) (lentLinks (now (cells .entry)) root) hash key ⌝ }
 {
     if root == NULL {
         return Spot {

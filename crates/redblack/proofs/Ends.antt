@@ -5,7 +5,7 @@ use Prim.Native.Nat.{ℕ}
 use Rattle.slots.specs.Words.{parent, Side, toward, Colour, black, red}
 use Rattle.redblack.specs.Links.{Links}
 use Rattle.redblack.specs.Sided.{Sided, Way, around, slots, Site}
-use Rattle.redblack.specs.Balance.{RedBlack, Wants, Less}
+use Rattle.redblack.specs.Balance.{RedBlack, Wants, OneFewer}
 
 -- What a red-black whole says of the part t at the end of the way C: it is black, or it is red and the slot above it black.
 pub data Part (C : Way) (t : Sided) : Type 0 where
@@ -37,7 +37,7 @@ pub record With (n : ℕ) (s : Links) (σ : Side) (q x : ℕ) (l : List ℕ) : T
 pub record Without (n : ℕ) (s : Links) (p : ℕ) (l : List ℕ) : Type 0 where
   pub others : List ℕ
   pub outcome : Outcome n s others
-  pub less : Less p l others
+  pub less : OneFewer p l others
 
 -- The field g is a link of the tree: up, or toward a side.
 pub data Link : ℕ → Type 0 where

@@ -5,7 +5,7 @@ use mathlib.Core.List.{List, [], _∷_, _++_, append-assoc, append-nil}
 use Prim.Native.Nat.{ℕ}
 use Rattle.slots.specs.Words.{Colour, Side, leftward, rightward}
 use Rattle.redblack.specs.Sided.{Sided, Way, plug, slots, bare, fork, frame}
-use Rattle.redblack.specs.Balance.{Less}
+use Rattle.redblack.specs.Balance.{OneFewer}
 use Rattle.redblack.proofs.Ends.{Beside}
 
 -- What stands left and right of a place.
@@ -25,7 +25,7 @@ split [] = record { before = []; after = []; eq = λ t. sym (append-nil (slots t
 split (frame σ c i b ∷ C) = split-frame σ c i b C (split C)
 
 -- A slot p with one child at most: with it the tree lists one p more than with the child in its place.
-pub less-one : (C : Way) (ρ : Side) (c : Colour) (a : Sided) (p : ℕ) → Less p (slots (plug C (fork ρ c a p bare))) (slots (plug C a))
+pub less-one : (C : Way) (ρ : Side) (c : Colour) (a : Sided) (p : ℕ) → OneFewer p (slots (plug C (fork ρ c a p bare))) (slots (plug C a))
 unfolding slots
 less-one C leftward c a p = let h = split C in record { before = h .before ++ slots a; after = h .after; whole = h .eq (fork leftward c a p bare) ∙ simp append-assoc; rest = h .eq a ∙ simp append-assoc }
 less-one C rightward c a p = let h = split C in record { before = h .before; after = slots a ++ h .after; whole = h .eq (fork rightward c a p bare); rest = h .eq a }
@@ -59,7 +59,7 @@ plug-append [] E t = refl
 plug-append (frame σ c i b ∷ D) E t = plug-append D E (fork σ c t i b)
 
 -- A slot p with two children and its successor t: t in p's place, and t's right child in its own, is the list without p.
-pub less-two : (C D : Way) (cp ct : Colour) (p t : ℕ) (pl tr : Sided) → Edge D → Less p (slots (plug (D ++ (frame rightward cp p pl ∷ C)) (fork leftward ct bare t tr))) (slots (plug (D ++ (frame rightward cp t pl ∷ C)) tr))
+pub less-two : (C D : Way) (cp ct : Colour) (p t : ℕ) (pl tr : Sided) → Edge D → OneFewer p (slots (plug (D ++ (frame rightward cp p pl ∷ C)) (fork leftward ct bare t tr))) (slots (plug (D ++ (frame rightward cp t pl ∷ C)) tr))
 unfolding slots plug
 less-two C D cp ct p t pl tr e =
     let h = split C in

@@ -16,7 +16,7 @@ use Rattle.slots.proofs.Order.{less-irreflexive, less-transitive, less-total}
 use Rattle.redblack.specs.Links.{Links, read}
 use Rattle.tree_rules.specs.Tree.{Tree, leaf, node, slots, times, top, Hangs, Rising, Below, empty, rise, last}
 use Rattle.redblack.specs.Sided.{Way, Site, hit, frame}
-use Rattle.redblack.specs.Hanging.{Spot, spot, sideFor, descended, placed}
+use Rattle.redblack.specs.Hanging.{Spot, spot, sideFor, descended, spotted}
 use Rattle.redblack.specs.Holding.{Holds, Has, depth}
 use Rattle.redblack.proofs.Ends.{Beside, Link, on}
 use Rattle.redblack.proofs.Frames.{hit-same, hit-ne, inward, turn}
@@ -355,16 +355,16 @@ pub record Place (names : List ℕ) (s : Links) (P : Pair) (l : List ℕ) (at : 
 place-of : {names l : List ℕ} {s : Links} {P : Pair} {at : Spot} → Rising names l → Ended names (s .cells) P l at → Place names s P l at
 place-of h f = record { slot = f .slot; side = f .side; is = f .is; stands = f .stands; free = f .free; rises = λ x k e b. gap-rising (f .side) h (rw e (f .gap)) b }
 
-pub placed-empty : {n : ℕ} {s : Links} (steps : ℕ) (names : List ℕ) (hash key : ℕ) → Holds n s leaf → placed steps names s hash key ≡ spot null left
-unfolding placed
+pub placed-empty : {n : ℕ} {s : Links} (steps : ℕ) (names : List ℕ) (hash key : ℕ) → Holds n s leaf → spotted steps names s hash key ≡ spot null left
+unfolding spotted
 placed-empty steps names hash key h = rw (h .rooted .from)
 
-placed-on : (steps : ℕ) (names : List ℕ) (s : Links) (hash key r : ℕ) → s .root ≡ r → r ≢ null → placed steps names s hash key ≡ descended names (s .cells) steps r hash key
-unfolding placed
+placed-on : (steps : ℕ) (names : List ℕ) (s : Links) (hash key r : ℕ) → s .root ≡ r → r ≢ null → spotted steps names s hash key ≡ descended names (s .cells) steps r hash key
+unfolding spotted
 placed-on steps names s hash key r e d = rw (e, ne-eqb r null d)
 
 pub placed-in : {n : ℕ} {s : Links} (steps : ℕ) (names : List ℕ) (hash key : ℕ) (c : Colour) (l : Tree) (i : ℕ) (r : Tree) → Holds n s (node c l i r) → Rising names (slots (node c l i r)) → (Has names (node c l i r) hash key → ⊥) → n ≤ steps
-    → Place names s (pair hash key) (slots (node c l i r)) (placed steps names s hash key)
+    → Place names s (pair hash key) (slots (node c l i r)) (spotted steps names s hash key)
 placed-in {s = s} steps names hash key c l i r h rises none m =
     let t : Tree = node c l i r in
     rw (placed-on steps names s hash key i (h .rooted .from) (omega (arith, inside-of (h .rooted .hangs), h .small)))
@@ -387,6 +387,6 @@ descended-link names cells (suc steps) p hash key =
     let q = cell cells p f in
     pick-link (eqb q null) (spot p f) (descended names cells steps q hash key) (side-link (before hash key (nameOf names p hashPart) (nameOf names p keyPart))) (descended-link names cells steps q hash key)
 
-pub placed-link : (steps : ℕ) (names : List ℕ) (s : Links) (hash key : ℕ) → Link (placed steps names s hash key .side)
-unfolding placed
+pub placed-link : (steps : ℕ) (names : List ℕ) (s : Links) (hash key : ℕ) → Link (spotted steps names s hash key .side)
+unfolding spotted
 placed-link steps names s hash key = pick-link (eqb (s .root) null) (spot null left) (descended names (s .cells) steps (s .root) hash key) (on leftward) (descended-link names (s .cells) steps (s .root) hash key)

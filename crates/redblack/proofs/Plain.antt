@@ -13,9 +13,9 @@ use Rattle.redblack.specs.Links.{Links, painted}
 use Rattle.tree_rules.specs.Tree.{Tree, leaf, node, slots, Rising, empty, rise, last}
 use Rattle.redblack.specs.Sided
 use Rattle.redblack.specs.Sided.{Way, plug, Site, Cap, frame}
-use Rattle.redblack.specs.Balance.{Less, void, atop}
+use Rattle.redblack.specs.Balance.{OneFewer, void, atop}
 use Rattle.redblack.specs.Insertion.{balancedInsertion}
-use Rattle.redblack.specs.Hanging.{spot, placed, inserted}
+use Rattle.redblack.specs.Hanging.{spot, spotted, inserted}
 use Rattle.redblack.specs.Removal.{removed}
 use Rattle.redblack.specs.Kept.{Agree}
 use Rattle.redblack.specs.Holding.{Holds, RedBlackTree, Hung, Has, Stands, Fresh, place, onLeft, onRight, depth}
@@ -58,7 +58,7 @@ spared {s = s} {t} j h e f = go (ℕ-discrete j null)
     go (yes z) = rw z (record { same = λ f l. cell-null (t .cells) f (omega (arith, h .long, h .small)) ∙ sym (cell-null (s .cells) f (omega (arith, h .long, h .small))) })
 
 -- A slot of the tree leaves it.
-pub slot-removed : {n : ℕ} {t : Tree} (m : ℕ) (s : Links) (p : ℕ) → Holds n s t → RedBlackTree t → Stands p t → n ≤ m → (u : Tree) × Holds n (removed m s p) u × RedBlackTree u × Less p (slots t) (slots u)
+pub slot-removed : {n : ℕ} {t : Tree} (m : ℕ) (s : Links) (p : ℕ) → Holds n s t → RedBlackTree t → Stands p t → n ≤ m → (u : Tree) × Holds n (removed m s p) u × RedBlackTree u × OneFewer p (slots t) (slots u)
 slot-removed {t = t} m s p h v c l =
     let w = leaving m p l (omega (arith)) (outcome-of t h v) in
     let o = plain-outcome (w .outcome) in
@@ -69,14 +69,14 @@ removed-spares {t = t} m s p j h v c z =
     spared j h (removed-keeps place-aside m s p .long) (λ d. leaving-spares m p j (omega (arith)) d (omega (arith)) (outcome-of t h v))
 
 -- A slot next to another is one slot more.
-beside-less : {l k : List ℕ} {q x : ℕ} (σ : Side) → Beside σ q x l k → Less x k l
+beside-less : {l k : List ℕ} {q x : ℕ} (σ : Side) → Beside σ q x l k → OneFewer x k l
 beside-less {q = q} leftward b = record { before = b .before; after = q ∷ b .after; whole = b .now; rest = b .was }
 beside-less {q = q} {x} rightward b =
     record { before = b .before ++ (q ∷ []); after = b .after; whole = b .now ∙ sym (append-assoc (b .before) (q ∷ []) (x ∷ b .after)); rest = b .was ∙ sym (append-assoc (b .before) (q ∷ []) (b .after)) }
 
 -- The tree with x in it, at its place.
 abbrev Grown : ℕ → List ℕ → Links → Tree → ℕ → Type 0
-Grown n names s t x = (u : Tree) × Holds n s u × RedBlackTree u × Rising names (slots u) × Less x (slots u) (slots t)
+Grown n names s t x = (u : Tree) × Holds n s u × RedBlackTree u × Rising names (slots u) × OneFewer x (slots u) (slots t)
 
 capped : {n : ℕ} {s : Links} {t : Tree} → Holds n s t → Cap n s
 capped h = record { long = h .long; small = h .small }
@@ -94,7 +94,7 @@ grown {σ = σ} names t f w =
     (o .0, o .1, o .2, rw (o .3) (f (w .all) b), rw (o .3) (beside-less σ b))
 
 pub slot-hung : {n : ℕ} (t : Tree) (m : ℕ) (names : List ℕ) (s : Links) (x hash key : ℕ) → Holds n s t → RedBlackTree t → Rising names (slots t) → (Has names t hash key → ⊥) → x < n → Fresh x t → pairOf names x ≡ pair hash key → n ≤ m
-    → Grown n names (inserted m s x (placed m names s hash key)) t x
+    → Grown n names (inserted m s x (spotted m names s hash key)) t x
 slot-hung leaf m names s x hash key h v up none wx z e l = rw (placed-empty m names hash key h) (planted m names s x h wx l)
 slot-hung (node c a i b) m names s x hash key h v up none wx z e l =
     let t : Tree = node c a i b in
@@ -104,13 +104,13 @@ slot-hung (node c a i b) m names s x hash key h v up none wx z e l =
     (joining m x (g .slot) (g .side) l wx (omega (arith)) (omega (arith, g .stands)) (g .free) (outcome-of t h v)))
 
 pub hung-spares : {n : ℕ} (t : Tree) (m : ℕ) (names : List ℕ) (s : Links) (x hash key j : ℕ) → Holds n s t → RedBlackTree t → Rising names (slots t) → (Has names t hash key → ⊥) → x < n → Fresh x t → n ≤ m → j ≢ x → Fresh j t
-    → Agree s (inserted m s x (placed m names s hash key)) j
+    → Agree s (inserted m s x (spotted m names s hash key)) j
 hung-spares leaf m names s x hash key j h v up none wx z l d y =
-    spared j h (inserted-keeps place-aside m s x (placed m names s hash key) (placed-link m names s hash key) .long)
+    spared j h (inserted-keeps place-aside m s x (spotted m names s hash key) (placed-link m names s hash key) .long)
     (λ k. rw (placed-empty m names hash key h) (planting-spares m x left j refl l wx (capped h) k d))
 hung-spares (node c a i b) m names s x hash key j h v up none wx z l d y =
     let t : Tree = node c a i b in
     let g = placed-in m names hash key c a i b h up none l in
-    spared j h (inserted-keeps place-aside m s x (placed m names s hash key) (placed-link m names s hash key) .long)
+    spared j h (inserted-keeps place-aside m s x (spotted m names s hash key) (placed-link m names s hash key) .long)
     (λ k. rw (g .is)
     (joining-spares m x (g .slot) j (g .side) wx (omega (arith)) (omega (arith, g .stands)) (g .free) k d (omega (arith)) (outcome-of t h v)))

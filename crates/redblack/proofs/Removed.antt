@@ -8,7 +8,7 @@ use lib.Dec.{eqb}
 use Rattle.slots.specs.Words.{null, left, right, Colour, Side, black, leftward, rightward}
 use Rattle.redblack.specs.Links.{Links, read}
 use Rattle.redblack.specs.Sided.{Sided, Way, top, plug, slots, Site, bare, fork, frame}
-use Rattle.redblack.specs.Balance.{RedBlack, Less}
+use Rattle.redblack.specs.Balance.{RedBlack, OneFewer}
 use Rattle.redblack.specs.Removal.{traded, dropped, leftmost, removed}
 use Rattle.redblack.proofs.Ends.{Part, Outcome, Without}
 use Rattle.redblack.proofs.Reading.{solid}
@@ -45,7 +45,7 @@ unfolding removed
 removed-two m s p i j t e f g h k = rw (e, f, g, h, k)
 
 -- A removal told by its outcome and the lists.
-without : {n : ℕ} {s t : Links} {p : ℕ} {l j k : List ℕ} → s ≡ t → Outcome n t k → j ≡ l → Less p j k → Without n s p l
+without : {n : ℕ} {s t : Links} {p : ℕ} {l j k : List ℕ} → s ≡ t → Outcome n t k → j ≡ l → OneFewer p j k → Without n s p l
 without {k = k} e o f r = record { others = k; outcome = rw e o; less = record { before = r .before; after = r .after; whole = sym f ∙ r .whole; rest = r .rest } }
 
 pub relisted : {n : ℕ} {s : Links} {p : ℕ} {l k : List ℕ} → l ≡ k → Without n s p l → Without n s p k

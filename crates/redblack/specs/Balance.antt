@@ -35,7 +35,7 @@ pub record Mended (n : ℕ) (s : Links) (C : Way) (t g : Sided) : Type 0 where
   pub same : (v : Sided) → slots (plug path v) ≡ slots (plug C v)
 
 -- The list k is l with one p taken out, and the order of the others kept.
-pub record Less (p : ℕ) (l k : List ℕ) : Type 0 where
+pub record OneFewer (p : ℕ) (l k : List ℕ) : Type 0 where
   pub before : List ℕ
   pub after : List ℕ
   pub whole : l ≡ before ++ (p ∷ after)

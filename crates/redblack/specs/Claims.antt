@@ -12,10 +12,10 @@ use Rattle.redblack.specs.Rotate.{rotated}
 use Rattle.redblack.specs.Insertion.{insertionTurn, balancedInsertion}
 use Rattle.redblack.specs.Deletion.{deletionTurn, balancedDeletion}
 use Rattle.redblack.specs.Removal.{removed}
-use Rattle.redblack.specs.Hanging.{placed, inserted}
+use Rattle.redblack.specs.Hanging.{spotted, inserted}
 use Rattle.tree_rules.specs.Tree.{Tree, slots, Rising, Meets}
 use Rattle.redblack.specs.Sided.{Sided, bare, fork, Frame, Way, plug, slots as listed, Site}
-use Rattle.redblack.specs.Balance.{RedBlack, Wants, Mended, Less, crown}
+use Rattle.redblack.specs.Balance.{RedBlack, Wants, Mended, OneFewer, crown}
 use Rattle.redblack.specs.Kept.{Aside, Keeps, Agree, Absent}
 use Rattle.redblack.specs.Holding.{Holds, RedBlackTree, Stands, Fresh, Has, Hung, depth, plain}
 
@@ -95,7 +95,7 @@ pub record BalancesDeletion (n budget : ℕ) (s : Links) (x : ℕ) : Type 0 wher
 -- "Remove": the slot p leaves the tree t. Its chain and its own words are the live tree's.
 pub record RemovesSlot (n budget : ℕ) (s : Links) (t : Tree) (p : ℕ) : Type 0 where
   -- the tree is red-black again, and its slots in order are those of t without p
-  pub removes : Holds n s t → RedBlackTree t → Stands p t → n ≤ budget → (u : Tree) × Holds n (removed budget s p) u × RedBlackTree u × Less p (slots t) (slots u)
+  pub removes : Holds n s t → RedBlackTree t → Stands p t → n ≤ budget → (u : Tree) × Holds n (removed budget s p) u × RedBlackTree u × OneFewer p (slots t) (slots u)
   -- a slot that stands nowhere in the tree keeps all its words
   pub spares : Holds n s t → RedBlackTree t → Stands p t → (j : ℕ) → Fresh j t → Agree s (removed budget s p) j
   -- place, prev and next of every slot are as they were, on any words
@@ -105,12 +105,12 @@ pub record RemovesSlot (n budget : ℕ) (s : Links) (t : Tree) (p : ℕ) : Type 
 pub record HangsSlot (n budget : ℕ) (names : List ℕ) (s : Links) (t : Tree) (x hash key : ℕ) : Type 0 where
   -- the tree is red-black again, its pairs strictly rise, and its slots in order are those of t with x among them
   pub hangs : Holds n s t → RedBlackTree t → Rising names (slots t) → (Has names t hash key → ⊥) → x < n → Fresh x t → pairOf names x ≡ pair hash key → n ≤ budget
-      → (u : Tree) × Holds n (inserted budget s x (placed budget names s hash key)) u × RedBlackTree u × Rising names (slots u) × Less x (slots u) (slots t)
+      → (u : Tree) × Holds n (inserted budget s x (spotted budget names s hash key)) u × RedBlackTree u × Rising names (slots u) × OneFewer x (slots u) (slots t)
   -- another slot that stands nowhere in the tree keeps all its words
   pub spares : Holds n s t → RedBlackTree t → Rising names (slots t) → (Has names t hash key → ⊥) → x < n → Fresh x t → n ≤ budget
-      → (j : ℕ) → j ≢ x → Fresh j t → Agree s (inserted budget s x (placed budget names s hash key)) j
+      → (j : ℕ) → j ≢ x → Fresh j t → Agree s (inserted budget s x (spotted budget names s hash key)) j
   -- place, prev and next of every slot are as they were, on any words
-  pub keeps : (f : ℕ) → Aside f → Keeps f s (inserted budget s x (placed budget names s hash key))
+  pub keeps : (f : ℕ) → Aside f → Keeps f s (inserted budget s x (spotted budget names s hash key))
 
 -- The two traps in the text of the balancing, of the models, on any words.
 pub record Traps (s : Links) : Type 0 where

@@ -37,5 +37,5 @@ unfoldable pub inserted : ℕ → Links → ℕ → Spot → Links
 inserted budget s x at = balancedInsertion budget (hooked s x at) x
 
 -- The spot where the order says that the pair hangs: under no slot where the tree is empty.
-unfoldable pub placed : ℕ → List ℕ → Links → ℕ → ℕ → Spot
-placed steps names s hash key = pick (eqb (s .root) null) (spot null left) (descended names (s .cells) steps (s .root) hash key)
+unfoldable pub spotted : ℕ → List ℕ → Links → ℕ → ℕ → Spot
+spotted steps names s hash key = pick (eqb (s .root) null) (spot null left) (descended names (s .cells) steps (s .root) hash key)

@@ -4,23 +4,9 @@ use console::feed::Line;
 use console::feed::blank;
 use console::feed::feed;
 use console::feed::finish;
+use index::fresh::fresh;
 use libc::STDIN_FILENO;
 use libc::STDOUT_FILENO;
-use slots::FREE;
-use slots::NULL;
-use slots::PLACE;
-use slots::STATE;
-use slots::put;
-
-// All slots free, from words that are null.
-fn clear(cells: &mut [u32]) {
-    let mut i: u32 = 0;
-    while i < 512 {
-        put(cells, i, PLACE, 0);
-        put(cells, i, STATE, FREE);
-        i += 1;
-    }
-}
 
 // Answers all of a chunk, a buffer at a time.
 fn answer(
@@ -89,12 +75,12 @@ fn close(
 
 fn main() {
     let mut names = [0u64; 1024];
-    let mut cells = [NULL; 3584];
-    let mut head = [NULL, NULL, 0];
+    let mut cells = [0u32; 3584];
+    let mut head = [0u32; 3];
     let mut lines = [0u64; 2049];
     let mut out = [0u8; 524288];
     let mut chunk = [0u8; 65536];
-    clear(&mut cells);
+    fresh(&mut names, &mut cells, &mut head, &mut lines);
     let line = serve(
         &mut chunk,
         &mut names,

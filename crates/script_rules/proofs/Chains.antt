@@ -9,12 +9,13 @@ use Rattle.slots.specs.Answers.{some}
 use Rattle.tree_rules.specs.Chain.{Chain, ended, linked}
 use Rattle.tree_rules.proofs.Chaining.{chain-inside, chain-most}
 use Rattle.tree_rules.proofs.Counting.{exactly-length}
-use Rattle.index_rules.specs.Live.{Live, Fit, firstOf, countOf, capacityOf}
+use Rattle.index_rules.specs.Live.{Live, Fit, firstOf, countOf}
 use Rattle.index_rules.specs.Sound.{Sound, used}
 use Rattle.index_rules.proofs.Fit.{fit-fits, half}
 use Rattle.script_rules.specs.Text.{entriesText}
 use Rattle.script_rules.specs.Answers.{counted, more, met, entryLine, entryLines, linesOf, listing}
 use Rattle.script_rules.proofs.Listing.{met-null, met-on}
+use Rattle.tree_rules.specs.Find.{slotsOf}
 
 -- Visits for each slot of the chain are enough.
 met-chain : (v n : ℕ) (cells : List ℕ) {q i : ℕ} {l : List ℕ} → n ≤ null → Chain n cells q i l → length l ≤ v → met v n cells i ≡ some (length l)
@@ -30,7 +31,7 @@ lines-chain n names cells {q} {i} (linked w p c) = ap (λ (m : List ℕ). entryL
 pub listed : (t : Live) → Fit t → (h : Sound t) → listing t ≡ counted entriesText (countOf t) ++ linesOf (t .names) (t .cells) (h .chain)
 unfolding listing
 listed t fit h =
-    let n = capacityOf t in
+    let n = slotsOf (t .names) in
     let small : n ≤ null = omega (arith, half fit, fit .most) in
     let chain = h .t7 .linked in
     let many : length (h .chain) ≡ countOf t =

@@ -68,7 +68,7 @@ fair (b ∷ l) k d rest w = go (decLt (roomLeft (d .paper)) longest) (fair l (su
 start-within : (line : Line) (ix : Index) (buffer : List ℕ) → Within (deskOf line ix buffer .paper)
 start-within line ix buffer = omega arith
 
-call-heard : (line : Line) (ix : Index) (chunk rest buffer : List ℕ) {f : Fed} → longest ≤ length buffer → f ≡ feeds chunk (deskOf line ix buffer)
+pub call-heard : (line : Line) (ix : Index) (chunk rest buffer : List ℕ) {f : Fed} → longest ≤ length buffer → f ≡ feeds chunk (deskOf line ix buffer)
     → prefixed (printed f) (heard (f .desk .line) (f .desk .index) (drop (f .taken) chunk ++ rest)) ≡ heard line ix (chunk ++ rest)
 call-heard line ix chunk rest buffer {f} r e =
     let d = deskOf line ix buffer in

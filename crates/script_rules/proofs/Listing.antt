@@ -8,12 +8,13 @@ use native.Mathlib.Omega.{arith}
 use borrow.Author.Tests.{lt-ltb, le-ltb, eq-eqb, ne-eqb}
 use Rattle.slots.specs.Words.{null, place, next, cell, nameOf, hashPart, keyPart}
 use Rattle.slots.specs.Answers.{Value, none, some}
-use Rattle.index_rules.specs.Live.{Live, fits, firstOf, capacityOf}
+use Rattle.index_rules.specs.Live.{Live, fits, firstOf}
 use Rattle.index_rules.specs.Index.{Index, fitsIndex, fitsJournal, lengthOf}
 use Rattle.script_rules.specs.Text.{newline, space, decimal, entriesText, noText, markText}
 use Rattle.script_rules.specs.Answers.{counted, more, met, entryLine, entryLines, listing, marking}
 use Rattle.script_rules.specs.Feeding.{Paper, typedOne, typed}
 use Rattle.script_rules.proofs.Typing.{typed-append}
+use Rattle.tree_rules.specs.Find.{slotsOf}
 
 -- So many were met before.
 abbrev pub raised : ℕ → Value → Value
@@ -103,11 +104,11 @@ module _ (p : Paper) (t : Live) {b : Bool} (f : b ≡ fits t) where
   list-unfit n e = rw (← f, n) e
 
   module _ (y : b ≡ true) {first : ℕ} (at : first ≡ firstOf t) where
-    pub list-lost : {q : Paper} → none ≡ met (capacityOf t) (capacityOf t) (t .cells) first → q ≡ typed p (counted noText 9) → q ≡ typed p (listing t)
+    pub list-lost : {q : Paper} → none ≡ met (slotsOf (t .names)) (slotsOf (t .names)) (t .cells) first → q ≡ typed p (counted noText 9) → q ≡ typed p (listing t)
     unfolding listing
     list-lost m e = rw (← f, y, ← at, ← m) e
 
-    pub list-all : {c : ℕ} {q r : Paper} → some c ≡ met (capacityOf t) (capacityOf t) (t .cells) first → q ≡ typed p (counted entriesText c)
+    pub list-all : {c : ℕ} {q r : Paper} → some c ≡ met (slotsOf (t .names)) (slotsOf (t .names)) (t .cells) first → q ≡ typed p (counted entriesText c)
         → r ≡ typed q (entryLines c (t .names) (t .cells) first) → r ≡ typed p (listing t)
     unfolding listing
     list-all {c} m e g =

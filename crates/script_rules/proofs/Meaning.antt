@@ -11,7 +11,7 @@ use borrow.Author.Tests.{eqb-true}
 use Rattle.slots.specs.Words.{pick}
 use Rattle.index_rules.proofs.Fit.{both}
 use Rattle.script_rules.specs.Text.{decimal, Read, read, unread, readNumber, readNext, begins, space, plusWord, minusWord, askWord, rollWord, markWord, listWord}
-use Rattle.script_rules.specs.Commands.{Command, insert, remove, find, rollback, mark, list, bad, most64, most32, given, alone, pairOf, entryOf, markOf, meant, textOf, Fits}
+use Rattle.script_rules.specs.Commands.{Command, insert, remove, find, rollback, mark, list, bad, most64, most32, readThen, alone, pairOf, entryOf, markOf, meant, textOf, Fits}
 use Rattle.script_rules.proofs.Numbers.{picked, Stops, ended, other, Written, number-read, number-written}
 
 -- A word of one byte or two that stands at the front.
@@ -88,11 +88,11 @@ pair-text c m d e = first (readNumber most64 m) refl e
     })
     last h k rest (b ∷ l) w s f = inl (sym f)
 
-    second : (h : ℕ) (rest : List ℕ) → Written most64 m h rest → (r : Read) → readNext most64 rest ≡ r → given r (λ k end. alone (c h k) end) ≡ d → (d ≡ bad) ⊎ Two c m d
+    second : (h : ℕ) (rest : List ℕ) → Written most64 m h rest → (r : Read) → readNext most64 rest ≡ r → readThen r (λ k end. alone (c h k) end) ≡ d → (d ≡ bad) ⊎ Two c m d
     second h rest w (read k end) q f = last h k rest end w (next-read most64 rest (omega arith) (omega arith) q) f
     second h rest w unread q f = inl (sym f)
 
-    first : (r : Read) → readNumber most64 m ≡ r → given r (λ h rest. given (readNext most64 rest) (λ k end. alone (c h k) end)) ≡ d → (d ≡ bad) ⊎ Two c m d
+    first : (r : Read) → readNumber most64 m ≡ r → readThen r (λ h rest. readThen (readNext most64 rest) (λ k end. alone (c h k) end)) ≡ d → (d ≡ bad) ⊎ Two c m d
     first (read h rest) q f = second h rest (number-read most64 m (omega arith) (omega arith) q) (readNext most64 rest) refl f
     first unread q f = inl (sym f)
 
@@ -126,17 +126,17 @@ entry-text m d e = first (readNumber most64 m) refl e
     last h k p rest more (b ∷ l) w s t f = inl (sym f)
 
     third : (h k : ℕ) (rest more : List ℕ) → Written most64 m h rest → Spaced most64 rest k more → (r : Read) → readNext most32 more ≡ r
-        → given r (λ p end. alone (insert h k p) end) ≡ d → (d ≡ bad) ⊎ Three m d
+        → readThen r (λ p end. alone (insert h k p) end) ≡ d → (d ≡ bad) ⊎ Three m d
     third h k rest more w s (read p end) q f = last h k p rest more end w s (next-read most32 more (omega arith) (omega arith) q) f
     third h k rest more w s unread q f = inl (sym f)
 
     second : (h : ℕ) (rest : List ℕ) → Written most64 m h rest → (r : Read) → readNext most64 rest ≡ r
-        → given r (λ k more. given (readNext most32 more) (λ p end. alone (insert h k p) end)) ≡ d → (d ≡ bad) ⊎ Three m d
+        → readThen r (λ k more. readThen (readNext most32 more) (λ p end. alone (insert h k p) end)) ≡ d → (d ≡ bad) ⊎ Three m d
     second h rest w (read k more) q f = third h k rest more w (next-read most64 rest (omega arith) (omega arith) q) (readNext most32 more) refl f
     second h rest w unread q f = inl (sym f)
 
     first : (r : Read) → readNumber most64 m ≡ r
-        → given r (λ h rest. given (readNext most64 rest) (λ k more. given (readNext most32 more) (λ p end. alone (insert h k p) end))) ≡ d → (d ≡ bad) ⊎ Three m d
+        → readThen r (λ h rest. readThen (readNext most64 rest) (λ k more. readThen (readNext most32 more) (λ p end. alone (insert h k p) end))) ≡ d → (d ≡ bad) ⊎ Three m d
     first (read h rest) q f = second h rest (number-read most64 m (omega arith) (omega arith) q) (readNext most64 rest) refl f
     first unread q f = inl (sym f)
 
@@ -155,7 +155,7 @@ mark-text m d e = first (readNumber most32 m) refl e
     last to [] w f = inr (record { to = to; is = sym f; text = w .text ∙ append-nil _; tb = w .bound })
     last to (b ∷ l) w f = inl (sym f)
 
-    first : (r : Read) → readNumber most32 m ≡ r → given r (λ to end. alone (rollback to) end) ≡ d → (d ≡ bad) ⊎ One m d
+    first : (r : Read) → readNumber most32 m ≡ r → readThen r (λ to end. alone (rollback to) end) ≡ d → (d ≡ bad) ⊎ One m d
     first (read to end) q f = last to end (number-read most32 m (omega arith) (omega arith) q) f
     first unread q f = inl (sym f)
 

@@ -11,7 +11,7 @@ use lib.Dec.{eqb, ltb}
 use borrow.Author.Tests.{lt-ltb}
 use Rattle.slots.specs.Words.{null, pick, place, next, cell, nameOf, hashPart, keyPart}
 use Rattle.slots.specs.Answers.{Answer, Value, none, some}
-use Rattle.index_rules.specs.Live.{Live, fits, firstOf, capacityOf}
+use Rattle.index_rules.specs.Live.{Live, fits, firstOf}
 use Rattle.index_rules.specs.Index.{Index, fitsIndex, lengthOf}
 use Rattle.index_rules.specs.Find.{finds}
 use Rattle.index_rules.specs.Insert.{inserts}
@@ -22,6 +22,7 @@ use Rattle.script_rules.specs.Text.{digits, noText, markText, slotText, 
 use Rattle.script_rules.specs.Commands.{Command, insert, remove, find, rollback, mark, list, bad}
 use Rattle.script_rules.specs.Answers.{counted, valued, told, more, met, entryLine, entryLines, counting, listing, marking, obeyed}
 use Rattle.script_rules.specs.Feeding.{Paper, typedOne, typed, longest}
+use Rattle.tree_rules.specs.Find.{slotsOf}
 
 pub digits-short : (k x : ℕ) → length (digits k x) ≤ k
 unfolding digits
@@ -73,14 +74,14 @@ met-few (suc v) n cells i {c} e = go (λ d q. met-few v n cells (cell cells i ne
 
 listing-short : (t : Live) → length (listing t) ≤ longest
 unfolding listing
-listing-short t = go (fits t) refl (met (capacityOf t) (capacityOf t) (t .cells) (firstOf t)) refl
+listing-short t = go (fits t) refl (met (slotsOf (t .names)) (slotsOf (t .names)) (t .cells) (firstOf t)) refl
   where
-    go : (b : Bool) → fits t ≡ b → (r : Value) → met (capacityOf t) (capacityOf t) (t .cells) (firstOf t) ≡ r
+    go : (b : Bool) → fits t ≡ b → (r : Value) → met (slotsOf (t .names)) (slotsOf (t .names)) (t .cells) (firstOf t) ≡ r
         → length (pick b (counting t r) (counted noText 1)) ≤ longest
     go true f (some c) q =
         let fit = fits-fit t f in
         simp length-append
-        (omega (arith, digits-short 20 c, entries-short c (t .names) (t .cells) (firstOf t), met-few (capacityOf t) (capacityOf t) (t .cells) (firstOf t) q, half fit, fit .most))
+        (omega (arith, digits-short 20 c, entries-short c (t .names) (t .cells) (firstOf t), met-few (slotsOf (t .names)) (slotsOf (t .names)) (t .cells) (firstOf t) q, half fit, fit .most))
     go true f none q = omega (arith, counted-short noText 9)
     go false f r q = omega (arith, counted-short noText 1)
 

@@ -4,7 +4,7 @@ use Prim.Native.Nat.{ℕ, zero, suc}
 use lib.Dec.{eqb, ltb}
 use Rattle.slots.specs.Words.{null, pick, place, next, cell, nameOf, hashPart, keyPart}
 use Rattle.slots.specs.Answers.{Answer, Value, none, some}
-use Rattle.index_rules.specs.Live.{Live, fits, firstOf, capacityOf}
+use Rattle.index_rules.specs.Live.{Live, fits, firstOf}
 use Rattle.index_rules.specs.Find.{finds}
 use Rattle.index_rules.specs.Index.{Index, Outcome, fitsIndex, lengthOf}
 use Rattle.index_rules.specs.Insert.{inserts}
@@ -12,6 +12,7 @@ use Rattle.index_rules.specs.Remove.{removes}
 use Rattle.index_rules.specs.Rollback.{rolls}
 use Rattle.script_rules.specs.Text.{newline, space, decimal, slotText, goneText, atText, noneText, markText, backText, entriesText, noText, badText}
 use Rattle.script_rules.specs.Commands.{Command, insert, remove, find, rollback, mark, list, bad}
+use Rattle.tree_rules.specs.Find.{slotsOf}
 
 -- A word and a number, and the line ends.
 abbrev pub counted : List ℕ → ℕ → List ℕ
@@ -57,7 +58,7 @@ counting t none = counted noText 9
 
 -- "`l` lists hash, key, place by the chain from first."
 unfoldable pub listing : Live → List ℕ
-listing t = pick (fits t) (counting t (met (capacityOf t) (capacityOf t) (t .cells) (firstOf t))) (counted noText 1)
+listing t = pick (fits t) (counting t (met (slotsOf (t .names)) (slotsOf (t .names)) (t .cells) (firstOf t))) (counted noText 1)
 
 -- "The mark is the length."
 unfoldable pub marking : Index → List ℕ

@@ -21,9 +21,9 @@ abbrev pub most32 : ℕ
 most32 = 4294967295
 
 -- What comes of a number that was read; a line that lacks it is bad.
-abbrev pub given : Read → (ℕ → List ℕ → Command) → Command
-given (read v l) rest = rest v l
-given unread rest = bad
+abbrev pub readThen : Read → (ℕ → List ℕ → Command) → Command
+readThen (read v l) rest = rest v l
+readThen unread rest = bad
 
 -- A command, where nothing is left of the line.
 abbrev pub alone : Command → List ℕ → Command
@@ -31,15 +31,15 @@ alone c [] = c
 alone c (b ∷ l) = bad
 
 unfoldable pub pairOf : (ℕ → ℕ → Command) → List ℕ → Command
-pairOf c l = given (readNumber most64 l) (λ h rest. given (readNext most64 rest) (λ k end. alone (c h k) end))
+pairOf c l = readThen (readNumber most64 l) (λ h rest. readThen (readNext most64 rest) (λ k end. alone (c h k) end))
 
 unfoldable pub entryOf : List ℕ → Command
 entryOf l =
-    given (readNumber most64 l)
-    (λ h rest. given (readNext most64 rest) (λ k more. given (readNext most32 more) (λ p end. alone (insert h k p) end)))
+    readThen (readNumber most64 l)
+    (λ h rest. readThen (readNext most64 rest) (λ k more. readThen (readNext most32 more) (λ p end. alone (insert h k p) end)))
 
 unfoldable pub markOf : List ℕ → Command
-markOf l = given (readNumber most32 l) (λ m end. alone (rollback m) end)
+markOf l = readThen (readNumber most32 l) (λ m end. alone (rollback m) end)
 
 -- The command of a line, by the word that it starts with.
 unfoldable pub meant : List ℕ → Command

@@ -57,8 +57,8 @@ pub record Turn : Type 0 where
 abbrev pub lentTurn : List ℕ → List ℕ → List ℕ → List ℕ → List ℕ → ℕ → Turn
 lentTurn names cells head lines out at = record { index = lent names cells head lines; paper = lentPaper out at }
 
-abbrev pub turned : Index → Paper → Command → Turn
-turned ix p c = let s = obeyed ix c in record { index = s .left; paper = typed p (s .text) }
+abbrev pub performed : Index → Paper → Command → Turn
+performed ix p c = let s = obeyed ix c in record { index = s .left; paper = typed p (s .text) }
 
 -- All that the routine works on.
 pub record Desk : Type 0 where
@@ -72,7 +72,7 @@ lentDesk line names cells head lines out at = record { line = line; index = lent
 
 -- The line is answered, and the next one begins.
 unfoldable pub answered : Desk → Desk
-answered d = let t = turned (d .index) (d .paper) (spoken (heldOf (d .line))) in record { line = blank; index = t .index; paper = t .paper }
+answered d = let t = performed (d .index) (d .paper) (spoken (heldOf (d .line))) in record { line = blank; index = t .index; paper = t .paper }
 
 unfoldable pub fedByte : Desk → ℕ → Desk
 fedByte d b = pick (eqb b newline) (answered d) (record { line = noted (d .line) b; index = d .index; paper = d .paper })

@@ -20,8 +20,8 @@ use Rattle.tree_rules.proofs.Chaining.{chain-inside, chain-once}
 use Rattle.index_rules.specs.Sound.{used, slotsFine, leaves}
 use Rattle.index_rules.proofs.Fit.{both}
 use Rattle.index_rules.proofs.Rules.{and, left-of, all-but, all-fine, fine-all}
-use Rattle.set_rules.specs.Words.{Set, Fit, tablesOf, lengthAt, slotsIn, headersIn, rootAt, firstAt, countAt, Bin, empty, moved, bad, list, tree, binAt, bini}
-use Rattle.set_rules.specs.Accepted.{slotted, Place, Listed, ended, onward, Holds, listed, grown, Entry, ParentMoved, EntriesHome, HeadsOnce, GoodList, GoodChain, InOne, Accepted}
+use Rattle.set_rules.specs.Words.{Set, Fit, tablesOf, lengthAt, headersIn, rootAt, firstAt, countAt, Bin, empty, moved, bad, list, tree, binAt, bini}
+use Rattle.set_rules.specs.Accepted.{slotted, Place, Listed, ended, onward, HeldIn, listed, grown, EntryOf, ParentMoved, EntriesHome, HeadsOnce, GoodList, GoodChain, InOne, Accepted}
 use Rattle.set_rules.specs.Accepting.{headersFine, tableFine, allHeld, accepted}
 use Rattle.set_rules.proofs.Fit.{small, length-least, halves, near-parent, far-parent}
 use Rattle.set_rules.proofs.Trees.{Grown, Owned}
@@ -29,6 +29,7 @@ use Rattle.set_rules.proofs.Forest.{Held, as-list, as-tree, Part, whole
 use Rattle.set_rules.proofs.Gathering.{not-empty, not-moved, Sub, all-once, all-members, all-bins, entry-in, held-home, held-holds, holds-unique}
 use Rattle.set_rules.proofs.Naming.{ranges, headers-blank, blank-headers}
 use Rattle.set_rules.proofs.Homes.{entry-only, entry-own}
+use Rattle.tree_rules.specs.Find.{slotsOf}
 
 -- The five kinds of bin, by number.
 abbrev kind : Bin → ℕ
@@ -101,7 +102,7 @@ module _ {s : Set} (fit : Fit s) where
     homes : EntriesHome s
     homes k i x e = go (sub-at (e .place) .good) (e .holds)
       where
-        go : {left : ℕ} {may : Bool} {m : List ℕ} → Good s whole left k i may m → Holds s (binAt s k i) (e .held) → bini (lengthAt s k) (nameOf (s .names) x hashPart) ≡ i
+        go : {left : ℕ} {may : Bool} {m : List ℕ} → Good s whole left k i may m → HeldIn s (binAt s k i) (e .held) → bini (lengthAt s k) (nameOf (s .names) x hashPart) ≡ i
         go (empties q g) h = absurd (not-empty h q)
         go (moves q z g) h = absurd (not-moved h q)
         go (holding {l = a} q h g) o =
@@ -122,17 +123,17 @@ module _ {s : Set} (fit : Fit s) where
     list-at k i a p e = list-held (held-at p (list a) e (omega arith) .1)
 
     -- The head of a list, and the root of a tree, is an entry of the bin.
-    list-entry : {k i a : ℕ} → Place s k i → binAt s k i ≡ list a → Entry s k i a
+    list-entry : {k i a : ℕ} → Place s k i → binAt s k i ≡ list a → EntryOf s k i a
     list-entry {k} {i} {a} p e =
         let g = list-at k i a p e in
-        let r = ranges (slotsIn s) (headersIn s) _ .lists a .0 e in
+        let r = ranges (slotsOf (s .names)) (headersIn s) _ .lists a .0 e in
         record { place = p; held = g .visits; holds = rw e (listed (g .ends)); member = first (g .ends) (omega (arith, r .3, small fit)) }
       where
-        first : {a : ℕ} {m : List ℕ} → Listed (slotsIn s) (s .cells) a m → a ≢ null → 1 ≤ times a m
+        first : {a : ℕ} {m : List ℕ} → Listed (slotsOf (s .names)) (s .cells) a m → a ≢ null → 1 ≤ times a m
         first (ended z) d = absurd (d z)
         first (onward {i = a} {l = m} b t) d = omega (arith, times-head a m)
 
-    tree-entry : {k i h : ℕ} → Place s k i → binAt s k i ≡ tree h → Entry s k i (rootAt s h)
+    tree-entry : {k i h : ℕ} → Place s k i → binAt s k i ≡ tree h → EntryOf s k i (rootAt s h)
     tree-entry {k} {i} {h} p e =
         let g = grown-at k i h p e in
         let r = g .1 .rooted in
@@ -140,7 +141,7 @@ module _ {s : Set} (fit : Fit s) where
           place = p;
           held = slots (g .0);
           holds = rw e (grown r);
-          member = rw (r .from) (top-in (slotsIn s) (s .cells) (r .hangs) (λ z. g .1 .root (r .from ∙ z)));
+          member = rw (r .from) (top-in (slotsOf (s .names)) (s .cells) (r .hangs) (λ z. g .1 .root (r .from ∙ z)));
         }
 
     heads-once : HeadsOnce s
@@ -151,18 +152,18 @@ module _ {s : Set} (fit : Fit s) where
         }
 
     -- A used slot is one of those that the bins hold, where these are as many.
-    in-one : length l ≡ tally (slotsIn s) (used (s .cells)) → (x : ℕ) → x < slotsIn s → cell (s .cells) x state ≢ free → InOne s x
+    in-one : length l ≡ tally (slotsOf (s .names)) (used (s .cells)) → (x : ℕ) → x < slotsOf (s .names) → cell (s .cells) x state ≢ free → InOne s x
     in-one e x b d =
         let u : used (s .cells) x ≡ 1 = rw (ne-eqb (cell (s .cells) x state) free d) in
         let z =
-        exactly (slotsIn s) l (λ y m. all-members fit row y m .inside) (used (s .cells)) (all-once fit row) (λ y m. all-members fit row y m .used-one) e x b
+        exactly (slotsOf (s .names)) l (λ y m. all-members fit row y m .inside) (used (s .cells)) (all-once fit row) (λ y m. all-members fit row y m .used-one) e x b
         in
         let m = all-members fit row x (omega (arith, u, z)) in
         record { table = m .table; index = m .index; entry = m .entry; only = λ k i f. entry-only fit parent-moved homes f (m .entry) }
 
     -- A chain of as many slots as the tree, each used and at home in the tree's bin, has the tree's slots: each is an entry of that bin, and
     -- there are no more of these.
-    chain-at : length l ≡ tally (slotsIn s) (used (s .cells)) → (k i h : ℕ) → Place s k i → binAt s k i ≡ tree h → GoodChain s k i h
+    chain-at : length l ≡ tally (slotsOf (s .names)) (used (s .cells)) → (k i h : ℕ) → Place s k i → binAt s k i ≡ tree h → GoodChain s k i h
     chain-at e k i h p b = record { visits = v; linked = c .1; count = c .2; own = λ x. (to x, from x) }
       where
         t : Tree
@@ -174,42 +175,42 @@ module _ {s : Set} (fit : Fit s) where
         v : List ℕ
         v = g .chain .0
 
-        c : (l : List ℕ) × Chain (slotsIn s) (s .cells) null (firstAt s h) l × (length l ≡ countAt s h) × Owned s (lengthAt s k) i l
+        c : (l : List ℕ) × Chain (slotsOf (s .names)) (s .cells) null (firstAt s h) l × (length l ≡ countAt s h) × Owned s (lengthAt s k) i l
         c = g .chain
 
-        holds : Holds s (binAt s k i) (slots t)
+        holds : HeldIn s (binAt s k i) (slots t)
         holds = rw b (grown (g .rooted))
 
-        inside : (x : ℕ) → 1 ≤ times x v → x < slotsIn s
-        inside x m = chain-inside (slotsIn s) (s .cells) (c .1) m
+        inside : (x : ℕ) → 1 ≤ times x v → x < slotsOf (s .names)
+        inside x m = chain-inside (slotsOf (s .names)) (s .cells) (c .1) m
 
-        to : (x : ℕ) → 1 ≤ times x v → Entry s k i x
+        to : (x : ℕ) → 1 ≤ times x v → EntryOf s k i x
         to x m = let o = c .3 x m in entry-own fit parent-moved homes holds (p .table) (in-one e x (inside x m) (o .0) .entry) (o .1)
 
-        in-tree : (x : ℕ) → Entry s k i x → 1 ≤ times x (slots t)
+        in-tree : (x : ℕ) → EntryOf s k i x → 1 ≤ times x (slots t)
         in-tree x f = let z : times x (f .held) ≡ times x (slots t) = ap (times x) (holds-unique fit (f .holds) holds) in omega (arith, f .member)
 
-        sizes : length v ≡ tally (slotsIn s) (λ x. times x (slots t))
-        sizes = c .2 ∙ sym (g .count) ∙ sym (tally-times (slotsIn s) (slots t) (λ x m. hangs-inside (slotsIn s) (s .cells) (g .rooted .hangs) m))
+        sizes : length v ≡ tally (slotsOf (s .names)) (λ x. times x (slots t))
+        sizes = c .2 ∙ sym (g .count) ∙ sym (tally-times (slotsOf (s .names)) (slots t) (λ x m. hangs-inside (slotsOf (s .names)) (s .cells) (g .rooted .hangs) m))
 
-        from : (x : ℕ) → Entry s k i x → 1 ≤ times x v
+        from : (x : ℕ) → EntryOf s k i x → 1 ≤ times x v
         from x f =
             let m = in-tree x f in
             let z =
-            exactly (slotsIn s) v inside (λ y. times y (slots t)) (chain-once (slotsIn s) (s .cells) (small fit) (firstAt s h) (c .1))
-            (λ y n. omega (arith, in-tree y (to y n), g .rooted .once y)) sizes x (hangs-inside (slotsIn s) (s .cells) (g .rooted .hangs) m)
+            exactly (slotsOf (s .names)) v inside (λ y. times y (slots t)) (chain-once (slotsOf (s .names)) (s .cells) (small fit) (firstAt s h) (c .1))
+            (λ y n. omega (arith, in-tree y (to y n), g .rooted .once y)) sizes x (hangs-inside (slotsOf (s .names)) (s .cells) (g .rooted .hangs) m)
             in
             omega (arith, z, m)
 
   pub yes-accepted : accepted s ≡ true → Accepted s
   unfolding accepted allHeld
   yes-accepted e =
-      let a = both (slotsFine (slotsIn s) (slotsIn s) (slotted s)) _ e in
-      let b = both (headersFine (slotsIn s) (headersIn s) (s .heads) (s .bins)) _ (a .1) in
-      let c = left-of (slotsIn s) (tally (slotsIn s) (used (s .cells))) _ (b .1) in
-      let r = row-found fit (lengthAt s 0) (slotsIn s) (c .0) (c .1) in
+      let a = both (slotsFine (slotsOf (s .names)) (slotsOf (s .names)) (slotted s)) _ e in
+      let b = both (headersFine (slotsOf (s .names)) (headersIn s) (s .heads) (s .bins)) _ (a .1) in
+      let c = left-of (slotsOf (s .names)) (tally (slotsOf (s .names)) (used (s .cells))) _ (b .1) in
+      let r = row-found fit (lengthAt s 0) (slotsOf (s .names)) (c .0) (c .1) in
       let row = r .1 in
-      let fine = all-fine (slotted s) (slotsIn s) (slotsIn s) (a .0) in
+      let fine = all-fine (slotted s) (slotsOf (s .names)) (slotsOf (s .names)) (a .0) in
       let blank = headers-blank fit (heads-once row) (λ k i h p z. grown-at row k i h p z .1 .root) (b .0) in
       record {
         none-bad = none-bad row;
@@ -249,11 +250,11 @@ module _ {s : Set} (fit : Fit s) where
     hued black = omega arith
     hued red = omega arith
 
-    tree-used : {k i h x : ℕ} → binAt s k i ≡ tree h → Entry s k i x → cell (s .cells) x state ≢ free
+    tree-used : {k i h x : ℕ} → binAt s k i ≡ tree h → EntryOf s k i x → cell (s .cells) x state ≢ free
     tree-used {k} {i} {h} {x} e f = go (rw e at (f .holds)) (f .member)
       where
-        go : {m : List ℕ} → Holds s (tree h) m → 1 ≤ times x m → cell (s .cells) x state ≢ free
-        go (grown r) m = let d = hangs-stand (slotsIn s) (s .cells) (r .hangs) m in λ z. hued (d .hue) (sym (d .words .hued) ∙ z)
+        go : {m : List ℕ} → HeldIn s (tree h) m → 1 ≤ times x m → cell (s .cells) x state ≢ free
+        go (grown r) m = let d = hangs-stand (slotsOf (s .names)) (s .cells) (r .hangs) m in λ z. hued (d .hue) (sym (d .words .hued) ∙ z)
 
     tree-good : {k i h : ℕ} → Place s k i → binAt s k i ≡ tree h → (l : List ℕ) × Held s k i (tree h) l
     tree-good {k} {i} {h} p e =
@@ -324,7 +325,7 @@ module _ {s : Set} (fit : Fit s) where
         (f .0 ++ r .0, more (f .1) (r .1))
 
     -- What the bins hold is each used slot once.
-    used-times : {l : List ℕ} → Row s (lengthAt s 0) l → (x : ℕ) → x < slotsIn s → used (s .cells) x ≡ times x l
+    used-times : {l : List ℕ} → Row s (lengthAt s 0) l → (x : ℕ) → x < slotsOf (s .names) → used (s .cells) x ≡ times x l
     used-times {l} row x b = go (ℕ-discrete (cell (s .cells) x state) free) (decLe 1 (times x l))
       where
         go : Dec (cell (s .cells) x state ≡ free) → Dec (1 ≤ times x l) → used (s .cells) x ≡ times x l
@@ -338,16 +339,16 @@ module _ {s : Set} (fit : Fit s) where
         let r = build-row (lengthAt s 0) (omega arith) in
         let l = r .0 in
         let row = r .1 in
-        let inside : (x : ℕ) → 1 ≤ times x l → x < slotsIn s = λ x m. all-members fit row x m .inside in
-        let most = length-most (slotsIn s) l inside (all-once fit row) in
-        let count = exactly-length (slotsIn s) l inside (used (s .cells)) (used-times row) in
-        let table : leaves (slotsIn s) (tally (slotsIn s) (used (s .cells))) (tableFine (lengthAt s 0) s (slotsIn s)) ≡ true =
-        rw (row-run fit row (slotsIn s) most) (eq-eqb _ _ (all-but (slotsIn s) (length l) _ most count))
+        let inside : (x : ℕ) → 1 ≤ times x l → x < slotsOf (s .names) = λ x m. all-members fit row x m .inside in
+        let most = length-most (slotsOf (s .names)) l inside (all-once fit row) in
+        let count = exactly-length (slotsOf (s .names)) l inside (used (s .cells)) (used-times row) in
+        let table : leaves (slotsOf (s .names)) (tally (slotsOf (s .names)) (used (s .cells))) (tableFine (lengthAt s 0) s (slotsOf (s .names))) ≡ true =
+        rw (row-run fit row (slotsOf (s .names)) most) (eq-eqb _ _ (all-but (slotsOf (s .names)) (length l) _ most count))
         in
         let o = ok .headers in
         let headers =
         blank-headers fit (ok .heads) (o .roots)
         (λ h b none. record { root = o .other-root h b none; first = o .other-first h b none; count = o .other-count h b none })
         in
-        and (fine-all (slotted s) (slotsIn s) (slotsIn s) (λ x b. record { links = ok .words .links x b; states = ok .words .states x b; cleared = ok .slots .cleared x b }))
+        and (fine-all (slotted s) (slotsOf (s .names)) (slotsOf (s .names)) (λ x b. record { links = ok .words .links x b; states = ok .words .states x b; cleared = ok .slots .cleared x b }))
         (and headers table)

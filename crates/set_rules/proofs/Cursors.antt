@@ -12,11 +12,12 @@ use lib.Dec.{eqb, ltb}
 use borrow.Author.Tests.{ltb-true, eqb-true, lt-ltb, le-ltb, le-leb, eq-eqb, ne-eqb}
 use Rattle.slots.specs.Words.{null, pick}
 use Rattle.tree_rules.specs.Check.{inRange}
-use Rattle.set_rules.specs.Words.{Set, tablesOf, lengthAt, slotsIn, Fit}
+use Rattle.set_rules.specs.Words.{Set, tablesOf, lengthAt, Fit}
 use Rattle.set_rules.proofs.Fit.{near-parent, halves}
 use Rattle.set_rules.specs.Cursor.{Cursor, indexAt, BadCursor, levelFine, levelsFine, baseFine, fine, fineCursor}
-use Rattle.set_rules.specs.Walk.{kept, trimmed, standing, Stands}
+use Rattle.set_rules.specs.Walk.{kept, trimmed, standing, InTables}
 use Rattle.set_rules.proofs.Turns.{twice-at}
+use Rattle.tree_rules.specs.Find.{slotsOf}
 
 -- Two tests in a row.
 pub both : {a b : Bool} → pick a b false ≡ true → (a ≡ true) × (b ≡ true)
@@ -138,10 +139,10 @@ trimmed-same d x j l h = trimmed-kept d x j (omega arith) ∙ simp (le-leb _ _ l
 
 module _ (s : Set) (fit : Fit s) (c : Cursor) where
   abbrev pub RightCursor : Type 0
-  RightCursor = Right (s .lengths) (slotsIn s) (c .base) (c .depth) (c .indexes) (c .last)
+  RightCursor = Right (s .lengths) (slotsOf (s .names)) (c .base) (c .depth) (c .indexes) (c .last)
 
   -- A step may stand where a right cursor stands.
-  pub right-stands : RightCursor → Stands (s .lengths) (c .base) (standing c)
+  pub right-stands : RightCursor → InTables (s .lengths) (c .base) (standing c)
   right-stands h =
       record {
         eight = refl;
@@ -190,7 +191,7 @@ module _ (s : Set) (fit : Fit s) (c : Cursor) where
   start-same : lengthAt s (c .base + 0) ≡ lengthAt s (c .base)
   start-same = ap (λ (k : ℕ). lengthAt s k) (add-zero (c .base))
 
-  pub right-not-bad : Right (s .lengths) (slotsIn s) (c .base) (c .depth) (c .indexes) (c .last) → BadCursor s c → ⊥
+  pub right-not-bad : Right (s .lengths) (slotsOf (s .names)) (c .base) (c .depth) (c .indexes) (c .last) → BadCursor s c → ⊥
   right-not-bad h (BadCursor.no-base l) = omega (arith, h .deep, l)
   right-not-bad h (BadCursor.too-deep l) = omega (arith, h .deep, l)
   right-not-bad h (BadCursor.out-of-range zero l m n) = go (h .first)
@@ -206,7 +207,7 @@ module _ (s : Set) (fit : Fit s) (c : Cursor) where
       go (inr e) = n (ap (λ (k : ℕ). k % lengthAt s (c .base + j)) e ∙ add-mod-right (indexAt c j) (lengthAt s (c .base + j)))
   right-not-bad h (BadCursor.stray-last n l) = go (h .known)
     where
-      go : (c .last ≡ null) ⊎ (c .last < slotsIn s) → ⊥
+      go : (c .last ≡ null) ⊎ (c .last < slotsOf (s .names)) → ⊥
       go (inl e) = n e
       go (inr k) = omega (arith, k, l)
 
@@ -261,12 +262,12 @@ module _ (s : Set) (fit : Fit s) (c : Cursor) where
       range : c .base + c .depth < tablesOf s → baseFine (lengthAt s (c .base)) (c .depth) (indexAt c 0) ≡ true → levelsFine (c .depth) (s .lengths) (c .base) (c .indexes) ≡ true
           → BadCursor s c
       range l f g =
-          let h : inRange (slotsIn s) (c .last) ≡ false = simp (lt-ltb _ _ l, f, g) at e in
-          go (ℕ-discrete (c .last) null) (decLt (c .last) (slotsIn s)) h
+          let h : inRange (slotsOf (s .names)) (c .last) ≡ false = simp (lt-ltb _ _ l, f, g) at e in
+          go (ℕ-discrete (c .last) null) (decLt (c .last) (slotsOf (s .names))) h
         where
-          go : Dec (c .last ≡ null) → Dec (c .last < slotsIn s) → inRange (slotsIn s) (c .last) ≡ false → BadCursor s c
-          go (yes z) d h = absurd (false≢true (sym h ∙ known-range (slotsIn s) (c .last) (inl z)))
-          go (no n) (yes k) h = absurd (false≢true (sym h ∙ known-range (slotsIn s) (c .last) (inr k)))
+          go : Dec (c .last ≡ null) → Dec (c .last < slotsOf (s .names)) → inRange (slotsOf (s .names)) (c .last) ≡ false → BadCursor s c
+          go (yes z) d h = absurd (false≢true (sym h ∙ known-range (slotsOf (s .names)) (c .last) (inl z)))
+          go (no n) (yes k) h = absurd (false≢true (sym h ∙ known-range (slotsOf (s .names)) (c .last) (inr k)))
           go (no n) (no k) h = BadCursor.stray-last n (omega arith)
 
       levels : c .base + c .depth < tablesOf s → baseFine (lengthAt s (c .base)) (c .depth) (indexAt c 0) ≡ true

@@ -10,7 +10,7 @@ use Rattle.set_rules.specs.Words.{Set, Fit}
 use Rattle.set_rules.specs.Accepted.{Accepted}
 use Rattle.set_rules.specs.Cursor.{Cursor, Step}
 use Rattle.set_rules.specs.Walk.{nexts}
-use Rattle.set_rules.specs.Held.{Made, after}
+use Rattle.set_rules.specs.Held.{Made, cursorAfter}
 use Rattle.set_rules.specs.Whole.{Listing}
 use Rattle.set_rules.specs.Walked.{Walks}
 use Rattle.set_rules.proofs.Nexting.{nexts-claims}
@@ -21,8 +21,8 @@ never : {s : Set} {c : Cursor} {l : List ℕ} → Listing s c l → (n : ℕ) �
 never (Listing.done e) n k f = omega (arith, number (sym e ∙ f))
 never (Listing.step e r) n k f = omega (arith, number (sym e ∙ f))
 
-ends : {s : Set} {c : Cursor} {l : List ℕ} → Listing s c l → (n : ℕ) × (nexts s (after n s c) .answer ≡ nothing)
-unfolding after
+ends : {s : Set} {c : Cursor} {l : List ℕ} → Listing s c l → (n : ℕ) × (nexts s (cursorAfter n s c) .answer ≡ nothing)
+unfolding cursorAfter
 ends (Listing.done e) = (0, e)
 ends (Listing.step e r) = let m = ends r in (suc (m .0), m .1)
 

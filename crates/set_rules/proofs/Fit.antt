@@ -15,7 +15,8 @@ use borrow.Author.Tests.{eqb-true, leb-true, eq-eqb, le-leb}
 use Rattle.slots.specs.Words.{null, pick}
 use Rattle.index_rules.proofs.Fit.{both}
 use Rattle.index_rules.proofs.Rules.{and}
-use Rattle.set_rules.specs.Words.{Set, tablesOf, lengthAt, slotsIn, headersIn, begins, Fit, doubling, doubled, fitTables, fits, bini}
+use Rattle.set_rules.specs.Words.{Set, tablesOf, lengthAt, headersIn, begins, Fit, doubling, doubled, fitTables, fits, bini}
+use Rattle.tree_rules.specs.Find.{slotsOf}
 
 step-power : (p e : ℕ) → 2 * p * 2 ^ e ≡ p * 2 ^ suc e
 step-power p e = rw (pow-succ' 2 e, mul-comm 2 p, mul-assoc p 2 (2 ^ e))
@@ -79,7 +80,7 @@ module _ {s : Set} (fit : Fit s) where
       go (yes l) =
           absurd (omega (arith, pow-le-pow-right {n = 2} (omega arith) l, fit .power .1, length-bound 0))
 
-  pub slots-are : slotsIn s ≡ fit .slots
+  pub slots-are : slotsOf (s .names) ≡ fit .slots
   slots-are = omega (arith, fit .two)
 
   pub headers-are : headersIn s ≡ fit .headers
@@ -95,14 +96,14 @@ module _ {s : Set} (fit : Fit s) where
   pub fit-fits : fits s ≡ true
   unfolding fits
   fit-fits =
-      and fit-tables (and (eq-eqb _ _ (fit .all)) (and (le-leb (slotsIn s) 4096 (omega (arith, slots-are, fit .slots-most)))
-      (and (eq-eqb (length (s .names)) (2 * slotsIn s) (omega (arith, slots-are, fit .two)))
-      (and (eq-eqb (length (s .cells)) (7 * slotsIn s) (omega (arith, slots-are, fit .seven)))
+      and fit-tables (and (eq-eqb _ _ (fit .all)) (and (le-leb (slotsOf (s .names)) 4096 (omega (arith, slots-are, fit .slots-most)))
+      (and (eq-eqb (length (s .names)) (2 * slotsOf (s .names)) (omega (arith, slots-are, fit .two)))
+      (and (eq-eqb (length (s .cells)) (7 * slotsOf (s .names)) (omega (arith, slots-are, fit .seven)))
       (and (le-leb (headersIn s) 4096 (omega (arith, headers-are, fit .headers-most)))
       (eq-eqb (length (s .heads)) (3 * headersIn s) (omega (arith, headers-are, fit .three))))))))
 
   -- Fit words end long before slot null.
-  pub small : slotsIn s ≤ null
+  pub small : slotsOf (s .names) ≤ null
   small = omega (arith, slots-are, fit .slots-most)
 
   pub ends : length (s .cells) ≤ 7 * null
@@ -147,7 +148,7 @@ halves j len l = go (decLe len j)
 pub fits-fit : (s : Set) → fits s ≡ true → Fit s
 unfolding fits fitTables
 fits-fit s e =
-    let n = slotsIn s in
+    let n = slotsOf (s .names) in
     let h = headersIn s in
     let t = tablesOf s in
     let a = both (fitTables (s .lengths)) _ e in

@@ -14,16 +14,17 @@ use Rattle.slots.specs.Answers.{Value, none, some}
 use Rattle.tree_rules.specs.Tree.{Tree, slots, times}
 use Rattle.tree_rules.specs.Rules.{then}
 use Rattle.tree_rules.proofs.Reaching.{refuted, rooted-most}
-use Rattle.set_rules.specs.Words.{Set, Fit, tablesOf, lengthAt, slotsIn, rootAt, firstAt, countAt, Bin, empty, moved, bad, list, tree, binAt}
+use Rattle.set_rules.specs.Words.{Set, Fit, tablesOf, lengthAt, rootAt, firstAt, countAt, Bin, empty, moved, bad, list, tree, binAt}
 use Rattle.set_rules.specs.Accepted.{Listed, Apart, ListSlot}
-use Rattle.set_rules.specs.Accepting.{listFine, treeFine, placed, ownFine, binAsks, belowFine, binFine, tableFine}
+use Rattle.set_rules.specs.Accepting.{listFine, treeFine, wellPlaced, ownFine, binAsks, belowFine, binFine, tableFine}
 use Rattle.set_rules.proofs.Fit.{small}
 use Rattle.set_rules.proofs.Lists.{Home, list-walked, walked-list}
 use Rattle.set_rules.proofs.Trees.{Grown, fine-grown, grown-fine}
+use Rattle.tree_rules.specs.Find.{slotsOf}
 
 -- Bin i of table k may hold these slots, as a list or as a tree.
 pub data Held (s : Set) (k i : ℕ) : Bin → List ℕ → Type 0 where
-  as-list : {a : ℕ} {l : List ℕ} → Listed (slotsIn s) (s .cells) a l → Apart (s .names) l → ((x : ℕ) → 1 ≤ times x l → ListSlot (s .cells) x)
+  as-list : {a : ℕ} {l : List ℕ} → Listed (slotsOf (s .names)) (s .cells) a l → Apart (s .names) l → ((x : ℕ) → 1 ≤ times x l → ListSlot (s .cells) x)
       → Home (s .names) (lengthAt s k) i l → Held s k i (list a) l
   as-tree : {h : ℕ} {t : Tree} → Grown s (lengthAt s k) i h t → Held s k i (tree h) (slots t)
 
@@ -62,7 +63,7 @@ module _ {s : Set} (fit : Fit s) where
 
   asks-found : (left k i : ℕ) → Belows left k i → (may : Bool) (v rest : ℕ) (b : Bin) → binAt s k i ≡ b
       → binAsks s left k i (belowFine left s k i) may v b ≡ some rest → Found whole left k i may v rest
-  unfolding binAsks placed ownFine
+  unfolding binAsks wellPlaced ownFine
   asks-found left k i again may v rest empty p e = let f = again false v rest e in record { slots = f .slots; good = empties p (f .good); spent = f .spent }
   asks-found left k i again true v rest moved p e = go (eqb left 0) refl e
     where
@@ -134,13 +135,13 @@ module _ {s : Set} (fit : Fit s) where
 
   held-run : (left k i v : ℕ) (b : Bin) {l : List ℕ} → Held s k i b l → length l ≤ v
       → binAsks s left k i (belowFine left s k i) true v b ≡ belowFine left s k i false (v - length l)
-  unfolding binAsks placed ownFine
+  unfolding binAsks wellPlaced ownFine
   held-run left k i v (list a) (as-list e u p h) m = rw (walked-list s (small fit) (lengthAt s k) i v e u p h m)
   held-run left k i v (tree h) (as-tree {t = t} g) m =
-      rw (grown-fine fit (lengthAt s k) i h v t g m (rooted-most (slotsIn s) (s .cells) (small fit) _ (g .rooted)))
+      rw (grown-fine fit (lengthAt s k) i h v t g m (rooted-most (slotsOf (s .names)) (s .cells) (small fit) _ (g .rooted)))
 
   good-run : {p : Part} {left k i : ℕ} {may : Bool} {l : List ℕ} → Good s p left k i may l → (v : ℕ) → length l ≤ v → run p left k i may v ≡ some (v - length l)
-  unfolding binAsks belowFine placed ownFine
+  unfolding binAsks belowFine wellPlaced ownFine
   good-run (empties p g) v m = rw p (good-run g v m)
   good-run (moves {left = left} p d g) v m = rw (p, ne-eqb left 0 d) (good-run g v m)
   good-run (holding {left = left} {k} {i} {b} {l} {m = l′} p h g) v m =

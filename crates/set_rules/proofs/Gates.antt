@@ -8,16 +8,17 @@ use borrow.Author.Tests.{lt-ltb, le-ltb}
 use Rattle.slots.specs.Words.{null}
 use Rattle.slots.specs.Answers.{Answer, given, nothing, refused}
 use Rattle.slots.proofs.Laws.{number, given-is, nothing-given}
-use Rattle.set_rules.specs.Words.{Set, tablesOf, slotsIn, Fit, fits}
+use Rattle.set_rules.specs.Words.{Set, tablesOf, Fit, fits}
 use Rattle.set_rules.proofs.Fit.{fits-fit, fit-fits}
 use Rattle.set_rules.specs.Lookup.{lookups, Astray, Hit, Miss}
 use Rattle.set_rules.specs.Cursor.{Cursor, Step, lone, blank, starts, BadCursor, fineCursor}
-use Rattle.set_rules.specs.Walk.{Stands, standing, walked, nexts}
+use Rattle.set_rules.specs.Walk.{InTables, standing, stepsOn, nexts}
 use Rattle.set_rules.specs.Ways.{Steps}
 use Rattle.set_rules.specs.Walked.{Lookups, Starts}
 use Rattle.set_rules.proofs.Looking.{Outcome, outcome, astray-nine, hit-given, miss-nothing, unfit-one, unknown-ten, known-loop, fitted}
 use Rattle.set_rules.proofs.Cursors.{Right, fine-right, right-stands, right-not-bad, wrong-bad}
 use Rattle.set_rules.proofs.Stepping.{steps-walked}
+use Rattle.tree_rules.specs.Find.{slotsOf}
 
 -- Which gate a lookup passes.
 data Gate (s : Set) (t hash key : ℕ) : Answer → Type 0 where
@@ -133,8 +134,8 @@ module _ (s : Set) (c : Cursor) where
       go false e = rw e
 
   module _ (fit : Fit s) where
-    right : fineCursor s c ≡ true → Right (s .lengths) (slotsIn s) (c .base) (c .depth) (c .indexes) (c .last)
-    right e = fine-right (s .lengths) (slotsIn s) (c .base) (c .depth) (c .indexes) (c .last) e
+    right : fineCursor s c ≡ true → Right (s .lengths) (slotsOf (s .names)) (c .base) (c .depth) (c .indexes) (c .last)
+    right e = fine-right (s .lengths) (slotsOf (s .names)) (c .base) (c .depth) (c .indexes) (c .last) e
 
     pub bad-fine : BadCursor s c → fineCursor s c ≡ false
     bad-fine h = go (fineCursor s c) refl
@@ -150,7 +151,7 @@ module _ (s : Set) (c : Cursor) where
         go true e = e
         go false e = absurd (n (wrong-bad s fit c e))
 
-    pub next-walked : (BadCursor s c → ⊥) → nexts s c ≡ walked s c
+    pub next-walked : (BadCursor s c → ⊥) → nexts s c ≡ stepsOn s c
     unfolding nexts
     next-walked n = rw (fit-fits fit, good-fine n)
 
@@ -158,7 +159,7 @@ module _ (s : Set) (c : Cursor) where
     unfolding nexts
     next-bad h = rw (fit-fits fit, bad-fine h)
 
-    pub next-stands : (BadCursor s c → ⊥) → Stands (s .lengths) (c .base) (standing c)
+    pub next-stands : (BadCursor s c → ⊥) → InTables (s .lengths) (c .base) (standing c)
     next-stands n = right-stands s fit c (right (good-fine n))
 
     pub judged : Dec (BadCursor s c)

@@ -13,11 +13,12 @@ use Rattle.tree_rules.proofs.Counting.{times-append}
 use Rattle.tree_rules.proofs.Reaching.{hangs-stand, hangs-inside, rooted-unique}
 use Rattle.index_rules.specs.Sound.{used}
 use Rattle.index_rules.proofs.Rules.{used-hued}
-use Rattle.set_rules.specs.Words.{Set, Fit, tablesOf, lengthAt, slotsIn, Bin, empty, moved, binAt, bini}
-use Rattle.set_rules.specs.Accepted.{Place, Holds, listed, grown, Entry}
+use Rattle.set_rules.specs.Words.{Set, Fit, tablesOf, lengthAt, Bin, empty, moved, binAt, bini}
+use Rattle.set_rules.specs.Accepted.{Place, HeldIn, listed, grown, EntryOf}
 use Rattle.set_rules.proofs.Fit.{small, bini-up, near-parent, far-parent}
 use Rattle.set_rules.proofs.Lists.{Home, apart-once, listed-inside, listed-unique}
 use Rattle.set_rules.proofs.Forest.{Held, as-list, as-tree, Part, whole, beneath, Good, empties, moves, holding, final, two, Row, start, more}
+use Rattle.tree_rules.specs.Find.{slotsOf}
 
 -- A member of one list put after another is a member of one of them.
 member-cases : {A : Type 0} (x : ℕ) (l m : List ℕ) → 1 ≤ times x (l ++ m) → (1 ≤ times x l → A) → (1 ≤ times x m → A) → A
@@ -28,11 +29,11 @@ member-cases {A} x l m h a b = go (decLe 1 (times x l))
     go (no d) = b (omega (arith, times-append x l m))
 
 -- A bin that holds slots is neither empty nor Moved.
-pub not-empty : {s : Set} {b : Bin} {l : List ℕ} → Holds s b l → b ≢ empty
+pub not-empty : {s : Set} {b : Bin} {l : List ℕ} → HeldIn s b l → b ≢ empty
 not-empty (listed e) p = let z : _≡_ {A = ℕ} 0 1 = cc in omega arith
 not-empty (grown e) p = let z : _≡_ {A = ℕ} 0 1 = cc in omega arith
 
-pub not-moved : {s : Set} {b : Bin} {l : List ℕ} → Holds s b l → b ≢ moved
+pub not-moved : {s : Set} {b : Bin} {l : List ℕ} → HeldIn s b l → b ≢ moved
 not-moved (listed e) p = let z : _≡_ {A = ℕ} 0 1 = cc in omega arith
 not-moved (grown e) p = let z : _≡_ {A = ℕ} 0 1 = cc in omega arith
 
@@ -53,20 +54,20 @@ module _ {s : Set} (fit : Fit s) where
   held-once (as-list e a p h) = apart-once s (small fit) a
   held-once (as-tree g) = g .rooted .once
 
-  pub held-holds : {k i : ℕ} {b : Bin} {l : List ℕ} → Held s k i b l → Holds s b l
+  pub held-holds : {k i : ℕ} {b : Bin} {l : List ℕ} → Held s k i b l → HeldIn s b l
   held-holds (as-list e a p h) = listed e
   held-holds (as-tree g) = grown (g .rooted)
 
-  held-used : {k i : ℕ} {b : Bin} {l : List ℕ} → Held s k i b l → (x : ℕ) → 1 ≤ times x l → (used (s .cells) x ≡ 1) × (x < slotsIn s)
+  held-used : {k i : ℕ} {b : Bin} {l : List ℕ} → Held s k i b l → (x : ℕ) → 1 ≤ times x l → (used (s .cells) x ≡ 1) × (x < slotsOf (s .names))
   held-used (as-list e a p h) x m = (used-hued (s .cells) x black (p x m .states), listed-inside s (small fit) e x m)
   held-used (as-tree g) x m =
-      let d = hangs-stand (slotsIn s) (s .cells) (g .rooted .hangs) m in
-      (used-hued (s .cells) x (d .hue) (d .words .hued), hangs-inside (slotsIn s) (s .cells) (g .rooted .hangs) m)
+      let d = hangs-stand (slotsOf (s .names)) (s .cells) (g .rooted .hangs) m in
+      (used-hued (s .cells) x (d .hue) (d .words .hued), hangs-inside (slotsOf (s .names)) (s .cells) (g .rooted .hangs) m)
 
   -- What a bin's list or tree holds is settled by the words.
-  pub holds-unique : {b : Bin} {l m : List ℕ} → Holds s b l → Holds s b m → l ≡ m
+  pub holds-unique : {b : Bin} {l m : List ℕ} → HeldIn s b l → HeldIn s b m → l ≡ m
   holds-unique (listed e) (listed f) = listed-unique s (small fit) e f
-  holds-unique (grown {h = h} e) (grown f) = ap slots (rooted-unique (slotsIn s) (s .cells) (small fit) _ e f)
+  holds-unique (grown {h = h} e) (grown f) = ap slots (rooted-unique (slotsOf (s .names)) (s .cells) (small fit) _ e f)
 
   -- In the table above, the hash names the parent.
   home-up : (k i j : ℕ) (l : List ℕ) → suc k < tablesOf s → j % lengthAt s k ≡ i → Home (s .names) (lengthAt s (suc k)) j l → Home (s .names) (lengthAt s k) i l
@@ -109,9 +110,9 @@ module _ {s : Set} (fit : Fit s) where
   pub record Member (x : ℕ) : Type 0 where
     pub table : ℕ
     pub index : ℕ
-    pub entry : Entry s table index x
+    pub entry : EntryOf s table index x
     pub used-one : used (s .cells) x ≡ 1
-    pub inside : x < slotsIn s
+    pub inside : x < slotsOf (s .names)
 
   good-member : {p : Part} {left k i : ℕ} {may : Bool} {l : List ℕ} → Good s p left k i may l → suc k + left ≡ tablesOf s → i < lengthAt s k → (x : ℕ) → 1 ≤ times x l → Member x
   unfolding times
@@ -250,10 +251,10 @@ module _ {s : Set} (fit : Fit s) where
         sub-more (r .part) (good-sub (r .good) (r .sum) k j (u .2) (p .table))
 
     -- An entry stands among the slots.
-    pub entry-in : {k j x : ℕ} → Entry s k j x → 1 ≤ times x l
+    pub entry-in : {k j x : ℕ} → EntryOf s k j x → 1 ≤ times x l
     entry-in {k} {j} {x} e = let r = all-bins (e .place) in omega (arith, r .part x, go (r .good) (e .holds))
       where
-        go : {left : ℕ} {may : Bool} {m : List ℕ} → Good s whole left k j may m → Holds s (binAt s k j) (e .held) → 1 ≤ times x m
+        go : {left : ℕ} {may : Bool} {m : List ℕ} → Good s whole left k j may m → HeldIn s (binAt s k j) (e .held) → 1 ≤ times x m
         go (empties p g) h = absurd (not-empty h p)
         go (moves p d g) h = absurd (not-moved h p)
         go (holding {l = a} {m} p h g) o =

@@ -12,12 +12,12 @@ use borrow.Author.Tests.{eq-eqb, ne-eqb, lt-ltb}
 use Rattle.slots.specs.Words.{null, next, cell}
 use Rattle.slots.specs.Answers.{given}
 use Rattle.slots.proofs.Laws.{cell-null}
-use Rattle.set_rules.specs.Words.{Set, Fit, tablesOf, lengthAt, slotsIn, headersIn}
+use Rattle.set_rules.specs.Words.{Set, Fit, tablesOf, lengthAt, headersIn}
 use Rattle.set_rules.specs.Accepted.{Accepted, Listed}
 use Rattle.set_rules.proofs.Fit.{small, ends}
 use Rattle.set_rules.proofs.Naming.{ranges}
 use Rattle.set_rules.specs.Cursor.{Cursor, Step, lone, starts}
-use Rattle.set_rules.specs.Walk.{Place, place, deepest, advanced, kept, trimmed, onward, below, standing, Sought, at, ended, stepped, walked, nexts}
+use Rattle.set_rules.specs.Walk.{Place, place, deepest, advanced, kept, trimmed, onward, below, standing, Sought, at, ended, stepped, stepsOn, nexts}
 use Rattle.set_rules.specs.Ways.{moved-to}
 use Rattle.set_rules.specs.Held.{Made}
 use Rattle.set_rules.specs.Whole.{Gives, Onward, Listing}
@@ -26,6 +26,7 @@ use Rattle.set_rules.proofs.Cursors.{trimmed-same}
 use Rattle.set_rules.proofs.Seeking.{Good, Here, leftAt, seeks, at-end, at-empty, at-list, at-moved, at-tree, falls-onward, falls-below, good-onward, good-below}
 use Rattle.set_rules.proofs.Gates.{start-made, next-walked, next-stands}
 use Rattle.set_rules.proofs.Righting.{made-not-bad}
+use Rattle.tree_rules.specs.Find.{slotsOf}
 
 module _ (s : Set) (base : ℕ) where
   -- What comes after the bin at depth d.
@@ -83,12 +84,12 @@ module _ (s : Set) (base : ℕ) where
 module _ (s : Set) (fit : Fit s) (acc : Accepted s) (base : ℕ) where
   data Sees : List ℕ → Sought → Type 0 where
     none : Sees [] ended
-    some : {x : ℕ} {q : Place} {l m : List ℕ} → Listed (slotsIn s) (s .cells) (cell (s .cells) x next) l → Good s base q → From s base q m → Sees (x ∷ (l ++ m)) (at x q)
+    some : {x : ℕ} {q : Place} {l m : List ℕ} → Listed (slotsOf (s .names)) (s .cells) (cell (s .cells) x next) l → Good s base q → From s base q m → Sees (x ∷ (l ++ m)) (at x q)
 
   onward-on : (p : Place) {m : List ℕ} → Good s base p → Rest s base (p .depth) (p .indexes) m → From s base (onward s base p) m
   onward-on p h r = rest-on s base (fit .twice) (p .depth) (h .eight) (omega (arith, h .deep, h .few)) (h .deep) r
 
-  sees-list : (p : Place) {a : ℕ} {l m : List ℕ} → Good s base p → Here s base p → Listed (slotsIn s) (s .cells) a l → a ≢ null → Rest s base (p .depth) (p .indexes) m
+  sees-list : (p : Place) {a : ℕ} {l m : List ℕ} → Good s base p → Here s base p → Listed (slotsOf (s .names)) (s .cells) a l → a ≢ null → Rest s base (p .depth) (p .indexes) m
       → Sees (l ++ m) (at a (onward s base p))
   sees-list p h w (Listed.ended e) d r = absurd (d e)
   sees-list p h w (Listed.onward b t) d r = some t (good-onward s base p h w) (onward-on p h r)
@@ -101,13 +102,13 @@ module _ (s : Set) (fit : Fit s) (acc : Accepted s) (base : ℕ) where
   sees (suc t) p h (here w (Gives.of-none e) r) k =
       rw (at-empty s base p h w e) (sees t (onward s base p) (good-onward s base p h w) (onward-on p h r) (omega (arith, falls-onward s base p h w)))
   sees (suc t) p h (here w (Gives.of-list {a = a} e g) r) k =
-      let z = ranges (slotsIn s) (headersIn s) _ .lists a .0 e in
+      let z = ranges (slotsOf (s .names)) (headersIn s) _ .lists a .0 e in
       rw (at-list s base p h w e) (sees-list p h w g (omega (arith, z .3, small fit)) r)
   sees (suc t) p h (here w (Gives.of-tree {h = a} e g) r) k =
       let d = acc .headers .firsts (base + p .depth) (deepest p) a (record { table = h .deep; index = w }) e in
       rw (at-tree s base p h w e (first g d)) (sees-list p h w g d r)
     where
-      first : {a : ℕ} {l : List ℕ} → Listed (slotsIn s) (s .cells) a l → a ≢ null → a < slotsIn s
+      first : {a : ℕ} {l : List ℕ} → Listed (slotsOf (s .names)) (s .cells) a l → a ≢ null → a < slotsOf (s .names)
       first (Listed.ended e) d = absurd (d e)
       first (Listed.onward b t) d = b
   sees (suc t) p h (here {m = c} w (Gives.of-moved {l = a} {m = b} e n f g) r) k =
@@ -131,12 +132,12 @@ module _ (s : Set) (fit : Fit s) (acc : Accepted s) (base : ℕ) where
 module _ (s : Set) (fit : Fit s) (acc : Accepted s) where
   module _ (c : Cursor) (m : Made s c) where
     by-loop : cell (s .cells) (c .last) next ≡ null → {o : Sought} → seeks s (c .base) (standing c) ≡ o → nexts s c ≡ stepped s c o
-    unfolding walked
+    unfolding stepsOn
     by-loop e f = next-walked s c fit (made-not-bad s fit c m) ∙ rw (eq-eqb (cell (s .cells) (c .last) next) null e, f)
 
-    by-link : (x : ℕ) → cell (s .cells) (c .last) next ≡ x → x < slotsIn s → nexts s c ≡ stepped s c (at x (standing c))
-    unfolding walked
-    by-link x e l = next-walked s c fit (made-not-bad s fit c m) ∙ rw (e, ne-eqb x null (omega (arith, small fit)), lt-ltb x (slotsIn s) l)
+    by-link : (x : ℕ) → cell (s .cells) (c .last) next ≡ x → x < slotsOf (s .names) → nexts s c ≡ stepped s c (at x (standing c))
+    unfolding stepsOn
+    by-link x e l = next-walked s c fit (made-not-bad s fit c m) ∙ rw (e, ne-eqb x null (omega (arith, small fit)), lt-ltb x (slotsOf (s .names)) l)
 
   one-step : (c d : Cursor) (x : ℕ) {l : List ℕ} → nexts s c ≡ record { answer = given x; cursor = d } → Listing s d l → Listing s c (x ∷ l)
   one-step c d x {l} e r = Listing.step {l = l} (ap (λ (r : Step). r .answer) e) (rw (ap (λ (r : Step). r .cursor) e) r)
@@ -146,7 +147,7 @@ module _ (s : Set) (fit : Fit s) (acc : Accepted s) where
 
   -- The slots after the last one come first, then what is to come from where the cursor stands.
   abbrev Lists : ℕ → Type 0
-  Lists n = (c : Cursor) (l m : List ℕ) → Made s c → Listed (slotsIn s) (s .cells) (cell (s .cells) (c .last) next) l → From s (c .base) (standing c) m
+  Lists n = (c : Cursor) (l m : List ℕ) → Made s c → Listed (slotsOf (s .names)) (s .cells) (cell (s .cells) (c .last) next) l → From s (c .base) (standing c) m
       → length l + length m < n → Listing s c (l ++ m)
 
   lists-loop : (n : ℕ) (c : Cursor) → Made s c → cell (s .cells) (c .last) next ≡ null → {m : List ℕ} {o : Sought} → Sees s fit acc (c .base) m o

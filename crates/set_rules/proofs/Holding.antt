@@ -15,12 +15,12 @@ use Rattle.tree_rules.specs.Tree.{Tree, slots, times, Rooted}
 use Rattle.tree_rules.proofs.Counting.{times-head, times-rest, times-cases, length-most}
 use Rattle.tree_rules.proofs.Reaching.{rooted-most, rooted-unique}
 use Rattle.index_rules.proofs.Seeking.{seeks}
-use Rattle.set_rules.specs.Words.{Set, tablesOf, lengthAt, slotsIn, rootAt, Fit, Bin, list, tree, bini}
-use Rattle.set_rules.specs.Accepted.{Accepted, Place, Listed, Holds, Unlike, Apart}
+use Rattle.set_rules.specs.Words.{Set, tablesOf, lengthAt, rootAt, Fit, Bin, list, tree, bini}
+use Rattle.set_rules.specs.Accepted.{Accepted, Place, Listed, HeldIn, Unlike, Apart}
 use Rattle.set_rules.proofs.Fit.{small, ends, bini-less}
 use Rattle.set_rules.proofs.Lists.{apart-once, listed-inside, listed-unique}
 use Rattle.tree_rules.proofs.Claims.{claims as shape-claims}
-use Rattle.set_rules.specs.Lookup.{listed, homeBin, Comes, Astray, Hit}
+use Rattle.set_rules.specs.Lookup.{listed, homeBin, Reaches, Astray, Hit}
 use Rattle.set_rules.specs.Held.{Reached}
 use Rattle.set_rules.specs.Walked.{LooksUp}
 use Rattle.set_rules.proofs.Reading.{at-null}
@@ -70,7 +70,7 @@ module _ (s : Set) (hash key : ℕ) where
   unlike x Unlike.last h = absurd (omega arith)
   unlike x (Unlike.other {y = z} {l} d u) h = times-cases x z l h (λ e. rw e d) (λ k. unlike x u k)
 
-  one-more : slotsIn s ≤ null → (v p : ℕ) (l : List ℕ) → p < slotsIn s → Unlike (s .names) p l
+  one-more : slotsOf (s .names) ≤ null → (v p : ℕ) (l : List ℕ) → p < slotsOf (s .names) → Unlike (s .names) p l
       → Finds (s .names) hash key l (listed (s .names) (s .cells) v (cell (s .cells) p next) hash key)
       → Finds (s .names) hash key (p ∷ l) (listed (s .names) (s .cells) (suc v) p hash key)
   one-more few v p l b u rest = go (decided (s .names) p hash key)
@@ -92,7 +92,7 @@ module _ (s : Set) (hash key : ℕ) where
             none = λ n. z ∙ rest .none (λ x k. n x (omega (arith, times-rest x p l)));
           }
 
-  list-finds : slotsIn s ≤ null → {p : ℕ} {l : List ℕ} → Listed (slotsIn s) (s .cells) p l → Apart (s .names) l → (v : ℕ) → length l ≤ v
+  list-finds : slotsOf (s .names) ≤ null → {p : ℕ} {l : List ℕ} → Listed (slotsOf (s .names)) (s .cells) p l → Apart (s .names) l → (v : ℕ) → length l ≤ v
       → Finds (s .names) hash key l (listed (s .names) (s .cells) v p hash key)
   unfolding times
   list-finds few {p} (Listed.ended e) Apart.none v h =
@@ -106,31 +106,31 @@ module _ (s : Set) (fit : Fit s) (acc : Accepted s) (hash key : ℕ) where
   home-place k l = record { table = l; index = bini-less fit k l hash }
 
   list-held : (k p : ℕ) → k < tablesOf s → homeBin s k hash ≡ list p
-      → (l : List ℕ) × Listed (slotsIn s) (s .cells) p l × Finds (s .names) hash key l (listed (s .names) (s .cells) (slotsOf (s .names)) p hash key)
+      → (l : List ℕ) × Listed (slotsOf (s .names)) (s .cells) p l × Finds (s .names) hash key l (listed (s .names) (s .cells) (slotsOf (s .names)) p hash key)
   list-held k p b e =
       let g = acc .lists k (bini (lengthAt s k) hash) p (home-place k b) e in
       let few = small fit in
-      let m = length-most (slotsIn s) (g .visits) (listed-inside s few (g .ends)) (apart-once s few (g .apart)) in
+      let m = length-most (slotsOf (s .names)) (g .visits) (listed-inside s few (g .ends)) (apart-once s few (g .apart)) in
       (g .visits, g .ends, list-finds s hash key few (g .ends) (g .apart) (slotsOf (s .names)) m)
 
   tree-held : (k h : ℕ) → k < tablesOf s → homeBin s k hash ≡ tree h
-      → (t : Tree) × Rooted (slotsIn s) (s .cells) (rootAt s h) t × Finds (s .names) hash key (slots t) (found (s .names) (s .cells) (rootAt s h) hash key .answer)
+      → (t : Tree) × Rooted (slotsOf (s .names)) (s .cells) (rootAt s h) t × Finds (s .names) hash key (slots t) (found (s .names) (s .cells) (rootAt s h) hash key .answer)
   unfolding found
   tree-held k h b e =
       let g = acc .trees k (bini (lengthAt s k) hash) h (home-place k b) e in
       let few = small fit in
-      let a = seeks (s .names) (s .cells) few hash key (g .rooted .hangs) (g .rising) (slotsOf (s .names)) (rooted-most (slotsIn s) (s .cells) few (rootAt s h) (g .rooted)) in
+      let a = seeks (s .names) (s .cells) few hash key (g .rooted .hangs) (g .rising) (slotsOf (s .names)) (rooted-most (slotsOf (s .names)) (s .cells) few (rootAt s h) (g .rooted)) in
       (g .tree, g .rooted, rw (g .rooted .from) (record { at = a .at; none = a .none }))
 
   module _ (t : ℕ) (there : t < tablesOf s) where
-    held-given : {k slot : ℕ} → Comes s t hash k → (b : Bin) → homeBin s k hash ≡ b → {l : List ℕ} → Holds s b l → 1 ≤ times slot l → pairOf (s .names) slot ≡ pair hash key
+    held-given : {k slot : ℕ} → Reaches s t hash k → (b : Bin) → homeBin s k hash ≡ b → {l : List ℕ} → HeldIn s b l → 1 ≤ times slot l → pairOf (s .names) slot ≡ pair hash key
         → whole s t hash key there ≡ given slot
-    held-given {k} {slot} c (list p) e (Holds.listed h) m f =
+    held-given {k} {slot} c (list p) e (HeldIn.listed h) m f =
         let g = list-held k p (comes-in s t hash key there c) e in
         at-bin s t hash key there c e ∙ g .2 .at slot (rw (listed-unique s (small fit) h (g .1)) at m) f
-    held-given {k} {slot} c (tree a) e (Holds.grown h) m f =
+    held-given {k} {slot} c (tree a) e (HeldIn.grown h) m f =
         let g = tree-held k a (comes-in s t hash key there c) e in
-        at-bin s t hash key there c e ∙ g .2 .at slot (rw (rooted-unique (slotsIn s) (s .cells) (small fit) (rootAt s a) h (g .1)) at m) f
+        at-bin s t hash key there c e ∙ g .2 .at slot (rw (rooted-unique (slotsOf (s .names)) (s .cells) (small fit) (rootAt s a) h (g .1)) at m) f
 
     reached-given : {slot : ℕ} → Reached s t hash key slot → whole s t hash key there ≡ given slot
     reached-given r = held-given (r .comes) (homeBin s (r .table) hash) refl (r .entry .holds) (r .entry .member) (r .has)
@@ -140,12 +140,12 @@ module _ (s : Set) (fit : Fit s) (acc : Accepted s) (hash key : ℕ) where
         let b = comes-in s t hash key there c in
         let g = list-held k p b e in
         let m = finds-at (s .names) hash key (g .2) slot (here-given (s .names) (s .cells) p hash key h) in
-        record { table = k; comes = c; entry = record { place = home-place k b; held = g .0; holds = rw e (Holds.listed (g .1)); member = m .0 }; has = m .1 }
+        record { table = k; comes = c; entry = record { place = home-place k b; held = g .0; holds = rw e (HeldIn.listed (g .1)); member = m .0 }; has = m .1 }
     hit-reached {slot} (Hit.in-tree {k} {h = a} c e h) =
         let b = comes-in s t hash key there c in
         let g = tree-held k a b e in
         let m = finds-at (s .names) hash key (g .2) slot (shape-claims .finds (s .names) (s .cells) (rootAt s a) hash key .at slot .1 h) in
-        record { table = k; comes = c; entry = record { place = home-place k b; held = slots (g .0); holds = rw e (Holds.grown (g .1)); member = m .0 }; has = m .1 }
+        record { table = k; comes = c; entry = record { place = home-place k b; held = slots (g .0); holds = rw e (HeldIn.grown (g .1)); member = m .0 }; has = m .1 }
 
     not-astray : Astray s t hash key → ⊥
     not-astray (Astray.bad-bin {k} c e) = acc .none-bad k (bini (lengthAt s k) hash) (home-place k (comes-in s t hash key there c)) e

@@ -8,7 +8,7 @@ use native.Mathlib.Decide.{ℕ-discrete, decLe}
 use native.Mathlib.Omega.{arith}
 use Rattle.slots.specs.Words.{nameOf, hashPart}
 use Rattle.set_rules.specs.Words.{Set, Fit, tablesOf, lengthAt, Bin, empty, moved, bad, list, tree, binAt, bini}
-use Rattle.set_rules.specs.Accepted.{Holds, Entry, ParentMoved, EntriesHome}
+use Rattle.set_rules.specs.Accepted.{HeldIn, EntryOf, ParentMoved, EntriesHome}
 use Rattle.set_rules.proofs.Fit.{bini-up, bini-less}
 use Rattle.set_rules.proofs.Gathering.{not-empty, not-moved}
 
@@ -37,7 +37,7 @@ module _ {s : Set} (fit : Fit s) (parents : ParentMoved s) where
 
   module _ (homes : EntriesHome s) where
     -- The bin of table k that the entry's hash names.
-    entry-below : {k i l j x : ℕ} → Entry s k i x → Entry s l j x → k < l → ⊥
+    entry-below : {k i l j x : ℕ} → EntryOf s k i x → EntryOf s l j x → k < l → ⊥
     entry-below {k} {i} {l} {j} {x} e f b =
         let hash = nameOf (s .names) x hashPart in
         let p = homes k i x e in
@@ -45,7 +45,7 @@ module _ {s : Set} (fit : Fit s) (parents : ParentMoved s) where
         let m = above-moved hash l k b (f .place .table) (rw q (not-empty (f .holds))) in
         not-moved (e .holds) (rw p at m)
 
-    pub entry-only : {k i l j x : ℕ} → Entry s k i x → Entry s l j x → (k ≡ l) × (i ≡ j)
+    pub entry-only : {k i l j x : ℕ} → EntryOf s k i x → EntryOf s l j x → (k ≡ l) × (i ≡ j)
     entry-only {k} {i} {l} {j} {x} e f = go (ℕ-discrete k l) (decLe k l)
       where
         go : Dec (k ≡ l) → Dec (k ≤ l) → (k ≡ l) × (i ≡ j)
@@ -54,8 +54,8 @@ module _ {s : Set} (fit : Fit s) (parents : ParentMoved s) where
         go (no z) (no c) = absurd (entry-below f e (omega arith))
 
     -- An entry, in whatever bin, whose hash names a bin that holds slots is an entry of that bin.
-    pub entry-own : {k i l j x : ℕ} {m : List ℕ} → Holds s (binAt s k i) m → k < tablesOf s → Entry s l j x → bini (lengthAt s k) (nameOf (s .names) x hashPart) ≡ i
-        → Entry s k i x
+    pub entry-own : {k i l j x : ℕ} {m : List ℕ} → HeldIn s (binAt s k i) m → k < tablesOf s → EntryOf s l j x → bini (lengthAt s k) (nameOf (s .names) x hashPart) ≡ i
+        → EntryOf s k i x
     entry-own {k} {i} {l} {j} {x} h b f e = go (ℕ-discrete l k) (decLe l k)
       where
         hash : ℕ
@@ -64,7 +64,7 @@ module _ {s : Set} (fit : Fit s) (parents : ParentMoved s) where
         lies : bini (lengthAt s l) hash ≡ j
         lies = homes l j x f
 
-        go : Dec (l ≡ k) → Dec (l ≤ k) → Entry s k i x
+        go : Dec (l ≡ k) → Dec (l ≤ k) → EntryOf s k i x
         go (yes z) c = let y : j ≡ i = sym lies ∙ ap (λ (m : ℕ). bini (lengthAt s m) hash) z ∙ e in rw (z, y) at f
         go (no z) (yes c) = let m = above-moved hash k l (omega arith) b (rw e (not-empty h)) in absurd (not-moved (f .holds) (rw lies at m))
         go (no z) (no c) =

@@ -14,15 +14,16 @@ use lib.Seq.{getD-set-same, getD-set-other}
 use borrow.Author.Tests.{le-leb, lt-leb, lt-ltb, le-ltb, eq-eqb, ne-eqb}
 use Rattle.slots.specs.Words.{null, next, cell}
 use Rattle.slots.specs.Answers.{given, nothing, refused}
-use Rattle.set_rules.specs.Words.{Set, tablesOf, lengthAt, slotsIn, firstAt, Fit, Bin, empty, moved, bad, list, tree, binAt}
+use Rattle.set_rules.specs.Words.{Set, tablesOf, lengthAt, firstAt, Fit, Bin, empty, moved, bad, list, tree, binAt}
 use Rattle.set_rules.specs.Cursor.{Cursor, Step, BadCursor}
-use Rattle.set_rules.specs.Walk.{Place, place, deepest, binHere, advanced, onward, below, Sought, at, ended, lost, trimmed, standing, stepped, walked, turnsIn, nexts}
+use Rattle.set_rules.specs.Walk.{Place, place, deepest, binHere, advanced, onward, below, Sought, at, ended, lost, trimmed, standing, stepped, stepsOn, turnsIn, nexts}
 use Rattle.set_rules.specs.NodeIter.{Frame, Iter, iter, over, pushed, recovered, proceeds, Yield, yields, ends, stuck, running, matched, looped, called, frames, stateAt, stateOf, IsCall}
 use Rattle.set_rules.proofs.Turns.{on, advanced-lt, advanced-ge}
 use Rattle.set_rules.proofs.Standing.{within-or-end, left-all}
 use Rattle.set_rules.proofs.Cursors.{trimmed-same}
 use Rattle.set_rules.proofs.Seeking.{Good, Here, leftAt, seeks, at-end, at-empty, at-bad, at-list, at-moved, at-last, at-tree, at-stray, falls-onward, falls-below, good-onward, good-below}
 use Rattle.set_rules.proofs.Gates.{next-walked, next-stands}
+use Rattle.tree_rules.specs.Find.{slotsOf}
 
 module _ (s : Set) (base : ℕ) where
   abbrev state : Place → Iter
@@ -129,13 +130,13 @@ module _ (s : Set) (base : ℕ) where
           go (no n) =
               let m : tablesOf s ≤ suc (base + p .depth) = omega arith in
               rw (at-last s base p h w e (omega arith), le-ltb (suc (base + p .depth)) (tablesOf s) m) lost-both
-      by-bin (tree a) e = go (decLt (firstAt s a) (slotsIn s))
+      by-bin (tree a) e = go (decLt (firstAt s a) (slotsOf (s .names)))
         where
-          go : Dec (firstAt s a < slotsIn s) → Meets (seeks s base p) (turned-to (tree a))
-          go (yes l) = rw (at-tree s base p h w e l, lt-ltb (firstAt s a) (slotsIn s) l, proceeding p h) (given-both (good-onward s base p h w))
+          go : Dec (firstAt s a < slotsOf (s .names)) → Meets (seeks s base p) (turned-to (tree a))
+          go (yes l) = rw (at-tree s base p h w e l, lt-ltb (firstAt s a) (slotsOf (s .names)) l, proceeding p h) (given-both (good-onward s base p h w))
           go (no n) =
-              let l : slotsIn s ≤ firstAt s a = omega arith in
-              rw (at-stray s base p h w e l, le-ltb (firstAt s a) (slotsIn s) l) lost-both
+              let l : slotsOf (s .names) ≤ firstAt s a = omega arith in
+              rw (at-stray s base p h w e l, le-ltb (firstAt s a) (slotsOf (s .names)) l) lost-both
 
       turn-on : Meets (seeks s base p) (looped (suc t) s (lengthAt s base) (state p))
       unfolding looped
@@ -164,13 +165,13 @@ module _ (s : Set) (fit : Fit s) (c : Cursor) (good : BadCursor s c → ⊥) whe
   alike lost-both = refl
 
   pub as-source : (turns : ℕ) → turnsIn s (c .base) < turns → IsCall s c (nexts s c) (called turns s (lengthAt s (c .base)) (stateOf s c) (c .last))
-  unfolding walked
-  as-source turns k = rw (next-walked s c fit good) (go (ℕ-discrete link null) (decLt link (slotsIn s)))
+  unfolding stepsOn
+  as-source turns k = rw (next-walked s c fit good) (go (ℕ-discrete link null) (decLt link (slotsOf (s .names))))
     where
       link : ℕ
       link = cell (s .cells) (c .last) next
 
-      go : Dec (link ≡ null) → Dec (link < slotsIn s) → IsCall s c (walked s c) (called turns s (lengthAt s (c .base)) (stateOf s c) (c .last))
+      go : Dec (link ≡ null) → Dec (link < slotsOf (s .names)) → IsCall s c (stepsOn s c) (called turns s (lengthAt s (c .base)) (stateOf s c) (c .last))
       go (yes e) d = rw (eq-eqb link null e) (rw begun at (alike (meets s (c .base) turns (standing c) h (omega (arith, left-all (s .lengths) (c .base) (standing c) h)))))
-      go (no n) (yes l) = rw (ne-eqb link null n, lt-ltb link (slotsIn s) l) (refl, begun, refl, refl)
-      go (no n) (no l) = let m : slotsIn s ≤ link = omega arith in rw (ne-eqb link null n, le-ltb link (slotsIn s) m) refl
+      go (no n) (yes l) = rw (ne-eqb link null n, lt-ltb link (slotsOf (s .names)) l) (refl, begun, refl, refl)
+      go (no n) (no l) = let m : slotsOf (s .names) ≤ link = omega arith in rw (ne-eqb link null n, le-ltb link (slotsOf (s .names)) m) refl

@@ -11,13 +11,14 @@ use Rattle.tree_rules.specs.Tree.{slots, times}
 use Rattle.tree_rules.specs.Chain.{Chain}
 use Rattle.tree_rules.proofs.Counting.{times-append}
 use Rattle.tree_rules.proofs.Chaining.{chain-once}
-use Rattle.set_rules.specs.Words.{Set, Fit, tablesOf, lengthAt, slotsIn, firstAt, Bin, empty, moved, bad, list, tree, binAt, bini}
-use Rattle.set_rules.specs.Accepted.{Accepted, Place, Listed, Holds, Entry, GoodChain}
+use Rattle.set_rules.specs.Words.{Set, Fit, tablesOf, lengthAt, firstAt, Bin, empty, moved, bad, list, tree, binAt, bini}
+use Rattle.set_rules.specs.Accepted.{Accepted, Place, Listed, HeldIn, EntryOf, GoodChain}
 use Rattle.set_rules.proofs.Fit.{small, bini-up, bini-less, near-parent, far-parent, halves}
 use Rattle.set_rules.proofs.Lists.{apart-once, listed-unique}
 use Rattle.set_rules.proofs.Gathering.{not-empty, not-moved, holds-unique}
 use Rattle.set_rules.proofs.Homes.{above-moved}
 use Rattle.set_rules.specs.Whole.{Gives, Onward}
+use Rattle.tree_rules.specs.Find.{slotsOf}
 
 -- A member of one list put after another is a member of one of them.
 member-cases : {A : Type 0} (x : ℕ) (l m : List ℕ) → 1 ≤ times x (l ++ m) → (1 ≤ times x l → A) → (1 ≤ times x m → A) → A
@@ -34,7 +35,7 @@ chain-listed (Chain.linked b p t) = Listed.onward b (chain-listed t)
 -- The entries of bin i of table k, and of those below it where it is Moved.
 pub data Keeps (s : Set) : ℕ → ℕ → List ℕ → Type 0 where
   nothing : {k i : ℕ} → binAt s k i ≡ empty → Keeps s k i []
-  its : {k i : ℕ} {l : List ℕ} → Holds s (binAt s k i) l → Keeps s k i l
+  its : {k i : ℕ} {l : List ℕ} → HeldIn s (binAt s k i) l → Keeps s k i l
   parts : {k i : ℕ} {l m : List ℕ} → binAt s k i ≡ moved → suc k < tablesOf s → Keeps s (suc k) i l → Keeps s (suc k) (i + lengthAt s k) m
       → Keeps s k i (l ++ m)
 
@@ -45,14 +46,14 @@ pub data KeepsFrom (s : Set) (t : ℕ) : ℕ → List ℕ → Type 0 where
 
 module _ (s : Set) (fit : Fit s) (acc : Accepted s) where
   -- A bin's list or tree holds a slot once.
-  held-once : {k i : ℕ} {l : List ℕ} → Place s k i → Holds s (binAt s k i) l → (x : ℕ) → times x l ≤ 1
+  held-once : {k i : ℕ} {l : List ℕ} → Place s k i → HeldIn s (binAt s k i) l → (x : ℕ) → times x l ≤ 1
   held-once {k} {i} p h = go (binAt s k i) refl h
     where
-      go : (b : Bin) → binAt s k i ≡ b → {l : List ℕ} → Holds s b l → (x : ℕ) → times x l ≤ 1
-      go (list a) e (Holds.listed g) = let v = acc .lists k i a p e in rw (listed-unique s (small fit) (v .ends) g) at (apart-once s (small fit) (v .apart))
-      go (tree a) e (Holds.grown r) = r .once
+      go : (b : Bin) → binAt s k i ≡ b → {l : List ℕ} → HeldIn s b l → (x : ℕ) → times x l ≤ 1
+      go (list a) e (HeldIn.listed g) = let v = acc .lists k i a p e in rw (listed-unique s (small fit) (v .ends) g) at (apart-once s (small fit) (v .apart))
+      go (tree a) e (HeldIn.grown r) = r .once
 
-  entry-held : {k i x : ℕ} {l : List ℕ} → Holds s (binAt s k i) l → Entry s k i x → 1 ≤ times x l
+  entry-held : {k i x : ℕ} {l : List ℕ} → HeldIn s (binAt s k i) l → EntryOf s k i x → 1 ≤ times x l
   entry-held h f = rw (holds-unique fit (f .holds) h) at (f .member)
 
   near-place : {k i : ℕ} → Place s k i → suc k < tablesOf s → Place s (suc k) i
@@ -80,7 +81,7 @@ module _ (s : Set) (fit : Fit s) (acc : Accepted s) where
 
     -- An entry of table k or a later one.
     abbrev Later : ℕ → Type 0
-    Later k = (l : ℕ) × (j : ℕ) × (k ≤ l) × Entry s l j x
+    Later k = (l : ℕ) × (j : ℕ) × (k ≤ l) × EntryOf s l j x
 
     keeps-entry : {k i : ℕ} {l : List ℕ} → Keeps s k i l → Place s k i → 1 ≤ times x l → Later k
     unfolding times
@@ -105,29 +106,29 @@ module _ (s : Set) (fit : Fit s) (acc : Accepted s) where
         go (yes a) (no b) u v c d = omega (arith, times-append x l m)
 
     -- An entry of the bin's own table is the bin's.
-    at-home : {k i j : ℕ} → home k ≡ i → Entry s k j x → Entry s k i x
+    at-home : {k i j : ℕ} → home k ≡ i → EntryOf s k j x → EntryOf s k i x
     at-home {k} {i} {j} e f = let z : j ≡ i = sym (acc .home k j x f) ∙ e in rw z at f
 
     -- Above an entry the bin that its hash names is Moved.
-    above : {k l j : ℕ} → k < l → Entry s l j x → binAt s k (home k) ≡ moved
+    above : {k l j : ℕ} → k < l → EntryOf s l j x → binAt s k (home k) ≡ moved
     above {k} {l} {j} b f = above-moved fit (acc .parent-moved) hash l k b (f .place .table) (rw (acc .home l j x f) (not-empty (f .holds)))
 
-    settle : {k i : ℕ} → home k ≡ i → Later k → Entry s k i x ⊎ ((binAt s k i ≡ moved) × Later (suc k))
+    settle : {k i : ℕ} → home k ≡ i → Later k → EntryOf s k i x ⊎ ((binAt s k i ≡ moved) × Later (suc k))
     settle {k} {i} e (l, j, b, f) = go (ℕ-discrete l k)
       where
-        go : Dec (l ≡ k) → Entry s k i x ⊎ ((binAt s k i ≡ moved) × Later (suc k))
+        go : Dec (l ≡ k) → EntryOf s k i x ⊎ ((binAt s k i ≡ moved) × Later (suc k))
         go (yes z) = inl (at-home e (rw z at f))
         go (no d) = inr (rw e at (above {k = k} (omega arith) f), (l, j, omega arith, f))
 
     entry-keeps : {k i : ℕ} {l : List ℕ} → Keeps s k i l → Place s k i → home k ≡ i → Later k → 1 ≤ times x l
     entry-keeps {k} {i} (Keeps.nothing e) p h r = go (settle h r)
       where
-        go : {A : Type 0} → Entry s k i x ⊎ ((binAt s k i ≡ moved) × Later (suc k)) → A
+        go : {A : Type 0} → EntryOf s k i x ⊎ ((binAt s k i ≡ moved) × Later (suc k)) → A
         go (inl f) = absurd (not-empty (f .holds) e)
         go (inr m) = absurd (let z = m .0 in let y : _≡_ {A = ℕ} 0 1 = cc in omega arith)
     entry-keeps {k} {i} {l} (Keeps.its g) p h r = go (settle h r)
       where
-        go : Entry s k i x ⊎ ((binAt s k i ≡ moved) × Later (suc k)) → 1 ≤ times x l
+        go : EntryOf s k i x ⊎ ((binAt s k i ≡ moved) × Later (suc k)) → 1 ≤ times x l
         go (inl f) = entry-held g f
         go (inr m) = absurd (not-moved g (m .0))
     entry-keeps {k} {i} (Keeps.parts {l = l} {m} e n f g) p h r = go (settle h r) (halves (home (suc k)) (lengthAt s k) (omega (arith, bini-less fit (suc k) n hash, fit .twice k n))) (λ z w. entry-keeps f (near-place p n) z w) (λ z w. entry-keeps g (far-place p n) z w)
@@ -135,7 +136,7 @@ module _ (s : Set) (fit : Fit s) (acc : Accepted s) where
         u : home (suc k) % lengthAt s k ≡ i
         u = bini-up fit k n hash ∙ h
 
-        go : Entry s k i x ⊎ ((binAt s k i ≡ moved) × Later (suc k)) → (home (suc k) ≡ home (suc k) % lengthAt s k) ⊎ (home (suc k) ≡ home (suc k) % lengthAt s k + lengthAt s k)
+        go : EntryOf s k i x ⊎ ((binAt s k i ≡ moved) × Later (suc k)) → (home (suc k) ≡ home (suc k) % lengthAt s k) ⊎ (home (suc k) ≡ home (suc k) % lengthAt s k + lengthAt s k)
             → (home (suc k) ≡ i → Later (suc k) → 1 ≤ times x l) → (home (suc k) ≡ i + lengthAt s k → Later (suc k) → 1 ≤ times x m)
             → 1 ≤ times x (l ++ m)
         go (inl a) b near far = absurd (not-moved (a .holds) e)
@@ -204,11 +205,11 @@ module _ (s : Set) (fit : Fit s) (acc : Accepted s) where
       (f .0 ++ g .0, Onward.bin w (f .1) (g .1))
 
   -- What a bin gives is what it leads to: a chain visits exactly its tree's slots.
-  same-times : {k i h : ℕ} {l m : List ℕ} → GoodChain s k i h → Listed (slotsIn s) (s .cells) (firstAt s h) l → Place s k i → Holds s (binAt s k i) m
+  same-times : {k i h : ℕ} {l m : List ℕ} → GoodChain s k i h → Listed (slotsOf (s .names)) (s .cells) (firstAt s h) l → Place s k i → HeldIn s (binAt s k i) m
       → (x : ℕ) → times x l ≡ times x m
   same-times {k} {i} {h} {l} {m} c g p o x =
       let z = listed-unique s (small fit) (chain-listed (c .linked)) g in
-      let n : times x l ≤ 1 = rw z at (chain-once (slotsIn s) (s .cells) (small fit) (firstAt s h) (c .linked) x) in
+      let n : times x l ≤ 1 = rw z at (chain-once (slotsOf (s .names)) (s .cells) (small fit) (firstAt s h) (c .linked) x) in
       go (decLe 1 (times x l)) (decLe 1 (times x m)) n (held-once p o x) (λ a. entry-held o (c .own x .0 (rw (sym z) at a)))
       (λ b. rw z at (c .own x .1 (record { place = p; held = m; holds = o; member = b })))
     where
@@ -223,10 +224,10 @@ module _ (s : Set) (fit : Fit s) (acc : Accepted s) where
 
   likened : {k i : ℕ} {l : List ℕ} → Gives s k i l → Place s k i → Likened k i l
   likened (Gives.of-none e) p = ([], Keeps.nothing e, λ x. refl)
-  likened {k} {i} {l} (Gives.of-list e g) p = let h : Holds s (binAt s k i) l = rw e (Holds.listed g) in (l, Keeps.its h, λ x. refl)
+  likened {k} {i} {l} (Gives.of-list e g) p = let h : HeldIn s (binAt s k i) l = rw e (HeldIn.listed g) in (l, Keeps.its h, λ x. refl)
   likened {k} {i} (Gives.of-tree {h = h} e g) p =
       let t = acc .trees k i h p e in
-      let o : Holds s (binAt s k i) (slots (t .tree)) = rw e (Holds.grown (t .rooted)) in
+      let o : HeldIn s (binAt s k i) (slots (t .tree)) = rw e (HeldIn.grown (t .rooted)) in
       (slots (t .tree), Keeps.its o, same-times (acc .chains k i h p e) g p o)
   likened (Gives.of-moved {l = l} {m} e n f g) p =
       let u = likened f (near-place p n) in
@@ -248,7 +249,7 @@ module _ (s : Set) (fit : Fit s) (acc : Accepted s) where
     pub keeps : KeepsFrom s t 0 held
     pub same : (x : ℕ) → times x given ≡ times x held
     pub once : (x : ℕ) → times x held ≤ 1
-    pub entries : (x : ℕ) → (1 ≤ times x held) ↔ ((k : ℕ) × (i : ℕ) × (t ≤ k) × Entry s k i x)
+    pub entries : (x : ℕ) → (1 ≤ times x held) ↔ ((k : ℕ) × (i : ℕ) × (t ≤ k) × EntryOf s k i x)
 
   pub told : (t : ℕ) → t < tablesOf s → Told t
   told t b =

@@ -13,7 +13,7 @@ use Rattle.slots.specs.Words.{null, next, cell, nameOf, hashPart, keyPart}
 use Rattle.slots.specs.Pairs.{Pair, pair, pairOf}
 use Rattle.slots.specs.Answers.{Answer, given, nothing, refused}
 use Rattle.tree_rules.specs.Find.{slotsOf}
-use Rattle.set_rules.specs.Lookup.{hasPair, listed, Follows, start, step, ListLost, ListHere, ListMissed}
+use Rattle.set_rules.specs.Lookup.{hasPair, listed, ListFollows, start, step, ListLost, ListHere, ListMissed}
 use Rattle.set_rules.proofs.Reading.{at-null, out-of-range, visits-spent, at-slot}
 use Rattle.set_rules.proofs.Cursors.{both}
 
@@ -61,18 +61,18 @@ module _ (names cells : List ℕ) (first hash key : ℕ) where
   fewer n k h = omega arith
 
   -- The answer from a link followed in time is the answer.
-  trace : {k p : ℕ} → Follows names cells first hash key k p → k ≤ slotsOf names → whole ≡ listed names cells (slotsOf names - k) p hash key
+  trace : {k p : ℕ} → ListFollows names cells first hash key k p → k ≤ slotsOf names → whole ≡ listed names cells (slotsOf names - k) p hash key
   trace start l = let z : slotsOf names ≡ slotsOf names - 0 = omega arith in ap (λ (v : ℕ). listed names cells v first hash key) z
   trace (step {k} {p} f n i e) l =
       trace f (omega arith) ∙ ap (λ (v : ℕ). listed names cells v p hash key) (fewer (slotsOf names) k l) ∙ onward (slotsOf names - suc k) n i e
 
-  spent : {k p : ℕ} → Follows names cells first hash key k p → p ≢ null → k ≡ slotsOf names → whole ≡ refused 9
+  spent : {k p : ℕ} → ListFollows names cells first hash key k p → p ≢ null → k ≡ slotsOf names → whole ≡ refused 9
   spent {k} {p} f n e =
       let z : slotsOf names - k ≡ 0 = omega arith in
       trace f (omega arith) ∙ ap (λ (v : ℕ). listed names cells v p hash key) z ∙ visits-spent names cells hash key p n
 
   -- A link followed after more visits than there are slots.
-  late : {k p : ℕ} → Follows names cells first hash key k p → slotsOf names < k → whole ≡ refused 9
+  late : {k p : ℕ} → ListFollows names cells first hash key k p → slotsOf names < k → whole ≡ refused 9
   late start l = absurd (omega arith)
   late (step {k} f n i e) l = go (decLt (slotsOf names) k) (λ h. late f h)
     where
@@ -102,7 +102,7 @@ module _ (names cells : List ℕ) (first hash key : ℕ) where
     hit : {slot : ℕ} → ListHere names cells first hash key slot → Outcome (given slot)
     miss : ListMissed names cells first hash key → Outcome nothing
 
-  from : (v k p : ℕ) → Follows names cells first hash key k p → k + v ≡ slotsOf names → Outcome (listed names cells v p hash key)
+  from : (v k p : ℕ) → ListFollows names cells first hash key k p → k + v ≡ slotsOf names → Outcome (listed names cells v p hash key)
   from zero k p f e = go (ℕ-discrete p null)
     where
       go : Dec (p ≡ null) → Outcome (listed names cells 0 p hash key)
@@ -111,7 +111,7 @@ module _ (names cells : List ℕ) (first hash key : ℕ) where
   from (suc v) k p f e = go (ℕ-discrete p null) (decLt p (slotsOf names)) (decided names p hash key) (λ g. from v (suc k) (cell cells p next) g (omega arith))
     where
       go : Dec (p ≡ null) → Dec (p < slotsOf names) → Dec (pairOf names p ≡ pair hash key)
-          → (Follows names cells first hash key (suc k) (cell cells p next) → Outcome (listed names cells v (cell cells p next) hash key))
+          → (ListFollows names cells first hash key (suc k) (cell cells p next) → Outcome (listed names cells v (cell cells p next) hash key))
           → Outcome (listed names cells (suc v) p hash key)
       go (yes z) d h rest = rw (at-null names cells hash key (suc v) p z) (miss (record { visited = k; follows = rw z at f; timely = omega arith }))
       go (no n) (no d) h rest =

@@ -18,9 +18,10 @@ use Rattle.tree_rules.proofs.Counting.{times-head, times-else, times-rest, time
 use Rattle.tree_rules.proofs.Reaching.{refuted}
 use Rattle.index_rules.proofs.Fit.{both}
 use Rattle.index_rules.proofs.Rules.{and}
-use Rattle.set_rules.specs.Words.{Set, slotsIn, bini}
+use Rattle.set_rules.specs.Words.{Set, bini}
 use Rattle.set_rules.specs.Accepted.{Listed, ended, onward, Unlike, Apart, ListSlot}
 use Rattle.set_rules.specs.Accepting.{isHome, isListSlot, samePair, unlike, listSlotFine, listFine}
+use Rattle.tree_rules.specs.Find.{slotsOf}
 
 -- The hashes of these slots name bin i of a table of len bins.
 abbrev pub Home : List ℕ → ℕ → ℕ → List ℕ → Type 0
@@ -58,8 +59,8 @@ module _ (names : List ℕ) (x y : ℕ) where
           absurd (d (λ j. pair (p j) (q j)))
       go false e = e
 
-module _ (s : Set) (small : slotsIn s ≤ null) where
-  unlike-list : (v x : ℕ) {y : ℕ} {l : List ℕ} → Listed (slotsIn s) (s .cells) y l → unlike v (s .names) (s .cells) x y ≡ true → Unlike (s .names) x l
+module _ (s : Set) (small : slotsOf (s .names) ≤ null) where
+  unlike-list : (v x : ℕ) {y : ℕ} {l : List ℕ} → Listed (slotsOf (s .names)) (s .cells) y l → unlike v (s .names) (s .cells) x y ≡ true → Unlike (s .names) x l
   unfolding unlike
   unlike-list v x (ended e) h = Unlike.last
   unlike-list zero x (onward {i = y} b t) h = absurd (omega (arith, small, eqb-true y null h))
@@ -70,7 +71,7 @@ module _ (s : Set) (small : slotsIn s ≤ null) where
       go true p h again = absurd (false≢true h)
       go false p h again = Unlike.other (other-pair (s .names) x y p) (again h)
 
-  list-unlike : (v x : ℕ) {y : ℕ} {l : List ℕ} → Listed (slotsIn s) (s .cells) y l → Unlike (s .names) x l → length l ≤ v → unlike v (s .names) (s .cells) x y ≡ true
+  list-unlike : (v x : ℕ) {y : ℕ} {l : List ℕ} → Listed (slotsOf (s .names)) (s .cells) y l → Unlike (s .names) x l → length l ≤ v → unlike v (s .names) (s .cells) x y ≡ true
   unfolding unlike
   list-unlike zero x (ended {i = y} e) h b = eq-eqb y null e
   list-unlike (suc v) x (ended {i = y} e) h b = rw (eq-eqb y null e)
@@ -92,12 +93,12 @@ module _ (s : Set) (small : slotsIn s ≤ null) where
       go (yes e) o = rw e (omega (arith, times-head y l, unlike-none y u))
       go (no d) o = omega (arith, times-else x y l d)
 
-  pub listed-inside : {y : ℕ} {l : List ℕ} → Listed (slotsIn s) (s .cells) y l → (x : ℕ) → 1 ≤ times x l → x < slotsIn s
+  pub listed-inside : {y : ℕ} {l : List ℕ} → Listed (slotsOf (s .names)) (s .cells) y l → (x : ℕ) → 1 ≤ times x l → x < slotsOf (s .names)
   unfolding times
   listed-inside (ended e) x h = absurd (omega arith)
   listed-inside (onward {i = y} {l} b t) x h = times-cases x y l h (λ e. omega arith) (λ z. listed-inside t x z)
 
-  pub listed-unique : {y : ℕ} {l m : List ℕ} → Listed (slotsIn s) (s .cells) y l → Listed (slotsIn s) (s .cells) y m → l ≡ m
+  pub listed-unique : {y : ℕ} {l m : List ℕ} → Listed (slotsOf (s .names)) (s .cells) y l → Listed (slotsOf (s .names)) (s .cells) y m → l ≡ m
   listed-unique (ended e) (ended f) = refl
   listed-unique (ended e) (onward b t) = absurd (omega (arith, small))
   listed-unique (onward b t) (ended e) = absurd (omega (arith, small))
@@ -107,7 +108,7 @@ module _ (s : Set) (small : slotsIn s ≤ null) where
     -- What a walk that passed has found.
     pub record Walked (x v rest : ℕ) : Type 0 where
       pub visits : List ℕ
-      pub ends : Listed (slotsIn s) (s .cells) x visits
+      pub ends : Listed (slotsOf (s .names)) (s .cells) x visits
       pub apart : Apart (s .names) visits
       pub plain : (y : ℕ) → 1 ≤ times y visits → ListSlot (s .cells) y
       pub home : Home (s .names) len i visits
@@ -121,14 +122,14 @@ module _ (s : Set) (small : slotsIn s ≤ null) where
     walked-on : {x v rest : ℕ} → listSlotFine v (s .names) (s .cells) len i x ≡ true → Walked (cell (s .cells) x next) v rest → Walked x (suc v) rest
     unfolding listSlotFine isHome
     walked-on {x} {v} e w =
-        let a = both (ltb x (slotsIn s)) _ e in
+        let a = both (ltb x (slotsOf (s .names))) _ e in
         let b = both (isListSlot (s .cells) x) _ (a .1) in
         let c = both (eqb (bini len (nameOf (s .names) x hashPart)) i) _ (b .1) in
         let p = is-list-slot (s .cells) x (b .0) in
         let q = eqb-true _ _ (c .0) in
         record {
           visits = x ∷ w .visits;
-          ends = onward (ltb-true x (slotsIn s) (a .0)) (w .ends);
+          ends = onward (ltb-true x (slotsOf (s .names)) (a .0)) (w .ends);
           apart = Apart.one (unlike-list v x (w .ends) (c .1)) (w .apart);
           plain = λ y z. times-cases y x (w .visits) z (λ f. rw f p) (λ g. w .plain y g);
           home = λ y z. times-cases y x (w .visits) z (λ f. rw f q) (λ g. w .home y g);
@@ -151,12 +152,12 @@ module _ (s : Set) (small : slotsIn s ≤ null) where
         go false p false q e again = refuted e
         go false p true q e again = walked-on q (again e)
 
-    slot-fine : {v x : ℕ} {l : List ℕ} → x < slotsIn s → ListSlot (s .cells) x → bini len (nameOf (s .names) x hashPart) ≡ i
-        → Listed (slotsIn s) (s .cells) (cell (s .cells) x next) l → Unlike (s .names) x l → length l ≤ v → listSlotFine v (s .names) (s .cells) len i x ≡ true
+    slot-fine : {v x : ℕ} {l : List ℕ} → x < slotsOf (s .names) → ListSlot (s .cells) x → bini len (nameOf (s .names) x hashPart) ≡ i
+        → Listed (slotsOf (s .names)) (s .cells) (cell (s .cells) x next) l → Unlike (s .names) x l → length l ≤ v → listSlotFine v (s .names) (s .cells) len i x ≡ true
     unfolding listSlotFine isHome
-    slot-fine {v} {x} w p h t u b = and (lt-ltb x (slotsIn s) w) (and (list-slot-is (s .cells) x p) (and (eq-eqb _ _ h) (list-unlike v x t u b)))
+    slot-fine {v} {x} w p h t u b = and (lt-ltb x (slotsOf (s .names)) w) (and (list-slot-is (s .cells) x p) (and (eq-eqb _ _ h) (list-unlike v x t u b)))
 
-    pub walked-list : (v : ℕ) {x : ℕ} {l : List ℕ} → Listed (slotsIn s) (s .cells) x l → Apart (s .names) l → ((y : ℕ) → 1 ≤ times y l → ListSlot (s .cells) y)
+    pub walked-list : (v : ℕ) {x : ℕ} {l : List ℕ} → Listed (slotsOf (s .names)) (s .cells) x l → Apart (s .names) l → ((y : ℕ) → 1 ≤ times y l → ListSlot (s .cells) y)
         → Home (s .names) len i l → length l ≤ v → listFine v (s .names) (s .cells) len i x ≡ some (v - length l)
     unfolding listFine
     walked-list zero (ended {i = x} e) a p h b = rw (eq-eqb x null e) (ap some (omega arith))

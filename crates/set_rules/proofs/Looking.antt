@@ -10,12 +10,12 @@ use native.Mathlib.Omega.{arith}
 use borrow.Author.Tests.{lt-ltb, le-ltb}
 use Rattle.slots.specs.Words.{null}
 use Rattle.slots.specs.Answers.{Answer, none, given, nothing, refused}
-use Rattle.tree_rules.specs.Find.{Look, here, on, looked, after, slotsOf, searched, found}
+use Rattle.tree_rules.specs.Find.{Look, here, on, looked, lookedThen, slotsOf, searched, found}
 use Rattle.tree_rules.proofs.Claims.{claims as shape-claims}
 use Rattle.tree_rules.proofs.Searching.{at-null, out-of-range, visits-spent, at-slot}
 use Rattle.set_rules.specs.Words.{Set, tablesOf, rootAt, Fit, fits, Bin, empty, moved, bad, list, tree}
 use Rattle.set_rules.proofs.Fit.{fits-fit, fit-fits}
-use Rattle.set_rules.specs.Lookup.{homeBin, asked, forwarded, lookups, Comes, start, down, Astray, Hit, Miss}
+use Rattle.set_rules.specs.Lookup.{homeBin, asked, forwarded, lookups, Reaches, start, down, Astray, Hit, Miss}
 use Rattle.set_rules.proofs.Forwarding.{turn, past-last}
 use Rattle.set_rules.proofs.Listing as listing
 
@@ -33,7 +33,7 @@ kind names cells hash key zero p = go (ℕ-discrete p null)
     go (no n) = rw (visits-spent names cells hash key p n) nine
 kind names cells hash key (suc v) p = go (ℕ-discrete p null) (decLt p (slotsOf names)) (λ q. kind names cells hash key v q)
   where
-    visit : (o : Look) → ((q : ℕ) → Kind (searched names cells v q hash key .answer)) → Kind (after o p (λ q. searched names cells v q hash key) .answer)
+    visit : (o : Look) → ((q : ℕ) → Kind (searched names cells v q hash key .answer)) → Kind (lookedThen o p (λ q. searched names cells v q hash key) .answer)
     visit here again = slot p
     visit (on q) again = again q
 
@@ -46,15 +46,15 @@ module _ (s : Set) (t hash key : ℕ) (there : t < tablesOf s) where
   abbrev pub whole : Answer
   whole = forwarded (tablesOf s - t) s t hash key
 
-  pub comes-in : {k : ℕ} → Comes s t hash k → k < tablesOf s
+  pub comes-in : {k : ℕ} → Reaches s t hash k → k < tablesOf s
   comes-in start = there
   comes-in (down c m l) = l
 
-  trace : {k : ℕ} → Comes s t hash k → whole ≡ forwarded (tablesOf s - k) s k hash key
+  trace : {k : ℕ} → Reaches s t hash k → whole ≡ forwarded (tablesOf s - k) s k hash key
   trace start = refl
   trace (down {k} c m l) = trace c ∙ turn s hash key k (comes-in c) (sym m)
 
-  pub at-bin : {k : ℕ} → Comes s t hash k → {b : Bin} → homeBin s k hash ≡ b → whole ≡ asked s b hash key (forwarded (tablesOf s - suc k) s (suc k) hash key)
+  pub at-bin : {k : ℕ} → Reaches s t hash k → {b : Bin} → homeBin s k hash ≡ b → whole ≡ asked s b hash key (forwarded (tablesOf s - suc k) s (suc k) hash key)
   at-bin {k} c e = trace c ∙ turn s hash key k (comes-in c) (sym e)
 
   pub astray-nine : Astray s t hash key → whole ≡ refused 9
@@ -77,12 +77,12 @@ module _ (s : Set) (t hash key : ℕ) (there : t < tablesOf s) where
     hit : {slot : ℕ} → Hit s t hash key slot → Outcome (given slot)
     miss : Miss s t hash key → Outcome nothing
 
-  in-list : {k p : ℕ} → Comes s t hash k → homeBin s k hash ≡ list p → {a : Answer} → listing.Outcome (s .names) (s .cells) p hash key a → Outcome a
+  in-list : {k p : ℕ} → Reaches s t hash k → homeBin s k hash ≡ list p → {a : Answer} → listing.Outcome (s .names) (s .cells) p hash key a → Outcome a
   in-list c e (listing.Outcome.lost h) = lost (Astray.in-list c e h)
   in-list c e (listing.Outcome.hit h) = hit (Hit.in-list c e h)
   in-list c e (listing.Outcome.miss h) = miss (Miss.in-list c e h)
 
-  in-tree : {k h : ℕ} → Comes s t hash k → homeBin s k hash ≡ tree h → {a : Answer} → Kind a → found (s .names) (s .cells) (rootAt s h) hash key .answer ≡ a → Outcome a
+  in-tree : {k h : ℕ} → Reaches s t hash k → homeBin s k hash ≡ tree h → {a : Answer} → Kind a → found (s .names) (s .cells) (rootAt s h) hash key .answer ≡ a → Outcome a
   in-tree {k} {h} c e nine f = lost (Astray.in-tree c e (shape-claims .finds (s .names) (s .cells) (rootAt s h) hash key .nine .0 f))
   in-tree {k} {h} c e (slot x) f = hit (Hit.in-tree c e (shape-claims .finds (s .names) (s .cells) (rootAt s h) hash key .at x .0 f))
   in-tree {k} {h} c e null-link f = miss (Miss.in-tree c e (shape-claims .finds (s .names) (s .cells) (rootAt s h) hash key .none .0 f))
@@ -91,7 +91,7 @@ module _ (s : Set) (t hash key : ℕ) (there : t < tablesOf s) where
   unfolding found
   found-kind root = kind (s .names) (s .cells) hash key (slotsOf (s .names)) root
 
-  from : (f k : ℕ) → Comes s t hash k → tablesOf s - k ≡ f → Outcome (forwarded f s k hash key)
+  from : (f k : ℕ) → Reaches s t hash k → tablesOf s - k ≡ f → Outcome (forwarded f s k hash key)
   unfolding forwarded
   from zero k c e = absurd (omega (arith, comes-in c))
   from (suc f) k c e = go (homeBin s k hash) refl (λ m l. from f (suc k) (down c m l) (omega arith))

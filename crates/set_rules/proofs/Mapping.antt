@@ -12,22 +12,22 @@ use Rattle.set_rules.specs.Words.{Set, Fit, tablesOf, lengthAt, Bin, emp
 use Rattle.set_rules.specs.Accepted.{Accepted}
 use Rattle.set_rules.proofs.Gathering.{not-empty}
 use Rattle.set_rules.proofs.Homes.{above-moved}
-use Rattle.set_rules.specs.Lookup.{lookups, Comes, start, down}
+use Rattle.set_rules.specs.Lookup.{lookups, Reaches, start, down}
 use Rattle.set_rules.specs.Held.{Reached, EntryFrom}
 use Rattle.set_rules.specs.Walked.{Map}
 use Rattle.set_rules.proofs.Holding.{looks-up}
 
-comes-later : {s : Set} {t hash k : ℕ} → Comes s t hash k → t ≤ k
+comes-later : {s : Set} {t hash k : ℕ} → Reaches s t hash k → t ≤ k
 comes-later start = omega arith
 comes-later (down c m l) = omega (arith, comes-later c)
 
 module _ (s : Set) (fit : Fit s) (acc : Accepted s) where
   module _ (hash t : ℕ) where
-    comes-to : (k : ℕ) → t ≤ k → k < tablesOf s → binAt s k (bini (lengthAt s k) hash) ≢ empty → Comes s t hash k
+    comes-to : (k : ℕ) → t ≤ k → k < tablesOf s → binAt s k (bini (lengthAt s k) hash) ≢ empty → Reaches s t hash k
     comes-to zero l b d = let z : t ≡ 0 = omega arith in rw (sym z) start
     comes-to (suc k) l b d = go (ℕ-discrete t (suc k)) (λ c e. comes-to k c (omega arith) e)
       where
-        go : Dec (t ≡ suc k) → (t ≤ k → binAt s k (bini (lengthAt s k) hash) ≢ empty → Comes s t hash k) → Comes s t hash (suc k)
+        go : Dec (t ≡ suc k) → (t ≤ k → binAt s k (bini (lengthAt s k) hash) ≢ empty → Reaches s t hash k) → Reaches s t hash (suc k)
         go (yes e) again = rw (sym e) start
         go (no n) again =
             let m = above-moved fit (acc .parent-moved) hash (suc k) k (omega arith) b d in

@@ -15,10 +15,11 @@ use Rattle.tree_rules.specs.Tree.{times}
 use Rattle.tree_rules.specs.Chain.{tally}
 use Rattle.tree_rules.proofs.Counting.{times-head, times-else, times-rest, times-cases, exactly, exactly-length}
 use Rattle.index_rules.proofs.Fit.{both}
-use Rattle.set_rules.specs.Words.{Set, Fit, tablesOf, slotsIn, headersIn, begins, rootAt, firstAt, countAt, Bin, empty, moved, bad, list, tree, binOf, binAt}
+use Rattle.set_rules.specs.Words.{Set, Fit, tablesOf, headersIn, begins, rootAt, firstAt, countAt, Bin, empty, moved, bad, list, tree, binOf, binAt}
 use Rattle.set_rules.specs.Accepted.{Place, HeadsOnce}
 use Rattle.set_rules.specs.Accepting.{isBlank, filled, namesHeader, naming, headersFine}
 use Rattle.set_rules.specs.Judged.{Ranges}
+use Rattle.tree_rules.specs.Find.{slotsOf}
 
 module _ (n h w : ℕ) where
   -- The ranges, each with the bin that the word is there.
@@ -133,7 +134,7 @@ begins-place l (suc t) p b = go (decLe (begins l t) p) (λ c. begins-place l t p
 
 -- The bin that the word p of the row is.
 abbrev wordBin : Set → ℕ → Bin
-wordBin s p = binOf (slotsIn s) (headersIn s) (getD (s .bins) p 0)
+wordBin s p = binOf (slotsOf (s .names)) (headersIn s) (getD (s .bins) p 0)
 
 -- The headers that the first q words of the row name.
 abbrev put : Bin → List ℕ → List ℕ
@@ -154,7 +155,7 @@ put-length bad l = omega arith
 put-length (list a) l = omega arith
 put-length (tree h) l = omega arith
 
-named-length : (s : Set) (q : ℕ) → length (named s q) ≡ tally q (naming (slotsIn s) (headersIn s) (s .bins))
+named-length : (s : Set) (q : ℕ) → length (named s q) ≡ tally q (naming (slotsOf (s .names)) (headersIn s) (s .bins))
 unfolding tally named
 named-length s zero = refl
 named-length s (suc q) = omega (arith, put-length (wordBin s q) (named s q), named-length s q)
@@ -281,13 +282,13 @@ module _ {s : Set} (fit : Fit s) (heads : HeadsOnce s) (roots : (k i h : ℕ) �
       word-named s (length (s .bins)) h (begins (s .lengths) k + i) (omega (arith, p .index, fit .all)) e
 
   inside : (h : ℕ) → 1 ≤ times h all → h < headersIn s
-  inside h m = let r = named-bin h m in ranges (slotsIn s) (headersIn s) _ .trees h .0 (r .3) .3
+  inside h m = let r = named-bin h m in ranges (slotsOf (s .names)) (headersIn s) _ .trees h .0 (r .3) .3
 
   marked : (h : ℕ) → 1 ≤ times h all → filled (s .heads) h ≡ 1
   marked h m = let r = named-bin h m in rooted-filled s h (roots (r .0) (r .1) h (r .2) (r .3))
 
   abbrev Counted : Type 0
-  Counted = headersFine (slotsIn s) (headersIn s) (s .heads) (s .bins) ≡ true
+  Counted = headersFine (slotsOf (s .names)) (headersIn s) (s .heads) (s .bins) ≡ true
 
   pub headers-blank : Counted → (h : ℕ) → h < headersIn s → ((k i : ℕ) → Place s k i → binAt s k i ≢ tree h) → Blank s h
   unfolding headersFine

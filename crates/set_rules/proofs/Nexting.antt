@@ -13,7 +13,7 @@ use Rattle.slots.proofs.Laws.{cell-null, nothing-given}
 use Rattle.set_rules.specs.Words.{Set, tablesOf, lengthAt, Fit}
 use Rattle.set_rules.proofs.Fit.{ends}
 use Rattle.set_rules.specs.Cursor.{Cursor, Step, indexAt, lone, BadCursor}
-use Rattle.set_rules.specs.Walk.{Place, place, deepest, advanced, kept, trimmed, Stands, standing, done, nexts}
+use Rattle.set_rules.specs.Walk.{Place, place, deepest, advanced, kept, trimmed, InTables, standing, done, nexts}
 use Rattle.set_rules.specs.Ways.{After, Comes, Strays, Steps}
 use Rattle.set_rules.specs.Walked.{Nexts}
 use Rattle.set_rules.proofs.Turns.{on, advanced-lt, advanced-ge}
@@ -52,8 +52,8 @@ zeroed-advanced lengths base (suc d) x e l z =
     go (yes k) again = rw (advanced-lt lengths base d x k) (λ j m. getD-set-other x (suc d) j (on lengths base d x) 0 (omega arith) ∙ z j m)
     go (no n) again = rw (advanced-ge lengths base d x (omega arith)) again
 
-module _ (s : Set) (base : ℕ) (from : Place) (good : Stands (s .lengths) base from) (zero-from : Zeroed from) where
-  zeroed-after : {p q : Place} → Stands (s .lengths) base p → Zeroed p → After s base p q → Zeroed q
+module _ (s : Set) (base : ℕ) (from : Place) (good : InTables (s .lengths) base from) (zero-from : Zeroed from) where
+  zeroed-after : {p q : Place} → InTables (s .lengths) base p → Zeroed p → After s base p q → Zeroed q
   zeroed-after {p} h z a = rw (onward-after s base a) at (zeroed-advanced (s .lengths) base (p .depth) (p .indexes) (h .eight) (omega (arith, h .deep, h .few)) z)
 
   zeroed-comes : {p : Place} → Comes s base from p → Zeroed p

@@ -10,11 +10,11 @@ use native.Mathlib.Omega.{arith}
 use lib.ListN.{length, getD, set, length-set}
 use lib.Seq.{getD-set-same, getD-set-other}
 use Rattle.slots.specs.Words.{null}
-use Rattle.set_rules.specs.Words.{Set, slotsIn, headersIn, firstAt, Fit, Bin, binWord}
+use Rattle.set_rules.specs.Words.{Set, headersIn, firstAt, Fit, Bin, binWord}
 use Rattle.set_rules.proofs.Fit.{length-least}
 use Rattle.set_rules.proofs.Naming.{ranges}
 use Rattle.set_rules.specs.Cursor.{Cursor, Step, BadCursor}
-use Rattle.set_rules.specs.Walk.{Place, place, deepest, advanced, Stands, standing, nexts}
+use Rattle.set_rules.specs.Walk.{Place, place, deepest, advanced, InTables, standing, nexts}
 use Rattle.set_rules.specs.Ways.{After, Comes, Reads, Steps, moved-to}
 use Rattle.set_rules.specs.Held.{Made}
 use Rattle.set_rules.proofs.Turns.{on, twice-at, advanced-lt, advanced-ge}
@@ -23,6 +23,7 @@ use Rattle.set_rules.proofs.Beginning.{begins-is, read-comes}
 use Rattle.set_rules.proofs.Seeking.{good-onward}
 use Rattle.set_rules.proofs.Stepping.{onward-after, comes-good, steps-walked}
 use Rattle.set_rules.proofs.Gates.{start-made, next-walked}
+use Rattle.tree_rules.specs.Find.{slotsOf}
 
 -- Each level is right under the one above.
 abbrev Levels : List ℕ → ℕ → Place → Type 0
@@ -75,7 +76,7 @@ module _ (lengths : List ℕ) (base : ℕ) (twice : (k : ℕ) → suc k < length
       go (no n) again = rw (advanced-ge lengths base d x (omega arith)) again
 
 -- A place with right levels makes a right cursor.
-stands-right : (lengths : List ℕ) (n base : ℕ) (p : Place) (last : ℕ) → Stands lengths base p → Levels lengths base p → (last ≡ null) ⊎ (last < n)
+stands-right : (lengths : List ℕ) (n base : ℕ) (p : Place) (last : ℕ) → InTables lengths base p → Levels lengths base p → (last ≡ null) ⊎ (last < n)
     → Right lengths n base (p .depth) (p .indexes) last
 stands-right lengths n base p last h l k = record { deep = h .deep; first = first (ℕ-discrete (p .depth) 0) (h .last); level = l; known = k }
   where
@@ -97,10 +98,10 @@ stands-right lengths n base p last h l k = record { deep = h .deep; first = firs
 -- On any fit set, accepted or not, no cursor that start and next make is bad.
 module _ (s : Set) (fit : Fit s) where
   abbrev RightAt : Cursor → Type 0
-  RightAt c = Right (s .lengths) (slotsIn s) (c .base) (c .depth) (c .indexes) (c .last)
+  RightAt c = Right (s .lengths) (slotsOf (s .names)) (c .base) (c .depth) (c .indexes) (c .last)
 
   module _ (c : Cursor) (right : RightAt c) where
-    stands : Stands (s .lengths) (c .base) (standing c)
+    stands : InTables (s .lengths) (c .base) (standing c)
     stands = right-stands s fit c right
 
     short : c .depth < 8
@@ -110,7 +111,7 @@ module _ (s : Set) (fit : Fit s) where
     levels-start j l =
         rw (trimmed-same (c .depth) (c .indexes) j (omega arith) short, trimmed-same (c .depth) (c .indexes) (suc j) (omega arith) short) (right .level j l)
 
-    levels-after : {p q : Place} → Stands (s .lengths) (c .base) p → Levels (s .lengths) (c .base) p → After s (c .base) p q → Levels (s .lengths) (c .base) q
+    levels-after : {p q : Place} → InTables (s .lengths) (c .base) p → Levels (s .lengths) (c .base) p → After s (c .base) p q → Levels (s .lengths) (c .base) q
     levels-after {p} h l a =
         rw (onward-after s (c .base) a) at
         (levels-advanced (s .lengths) (c .base) (fit .twice) (p .depth) (p .indexes) (h .eight) (omega (arith, h .deep, h .few)) (h .deep) l)
@@ -123,15 +124,15 @@ module _ (s : Set) (fit : Fit s) where
         levels-more (s .lengths) (c .base) (fit .twice) (p .depth) (deepest p) (p .indexes) (h .eight) (omega (arith, h .few)) (levels-comes k)
         (omega (arith, w, twice-at (s .lengths) (c .base) (fit .twice) (p .depth) l), inl refl)
 
-    right-after : {b : Bin} {p q : Place} (x : ℕ) → Reads s c b p → After s (c .base) p q → x < slotsIn s → RightAt (moved-to c q x)
+    right-after : {b : Bin} {p q : Place} (x : ℕ) → Reads s c b p → After s (c .base) p q → x < slotsOf (s .names) → RightAt (moved-to c q x)
     right-after {b} {p} {q} x r a l =
         let k = comes-good s (c .base) (standing c) stands (read-comes c r) in
         let g = rw (onward-after s (c .base) a) at (good-onward s (c .base) p k (r .there)) in
-        stands-right (s .lengths) (slotsIn s) (c .base) q x g (levels-after k (levels-comes (read-comes c r)) a) (inr l)
+        stands-right (s .lengths) (slotsOf (s .names)) (c .base) q x g (levels-after k (levels-comes (read-comes c r)) a) (inr l)
 
     kept-right : {r : Step} → Steps s c r → RightAt (r .cursor)
-    kept-right (Steps.by-next {x = x} b e n l) = rw (begins-is c b) (stands-right (s .lengths) (slotsIn s) (c .base) (standing c) x stands levels-start (inr l))
-    kept-right (Steps.by-list {p} {q} {x} r a) = right-after x r a (ranges (slotsIn s) (headersIn s) (binWord s (c .base + p .depth) (deepest p)) .lists x .0 (r .bin) .3)
+    kept-right (Steps.by-next {x = x} b e n l) = rw (begins-is c b) (stands-right (s .lengths) (slotsOf (s .names)) (c .base) (standing c) x stands levels-start (inr l))
+    kept-right (Steps.by-list {p} {q} {x} r a) = right-after x r a (ranges (slotsOf (s .names)) (headersIn s) (binWord s (c .base + p .depth) (deepest p)) .lists x .0 (r .bin) .3)
     kept-right (Steps.by-tree {p} {q} {h} r m a) = right-after (firstAt s h) r a m
     kept-right (Steps.by-end b e k d f) = record { deep = omega (arith, right .deep); first = inr (refl, refl); level = λ j l. absurd (omega arith); known = inl refl }
     kept-right (Steps.lost h) = right

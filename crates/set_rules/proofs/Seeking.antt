@@ -8,14 +8,15 @@ use native.Mathlib.Omega.{arith}
 use lib.Dec.{leb}
 use borrow.Author.Tests.{le-leb, lt-leb, lt-ltb, le-ltb}
 use Rattle.slots.specs.Words.{pick}
-use Rattle.set_rules.specs.Words.{Set, tablesOf, lengthAt, slotsIn, firstAt, Bin, empty, moved, bad, list, tree}
-use Rattle.set_rules.specs.Walk.{Place, deepest, binHere, below, onward, Stands, Sought, ended, lost, taken, turned, sought, turnsIn}
+use Rattle.set_rules.specs.Words.{Set, tablesOf, lengthAt, firstAt, Bin, empty, moved, bad, list, tree}
+use Rattle.set_rules.specs.Walk.{Place, deepest, binHere, below, onward, InTables, Sought, ended, lost, taken, entered, sought, turnsIn}
 use Rattle.set_rules.proofs.Turns.{left, left-advanced, left-within, left-down, twice-at, under-some}
 use Rattle.set_rules.proofs.Standing.{Within, within-or-end, stands-advanced, stands-down, left-some, left-all}
+use Rattle.tree_rules.specs.Find.{slotsOf}
 
 module _ (s : Set) (base : ℕ) where
   abbrev pub Good : Place → Type 0
-  Good p = Stands (s .lengths) base p
+  Good p = InTables (s .lengths) base p
 
   abbrev pub Here : Place → Type 0
   Here p = Within (s .lengths) base p
@@ -28,7 +29,7 @@ module _ (s : Set) (base : ℕ) where
   sought-end zero p h = refl
   sought-end (suc t) p h = simp (le-leb _ _ h)
 
-  sought-turn : (t : ℕ) (p : Place) → Here p → {b : Bin} → binHere s base p ≡ b → sought (suc t) s base p ≡ turned s base p b (λ q. sought t s base q)
+  sought-turn : (t : ℕ) (p : Place) → Here p → {b : Bin} → binHere s base p ≡ b → sought (suc t) s base p ≡ entered s base p b (λ q. sought t s base q)
   unfolding sought
   sought-turn t p h e = rw (lt-leb _ _ h, e)
 
@@ -54,14 +55,14 @@ module _ (s : Set) (base : ℕ) where
   -- A turn's outcome depends on what follows the places that it may go to.
   same-turn : (p : Place) (b : Bin) (f g : Place → Sought) → f (onward s base p) ≡ g (onward s base p)
       → (base + suc (p .depth) < tablesOf s → f (below s base p) ≡ g (below s base p))
-      → turned s base p b f ≡ turned s base p b g
+      → entered s base p b f ≡ entered s base p b g
   same-turn p empty f g a b = a
   same-turn p bad f g a b = refl
   same-turn p (list x) f g a b = refl
   same-turn p (tree h) f g a b = refl
   same-turn p moved f g a b = go (decLt (base + p .depth + 1) (tablesOf s))
     where
-      go : Dec (base + p .depth + 1 < tablesOf s) → turned s base p moved f ≡ turned s base p moved g
+      go : Dec (base + p .depth + 1 < tablesOf s) → entered s base p moved f ≡ entered s base p moved g
       go (yes l) = simp (lt-ltb _ _ l) (b (omega arith))
       go (no l) = simp (le-ltb (base + p .depth + 1) (tablesOf s) (omega arith))
 
@@ -98,7 +99,7 @@ module _ (s : Set) (base : ℕ) where
       (turnsIn s base - 1, omega (arith, left-some (s .lengths) base p h w, left-all (s .lengths) base p h))
 
   module _ (p : Place) (h : Good p) (w : Here p) where
-    at-turn : {b : Bin} → binHere s base p ≡ b → seeks p ≡ turned s base p b seeks
+    at-turn : {b : Bin} → binHere s base p ≡ b → seeks p ≡ entered s base p b seeks
     at-turn {b} e =
         let m = some-turns p h w in
         let all = left-all (s .lengths) base p h in
@@ -123,11 +124,11 @@ module _ (s : Set) (base : ℕ) where
     pub at-last : binHere s base p ≡ moved → tablesOf s ≤ base + suc (p .depth) → seeks p ≡ lost
     at-last e l = at-turn e ∙ simp (le-ltb (base + p .depth + 1) (tablesOf s) (omega arith))
 
-    pub at-stray : {k : ℕ} → binHere s base p ≡ tree k → slotsIn s ≤ firstAt s k → seeks p ≡ lost
-    at-stray {k} e l = at-turn e ∙ simp (le-ltb (firstAt s k) (slotsIn s) l)
+    pub at-stray : {k : ℕ} → binHere s base p ≡ tree k → slotsOf (s .names) ≤ firstAt s k → seeks p ≡ lost
+    at-stray {k} e l = at-turn e ∙ simp (le-ltb (firstAt s k) (slotsOf (s .names)) l)
 
-    pub at-tree : {k : ℕ} → binHere s base p ≡ tree k → firstAt s k < slotsIn s → seeks p ≡ taken s base p (firstAt s k)
-    at-tree {k} e l = at-turn e ∙ simp (lt-ltb (firstAt s k) (slotsIn s) l)
+    pub at-tree : {k : ℕ} → binHere s base p ≡ tree k → firstAt s k < slotsOf (s .names) → seeks p ≡ taken s base p (firstAt s k)
+    at-tree {k} e l = at-turn e ∙ simp (lt-ltb (firstAt s k) (slotsOf (s .names)) l)
 
   pub at-end : (p : Place) → lengthAt s (base + p .depth) ≤ deepest p → seeks p ≡ ended
   at-end p h = sought-end (turnsIn s base) p h
@@ -136,7 +137,7 @@ module _ (s : Set) (base : ℕ) where
 abbrev pub bare : Set → Set
 bare s = record { lengths = s .lengths; bins = s .bins; heads = s .heads; names = s .names; cells = [] }
 
-bare-turn : (s : Set) (base : ℕ) (p : Place) (b : Bin) (f : Place → Sought) → turned (bare s) base p b f ≡ turned s base p b f
+bare-turn : (s : Set) (base : ℕ) (p : Place) (b : Bin) (f : Place → Sought) → entered (bare s) base p b f ≡ entered s base p b f
 bare-turn s base p empty f = refl
 bare-turn s base p moved f = refl
 bare-turn s base p bad f = refl

@@ -8,7 +8,7 @@ use native.Mathlib.Decide.{decLt, ℕ-discrete}
 use native.Mathlib.Omega.{arith}
 use lib.ListN.{length, getD, set, length-set}
 use lib.Seq.{getD-set-same, getD-set-other}
-use Rattle.set_rules.specs.Walk.{Place, place, deepest, advanced, Stands, under}
+use Rattle.set_rules.specs.Walk.{Place, place, deepest, advanced, InTables, under}
 use Rattle.set_rules.proofs.Turns.{on, advanced-lt, advanced-ge, twice-at, left, left-within, left-most, left-top, under-some}
 
 module _ (lengths : List ℕ) (base : ℕ) where
@@ -20,7 +20,7 @@ module _ (lengths : List ℕ) (base : ℕ) where
   base-zero = ap (λ (k : ℕ). getD lengths k 0) (add-zero base)
 
   -- With its bin there, or at the end.
-  pub within-or-end : (p : Place) → Stands lengths base p → (Within p) ⊎ ((p .depth ≡ 0) × (getD lengths (base + p .depth) 0 ≤ deepest p))
+  pub within-or-end : (p : Place) → InTables lengths base p → (Within p) ⊎ ((p .depth ≡ 0) × (getD lengths (base + p .depth) 0 ≤ deepest p))
   within-or-end p h = go (h .last)
     where
       go : (Within p) ⊎ ((p .depth ≡ 0) × (deepest p ≡ getD lengths base 0)) → (Within p) ⊎ ((p .depth ≡ 0) × (getD lengths (base + p .depth) 0 ≤ deepest p))
@@ -29,7 +29,7 @@ module _ (lengths : List ℕ) (base : ℕ) where
           let z : getD lengths (base + p .depth) 0 ≡ getD lengths base 0 = ap (λ (k : ℕ). getD lengths (base + k) 0) (e .0) ∙ base-zero in
           inr (e .0, omega (arith, z))
 
-  stands-first : (x : List ℕ) → Stands lengths base (place 0 x) → getD x 0 0 < getD lengths (base + 0) 0 → Stands lengths base (advanced 0 lengths base x)
+  stands-first : (x : List ℕ) → InTables lengths base (place 0 x) → getD x 0 0 < getD lengths (base + 0) 0 → InTables lengths base (advanced 0 lengths base x)
   unfolding advanced
   stands-first x h w =
       record {
@@ -57,7 +57,7 @@ module _ (lengths : List ℕ) (base : ℕ) where
           by k z
 
   -- One level up, what was written below is not there.
-  stands-up : (d : ℕ) (x : List ℕ) (v : ℕ) → Stands lengths base (place (suc d) x) → Stands lengths base (place d (set x (suc d) v))
+  stands-up : (d : ℕ) (x : List ℕ) (v : ℕ) → InTables lengths base (place (suc d) x) → InTables lengths base (place d (set x (suc d) v))
   stands-up d x v h =
       record {
         eight = length-set x (suc d) v ∙ h .eight;
@@ -68,7 +68,7 @@ module _ (lengths : List ℕ) (base : ℕ) where
         last = inl (rw (getD-set-other x (suc d) d v 0 (omega arith)) (h .within d (omega arith)));
       }
 
-  stands-plus : (d : ℕ) (x : List ℕ) (v : ℕ) → Stands lengths base (place (suc d) x) → v < getD lengths (base + suc d) 0 → Stands lengths base (place (suc d) (set x (suc d) v))
+  stands-plus : (d : ℕ) (x : List ℕ) (v : ℕ) → InTables lengths base (place (suc d) x) → v < getD lengths (base + suc d) 0 → InTables lengths base (place (suc d) (set x (suc d) v))
   stands-plus d x v h l =
       record {
         eight = length-set x (suc d) v ∙ h .eight;
@@ -79,20 +79,20 @@ module _ (lengths : List ℕ) (base : ℕ) where
         last = inl (rw (getD-set-same x (suc d) v 0 (omega (arith, h .eight, h .deep, h .few))) l);
       }
 
-  pub stands-advanced : (d : ℕ) (x : List ℕ) → Stands lengths base (place d x) → getD x d 0 < getD lengths (base + d) 0 → Stands lengths base (advanced d lengths base x)
+  pub stands-advanced : (d : ℕ) (x : List ℕ) → InTables lengths base (place d x) → getD x d 0 < getD lengths (base + d) 0 → InTables lengths base (advanced d lengths base x)
   stands-advanced zero x h w = stands-first x h w
   stands-advanced (suc d) x h w = go (decLt (on lengths base d x) (getD lengths (base + suc d) 0)) (λ y k l. stands-advanced d y k l)
     where
       go : Dec (on lengths base d x < getD lengths (base + suc d) 0)
-          → ((y : List ℕ) → Stands lengths base (place d y) → getD y d 0 < getD lengths (base + d) 0 → Stands lengths base (advanced d lengths base y))
-          → Stands lengths base (advanced (suc d) lengths base x)
+          → ((y : List ℕ) → InTables lengths base (place d y) → getD y d 0 < getD lengths (base + d) 0 → InTables lengths base (advanced d lengths base y))
+          → InTables lengths base (advanced (suc d) lengths base x)
       go (yes k) again = rw (advanced-lt lengths base d x k) (stands-plus d x (on lengths base d x) h k)
       go (no k) again =
           rw (advanced-ge lengths base d x (omega arith))
           (again (set x (suc d) 0) (stands-up d x 0 h) (rw (getD-set-other x (suc d) d 0 0 (omega arith)) (h .within d (omega arith))))
 
   -- Each index down to the bin is there.
-  pub inside : (p : Place) → Stands lengths base p → Within p → (j : ℕ) → j ≤ p .depth → getD (p .indexes) j 0 < getD lengths (base + j) 0
+  pub inside : (p : Place) → InTables lengths base p → Within p → (j : ℕ) → j ≤ p .depth → getD (p .indexes) j 0 < getD lengths (base + j) 0
   inside p h w j k = go (ℕ-discrete j (p .depth))
     where
       go : Dec (j ≡ p .depth) → getD (p .indexes) j 0 < getD lengths (base + j) 0
@@ -100,8 +100,8 @@ module _ (lengths : List ℕ) (base : ℕ) where
       go (no n) = h .within j (omega arith)
 
   -- A bin of the table below is such a place.
-  pub stands-down : (p : Place) (v : ℕ) → Stands lengths base p → Within p → base + suc (p .depth) < length lengths → v < getD lengths (base + suc (p .depth)) 0
-      → Stands lengths base (place (suc (p .depth)) (set (p .indexes) (suc (p .depth)) v))
+  pub stands-down : (p : Place) (v : ℕ) → InTables lengths base p → Within p → base + suc (p .depth) < length lengths → v < getD lengths (base + suc (p .depth)) 0
+      → InTables lengths base (place (suc (p .depth)) (set (p .indexes) (suc (p .depth)) v))
   stands-down p v h w l b =
       let d = p .depth in
       let x = p .indexes in
@@ -115,10 +115,10 @@ module _ (lengths : List ℕ) (base : ℕ) where
       }
 
   -- What is left at a place: something where its bin is there, and never more than there is.
-  pub left-some : (p : Place) → Stands lengths base p → Within p → 0 < left lengths base (p .depth) (p .indexes)
+  pub left-some : (p : Place) → InTables lengths base p → Within p → 0 < left lengths base (p .depth) (p .indexes)
   left-some p h w = omega (arith, left-within lengths base (p .depth) (p .indexes) w, under-some (length lengths - (base + p .depth)) (omega (arith, h .deep)))
 
-  pub left-all : (p : Place) → Stands lengths base p → left lengths base (p .depth) (p .indexes) ≤ getD lengths base 0 * under (length lengths - base)
+  pub left-all : (p : Place) → InTables lengths base p → left lengths base (p .depth) (p .indexes) ≤ getD lengths base 0 * under (length lengths - base)
   left-all p h = go (h .last)
     where
       go : (Within p) ⊎ ((p .depth ≡ 0) × (deepest p ≡ getD lengths base 0)) → left lengths base (p .depth) (p .indexes) ≤ getD lengths base 0 * under (length lengths - base)

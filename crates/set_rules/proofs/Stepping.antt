@@ -10,15 +10,16 @@ use native.Mathlib.Omega.{arith}
 use lib.ListN.{getD, set}
 use borrow.Author.Tests.{eq-eqb, ne-eqb, lt-ltb, le-ltb}
 use Rattle.slots.specs.Words.{null, next, cell}
-use Rattle.set_rules.specs.Words.{Set, tablesOf, lengthAt, slotsIn, firstAt, Fit, Bin, empty, moved, bad, list, tree}
+use Rattle.set_rules.specs.Words.{Set, tablesOf, lengthAt, firstAt, Fit, Bin, empty, moved, bad, list, tree}
 use Rattle.set_rules.proofs.Fit.{small}
 use Rattle.set_rules.specs.Cursor.{Cursor, Step}
-use Rattle.set_rules.specs.Walk.{Place, place, deepest, binHere, below, advanced, onward, Stands, Sought, at, ended, lost, standing, stepped, walked}
+use Rattle.set_rules.specs.Walk.{Place, place, deepest, binHere, below, advanced, onward, InTables, Sought, at, ended, lost, standing, stepped, stepsOn}
 use Rattle.set_rules.specs.Ways.{Begins, After, Comes, Reads, Strays, Steps}
 use Rattle.set_rules.proofs.Turns.{on, advanced-lt, advanced-ge}
 use Rattle.set_rules.proofs.Standing.{left-some}
 use Rattle.set_rules.proofs.Beginning.{standing-begins, begins-is, read-comes}
 use Rattle.set_rules.proofs.Seeking.{leftAt, seeks, at-end, at-empty, at-bad, at-list, at-moved, at-last, at-tree, at-stray, falls-onward, falls-below, good-onward, good-below}
+use Rattle.tree_rules.specs.Find.{slotsOf}
 
 module _ (s : Set) (base : ℕ) where
   pub after-onward : (d : ℕ) (x : List ℕ) → After s base (place d x) (advanced d (s .lengths) base x)
@@ -40,9 +41,9 @@ module _ (s : Set) (base : ℕ) where
   onward-after (After.plus {d} {x} l) = advanced-lt (s .lengths) base d x l
   onward-after (After.up {d} {x} l a) = advanced-ge (s .lengths) base d x l ∙ onward-after a
 
-  module _ (from : Place) (good : Stands (s .lengths) base from) where
+  module _ (from : Place) (good : InTables (s .lengths) base from) where
     -- Where the loop comes to, a step may stand, and the loop from there ends as the whole does.
-    pub comes-good : {p : Place} → Comes s base from p → Stands (s .lengths) base p
+    pub comes-good : {p : Place} → Comes s base from p → InTables (s .lengths) base p
     comes-good (Comes.start) = good
     comes-good (Comes.past {p} c w e a) = rw (onward-after a) at (good-onward s base p (comes-good c) w)
     comes-good (Comes.down {p} c w e l) = good-below s base p (comes-good c) w l
@@ -53,7 +54,7 @@ module _ (s : Set) (base : ℕ) where
     comes-same (Comes.down {p} c w e l) = comes-same c ∙ at-moved s base p (comes-good c) w e l
 
 -- What a step from a cursor comes to.
-module _ (s : Set) (fit : Fit s) (c : Cursor) (good : Stands (s .lengths) (c .base) (standing c)) where
+module _ (s : Set) (fit : Fit s) (c : Cursor) (good : InTables (s .lengths) (c .base) (standing c)) where
   abbrev sound : Sought
   sound = seeks s (c .base) (standing c)
 
@@ -63,7 +64,7 @@ module _ (s : Set) (fit : Fit s) (c : Cursor) (good : Stands (s .lengths) (c .ba
   -- What is said of the loop's end.
   data Ends : Sought → Type 0 where
     list-end : {p q : Place} {x : ℕ} → Reads s c (list x) p → After s (c .base) p q → Ends (at x q)
-    tree-end : {p q : Place} {h : ℕ} → Reads s c (tree h) p → firstAt s h < slotsIn s → After s (c .base) p q → Ends (at (firstAt s h) q)
+    tree-end : {p q : Place} {h : ℕ} → Reads s c (tree h) p → firstAt s h < slotsOf (s .names) → After s (c .base) p q → Ends (at (firstAt s h) q)
     base-end : {p : Place} → Comes s (c .base) (standing c) p → p .depth ≡ 0 → deepest p ≡ lengthAt s (c .base) → Ends ended
     stray-end : Strays s c → Ends lost
 
@@ -81,7 +82,7 @@ module _ (s : Set) (fit : Fit s) (c : Cursor) (good : Stands (s .lengths) (c .ba
         go (inr e) = at-base p k e
     ends-from (suc t) p k l = go (comes-good s (c .base) (standing c) good k .last) (λ q j m. ends-from t q j m)
       where
-        h : Stands (s .lengths) (c .base) p
+        h : InTables (s .lengths) (c .base) p
         h = comes-good s (c .base) (standing c) good k
 
         read : deepest p < lengthAt s (c .base + p .depth) → (b : Bin) → binHere s (c .base) p ≡ b
@@ -100,12 +101,12 @@ module _ (s : Set) (fit : Fit s) (c : Cursor) (good : Stands (s .lengths) (c .ba
             turn (no n) =
                 let m : tablesOf s ≤ c .base + suc (p .depth) = omega arith in
                 rw (at-last s (c .base) p h w e m) (stray-end (Strays.moved-last (record { from = standing c; begins = begins; no-next = none; comes = k; there = w; bin = e }) m))
-        read w (tree a) e again = turn (decLt (firstAt s a) (slotsIn s)) (ℕ-discrete (firstAt s a) null)
+        read w (tree a) e again = turn (decLt (firstAt s a) (slotsOf (s .names))) (ℕ-discrete (firstAt s a) null)
           where
             r : Reads s c (tree a) p
             r = record { from = standing c; begins = begins; no-next = none; comes = k; there = w; bin = e }
 
-            turn : Dec (firstAt s a < slotsIn s) → Dec (firstAt s a ≡ null) → Ends (seeks s (c .base) p)
+            turn : Dec (firstAt s a < slotsOf (s .names)) → Dec (firstAt s a ≡ null) → Ends (seeks s (c .base) p)
             turn (yes m) d = rw (at-tree s (c .base) p h w e m) (tree-end r m (after-onward s (c .base) (p .depth) (p .indexes)))
             turn (no n) (yes d) = rw (at-stray s (c .base) p h w e (omega arith)) (stray-end (Strays.no-first r d))
             turn (no n) (no d) = rw (at-stray s (c .base) p h w e (omega arith)) (stray-end (Strays.stray-first r d (omega arith)))
@@ -125,37 +126,37 @@ module _ (s : Set) (fit : Fit s) (c : Cursor) (good : Stands (s .lengths) (c .ba
     ends-steps (base-end k d e) = Steps.by-end begins none k d e
     ends-steps (stray-end h) = Steps.lost h
 
-  pub steps-walked : Steps s c (walked s c)
-  unfolding walked
-  steps-walked = go (ℕ-discrete (cell (s .cells) (c .last) next) null) (decLt (cell (s .cells) (c .last) next) (slotsIn s))
+  pub steps-walked : Steps s c (stepsOn s c)
+  unfolding stepsOn
+  steps-walked = go (ℕ-discrete (cell (s .cells) (c .last) next) null) (decLt (cell (s .cells) (c .last) next) (slotsOf (s .names)))
     where
-      go : Dec (cell (s .cells) (c .last) next ≡ null) → Dec (cell (s .cells) (c .last) next < slotsIn s) → Steps s c (walked s c)
+      go : Dec (cell (s .cells) (c .last) next ≡ null) → Dec (cell (s .cells) (c .last) next < slotsOf (s .names)) → Steps s c (stepsOn s c)
       go (yes e) d = rw (eq-eqb (cell (s .cells) (c .last) next) null e) (ends-steps e (ends-all e))
-      go (no n) (yes l) = rw (ne-eqb (cell (s .cells) (c .last) next) null n, lt-ltb (cell (s .cells) (c .last) next) (slotsIn s) l) (Steps.by-next begins refl n l)
+      go (no n) (yes l) = rw (ne-eqb (cell (s .cells) (c .last) next) null n, lt-ltb (cell (s .cells) (c .last) next) (slotsOf (s .names)) l) (Steps.by-next begins refl n l)
       go (no n) (no l) =
-          let m : slotsIn s ≤ cell (s .cells) (c .last) next = omega arith in
-          rw (ne-eqb (cell (s .cells) (c .last) next) null n, le-ltb (cell (s .cells) (c .last) next) (slotsIn s) m) (Steps.lost (Strays.stray-next n m))
+          let m : slotsOf (s .names) ≤ cell (s .cells) (c .last) next = omega arith in
+          rw (ne-eqb (cell (s .cells) (c .last) next) null n, le-ltb (cell (s .cells) (c .last) next) (slotsOf (s .names)) m) (Steps.lost (Strays.stray-next n m))
 
-  loop-walked : cell (s .cells) (c .last) next ≡ null → {o : Sought} → sound ≡ o → walked s c ≡ stepped s c o
-  unfolding walked
+  loop-walked : cell (s .cells) (c .last) next ≡ null → {o : Sought} → sound ≡ o → stepsOn s c ≡ stepped s c o
+  unfolding stepsOn
   loop-walked e f = rw (eq-eqb (cell (s .cells) (c .last) next) null e, f)
 
-  stray-walked : cell (s .cells) (c .last) next ≢ null → slotsIn s ≤ cell (s .cells) (c .last) next → walked s c ≡ stepped s c lost
-  unfolding walked
-  stray-walked n l = rw (ne-eqb (cell (s .cells) (c .last) next) null n, le-ltb (cell (s .cells) (c .last) next) (slotsIn s) l)
+  stray-walked : cell (s .cells) (c .last) next ≢ null → slotsOf (s .names) ≤ cell (s .cells) (c .last) next → stepsOn s c ≡ stepped s c lost
+  unfolding stepsOn
+  stray-walked n l = rw (ne-eqb (cell (s .cells) (c .last) next) null n, le-ltb (cell (s .cells) (c .last) next) (slotsOf (s .names)) l)
 
-  link-walked : {x : ℕ} → cell (s .cells) (c .last) next ≡ x → x ≢ null → x < slotsIn s → walked s c ≡ stepped s c (at x (standing c))
-  unfolding walked
-  link-walked {x} e n l = rw (e, ne-eqb x null n, lt-ltb x (slotsIn s) l)
+  link-walked : {x : ℕ} → cell (s .cells) (c .last) next ≡ x → x ≢ null → x < slotsOf (s .names) → stepsOn s c ≡ stepped s c (at x (standing c))
+  unfolding stepsOn
+  link-walked {x} e n l = rw (e, ne-eqb x null n, lt-ltb x (slotsOf (s .names)) l)
 
   -- A bin read is what the loop comes to.
-  reads-good : {b : Bin} {p : Place} → Reads s c b p → Stands (s .lengths) (c .base) p
+  reads-good : {b : Bin} {p : Place} → Reads s c b p → InTables (s .lengths) (c .base) p
   reads-good r = comes-good s (c .base) (standing c) good (read-comes c r)
 
   reads-same : {b : Bin} {p : Place} → Reads s c b p → sound ≡ seeks s (c .base) p
   reads-same r = comes-same s (c .base) (standing c) good (read-comes c r)
 
-  strays-lost : Strays s c → walked s c ≡ stepped s c lost
+  strays-lost : Strays s c → stepsOn s c ≡ stepped s c lost
   strays-lost (Strays.stray-next n l) = stray-walked n l
   strays-lost (Strays.bad-bin {p} r) = loop-walked (r .no-next) (reads-same r ∙ at-bad s (c .base) p (reads-good r) (r .there) (r .bin))
   strays-lost (Strays.moved-last {p} r l) = loop-walked (r .no-next) (reads-same r ∙ at-last s (c .base) p (reads-good r) (r .there) (r .bin) l)
@@ -163,7 +164,7 @@ module _ (s : Set) (fit : Fit s) (c : Cursor) (good : Stands (s .lengths) (c .ba
       loop-walked (r .no-next) (reads-same r ∙ at-stray s (c .base) p (reads-good r) (r .there) (r .bin) (omega (arith, e, small fit)))
   strays-lost (Strays.stray-first {p} r n l) = loop-walked (r .no-next) (reads-same r ∙ at-stray s (c .base) p (reads-good r) (r .there) (r .bin) l)
 
-  pub walked-steps : {r : Step} → Steps s c r → walked s c ≡ r
+  pub walked-steps : {r : Step} → Steps s c r → stepsOn s c ≡ r
   walked-steps (Steps.by-next {x = x} b e n l) = rw (begins-is c b) (link-walked e n l)
   walked-steps (Steps.by-list {p} {q} {x} r a) =
       loop-walked (r .no-next) (reads-same r ∙ at-list s (c .base) p (reads-good r) (r .there) (r .bin) ∙ ap (at x) (onward-after s (c .base) a))

@@ -25,10 +25,11 @@ use Rattle.tree_rules.proofs.Levelling.{level-level}
 use Rattle.index_rules.specs.Sound.{leaves}
 use Rattle.index_rules.proofs.Fit.{both}
 use Rattle.index_rules.proofs.Rules.{and, left-of, all-but}
-use Rattle.set_rules.specs.Words.{Set, Fit, slotsIn, rootAt, firstAt, countAt, bini}
+use Rattle.set_rules.specs.Words.{Set, Fit, rootAt, firstAt, countAt, bini}
 use Rattle.set_rules.specs.Accepting.{isHome, isOwn, chainOwn, treeHome, treeGood, treeFine}
 use Rattle.set_rules.proofs.Fit.{small, ends}
 use Rattle.set_rules.proofs.Lists.{Home}
+use Rattle.tree_rules.specs.Find.{slotsOf}
 
 -- These slots are not free, and their hashes name bin i of a table of len bins.
 abbrev pub Owned : Set → ℕ → ℕ → List ℕ → Type 0
@@ -38,12 +39,12 @@ Owned s len i l = (x : ℕ) → 1 ≤ times x l → (cell (s .cells) x state ≢
 pub record Grown (s : Set) (len i h : ℕ) (t : Tree) : Type 0 where
   pub root : rootAt s h ≢ null
   pub first : firstAt s h ≢ null
-  pub rooted : Rooted (slotsIn s) (s .cells) (rootAt s h) t
+  pub rooted : Rooted (slotsOf (s .names)) (s .cells) (rootAt s h) t
   pub rising : Rising (s .names) (slots t)
   pub hues : Coloured t
   pub even : Level t
   pub count : length (slots t) ≡ countAt s h
-  pub chain : (l : List ℕ) × Chain (slotsIn s) (s .cells) null (firstAt s h) l × (length l ≡ countAt s h) × Owned s len i l
+  pub chain : (l : List ℕ) × Chain (slotsOf (s .names)) (s .cells) null (firstAt s h) l × (length l ≡ countAt s h) × Owned s len i l
   pub home : Home (s .names) len i (slots t)
 
 -- A test that must fail, then others.
@@ -76,7 +77,7 @@ module _ {s : Set} (fit : Fit s) (len i : ℕ) where
       let b = both (treeHome depth (s .names) (s .cells) len i (cell (s .cells) x left)) _ (a .1) in
       (home-asked depth x d e, b .0, b .1)
 
-  home-tree : (depth : ℕ) {q : ℕ} {t : Tree} → Hangs (slotsIn s) (s .cells) q t → treeHome depth (s .names) (s .cells) len i (top t) ≡ true → Home (s .names) len i (slots t)
+  home-tree : (depth : ℕ) {q : ℕ} {t : Tree} → Hangs (slotsOf (s .names)) (s .cells) q t → treeHome depth (s .names) (s .cells) len i (top t) ≡ true → Home (s .names) len i (slots t)
   unfolding slots times
   home-tree depth Hangs.none e = λ x z. absurd (omega arith)
   home-tree zero (Hangs.some {i = x} w a b) e = absurd (omega (arith, small fit, w .inside, none-left x e))
@@ -91,7 +92,7 @@ module _ {s : Set} (fit : Fit s) (len i : ℕ) where
   unfolding treeHome isHome
   one-up depth x d h a b = rw (ne-eqb x null d) (and (eq-eqb _ _ h) (and a b))
 
-  tree-home : (depth : ℕ) {q : ℕ} {t : Tree} → Hangs (slotsIn s) (s .cells) q t → length (slots t) ≤ depth → Home (s .names) len i (slots t)
+  tree-home : (depth : ℕ) {q : ℕ} {t : Tree} → Hangs (slotsOf (s .names)) (s .cells) q t → length (slots t) ≤ depth → Home (s .names) len i (slots t)
       → treeHome depth (s .names) (s .cells) len i (top t) ≡ true
   unfolding treeHome slots
   tree-home zero Hangs.none b h = refl
@@ -118,7 +119,7 @@ module _ {s : Set} (fit : Fit s) (len i : ℕ) where
   unfolding isOwn isHome
   own-is x h = simp (ne-eqb _ _ (h .0), eq-eqb _ _ (h .1))
 
-  own-chain : (v : ℕ) {q x : ℕ} {l : List ℕ} → Chain (slotsIn s) (s .cells) q x l → chainOwn v (s .names) (s .cells) len i x ≡ true → Owned s len i l
+  own-chain : (v : ℕ) {q x : ℕ} {l : List ℕ} → Chain (slotsOf (s .names)) (s .cells) q x l → chainOwn v (s .names) (s .cells) len i x ≡ true → Owned s len i l
   unfolding chainOwn times
   own-chain v (Chain.ended z) e = λ y k. absurd (omega arith)
   own-chain zero (Chain.linked {i = x} b p t) e = absurd (omega (arith, small fit, eqb-true x null e))
@@ -128,7 +129,7 @@ module _ {s : Set} (fit : Fit s) (len i : ℕ) where
       let r = own-chain v t (a .1) in
       λ y k. times-cases y x l k (λ z. rw z h) (r y)
 
-  chain-own : (v : ℕ) {q x : ℕ} {l : List ℕ} → Chain (slotsIn s) (s .cells) q x l → length l ≤ v → Owned s len i l → chainOwn v (s .names) (s .cells) len i x ≡ true
+  chain-own : (v : ℕ) {q x : ℕ} {l : List ℕ} → Chain (slotsOf (s .names)) (s .cells) q x l → length l ≤ v → Owned s len i l → chainOwn v (s .names) (s .cells) len i x ≡ true
   unfolding chainOwn
   chain-own zero (Chain.ended {i = x} z) b o = eq-eqb x null z
   chain-own (suc v) (Chain.ended {i = x} z) b o = rw (eq-eqb x null z)
@@ -138,38 +139,38 @@ module _ {s : Set} (fit : Fit s) (len i : ℕ) where
       (chain-own v t (omega arith) (λ y k. o y (omega (arith, times-rest y x l))))
 
   module _ (h : ℕ) where
-    good-grown : (t : Tree) (m : ℕ) → Rooted (slotsIn s) (s .cells) (rootAt s h) t → length (slots t) ≡ m → {v rest : ℕ} → Obeyed (s .names) (s .cells) (rootAt s h) v rest → treeGood (s .names) (s .cells) len i (rootAt s h) (firstAt s h) (countAt s h) m ≡ true → Grown s len i h t
+    good-grown : (t : Tree) (m : ℕ) → Rooted (slotsOf (s .names)) (s .cells) (rootAt s h) t → length (slots t) ≡ m → {v rest : ℕ} → Obeyed (s .names) (s .cells) (rootAt s h) v rest → treeGood (s .names) (s .cells) len i (rootAt s h) (firstAt s h) (countAt s h) m ≡ true → Grown s len i h t
     unfolding treeGood
     good-grown t m r l o e =
         let a = unless (eqb (rootAt s h) null) _ e in
         let b = unless (eqb (firstAt s h) null) _ (a .1) in
         let c = both (eqb m (countAt s h)) _ (b .1) in
-        let p = both (leaves (slotsIn s) (countAt s h) (chained (slotsIn s) (slotsIn s) (s .cells) null (firstAt s h))) _ (c .1) in
-        let u = left-of (slotsIn s) (countAt s h) _ (p .0) in
-        let k = chained-chain (slotsIn s) (s .cells) (small fit) (firstAt s h) (u .0) (u .1) in
-        let w = both (chainOwn (slotsIn s) (s .names) (s .cells) len i (firstAt s h)) _ (p .1) in
+        let p = both (leaves (slotsOf (s .names)) (countAt s h) (chained (slotsOf (s .names)) (slotsOf (s .names)) (s .cells) null (firstAt s h))) _ (c .1) in
+        let u = left-of (slotsOf (s .names)) (countAt s h) _ (p .0) in
+        let k = chained-chain (slotsOf (s .names)) (s .cells) (small fit) (firstAt s h) (u .0) (u .1) in
+        let w = both (chainOwn (slotsOf (s .names)) (s .names) (s .cells) len i (firstAt s h)) _ (p .1) in
         record {
           root = eqb-false _ _ (a .0);
           first = eqb-false _ _ (b .0);
           rooted = r;
           rising = rises-rising (s .names) (s .cells) (small fit) (rootAt s h) r .0 (o .rise);
-          hues = coloured-coloured (slotsIn s) (s .cells) (small fit) (ends fit) (rootAt s h) r .0 (o .hues);
-          even = level-level (slotsIn s) (s .cells) (small fit) (rootAt s h) r .0 (o .even);
+          hues = coloured-coloured (slotsOf (s .names)) (s .cells) (small fit) (ends fit) (rootAt s h) r .0 (o .hues);
+          even = level-level (slotsOf (s .names)) (s .cells) (small fit) (rootAt s h) r .0 (o .even);
           count = l ∙ eqb-true _ _ (c .0);
-          chain = (k .0, k .1, omega (arith, k .2, u .2), own-chain (slotsIn s) (k .1) (w .0));
-          home = home-tree (slotsIn s) (r .hangs) (rw (r .from) at (w .1));
+          chain = (k .0, k .1, omega (arith, k .2, u .2), own-chain (slotsOf (s .names)) (k .1) (w .0));
+          home = home-tree (slotsOf (s .names)) (r .hangs) (rw (r .from) at (w .1));
         }
 
-    grown-good : (t : Tree) (m : ℕ) → length (slots t) ≡ m → length (slots t) ≤ slotsIn s → Grown s len i h t → treeGood (s .names) (s .cells) len i (rootAt s h) (firstAt s h) (countAt s h) m ≡ true
+    grown-good : (t : Tree) (m : ℕ) → length (slots t) ≡ m → length (slots t) ≤ slotsOf (s .names) → Grown s len i h t → treeGood (s .names) (s .cells) len i (rootAt s h) (firstAt s h) (countAt s h) m ≡ true
     unfolding treeGood
     grown-good t m l b g =
-        let most = chain-most (slotsIn s) (s .cells) (small fit) (firstAt s h) (g .chain .1) in
-        let c : leaves (slotsIn s) (countAt s h) (chained (slotsIn s) (slotsIn s) (s .cells) null (firstAt s h)) ≡ true =
-        rw (chain-chained (slotsIn s) (s .cells) (small fit) (firstAt s h) (g .chain .1))
-        (eq-eqb _ _ (all-but (slotsIn s) (length (g .chain .0)) (countAt s h) most (g .chain .2)))
+        let most = chain-most (slotsOf (s .names)) (s .cells) (small fit) (firstAt s h) (g .chain .1) in
+        let c : leaves (slotsOf (s .names)) (countAt s h) (chained (slotsOf (s .names)) (slotsOf (s .names)) (s .cells) null (firstAt s h)) ≡ true =
+        rw (chain-chained (slotsOf (s .names)) (s .cells) (small fit) (firstAt s h) (g .chain .1))
+        (eq-eqb _ _ (all-but (slotsOf (s .names)) (length (g .chain .0)) (countAt s h) most (g .chain .2)))
         in
-        let o = chain-own (slotsIn s) (g .chain .1) most (g .chain .3) in
-        let k : treeHome (slotsIn s) (s .names) (s .cells) len i (rootAt s h) ≡ true = rw (g .rooted .from) (tree-home (slotsIn s) (g .rooted .hangs) b (g .home)) in
+        let o = chain-own (slotsOf (s .names)) (g .chain .1) most (g .chain .3) in
+        let k : treeHome (slotsOf (s .names)) (s .names) (s .cells) len i (rootAt s h) ≡ true = rw (g .rooted .from) (tree-home (slotsOf (s .names)) (g .rooted .hangs) b (g .home)) in
         besides (ne-eqb _ _ (g .root)) (besides (ne-eqb _ _ (g .first)) (and (eq-eqb _ _ (sym l ∙ g .count)) (and c (and o k))))
 
     pub fine-grown : (v rest : ℕ) → treeFine (s .names) (s .cells) len i (rootAt s h) (firstAt s h) (countAt s h) v ≡ some rest → (t : Tree) × Grown s len i h t × (length (slots t) + rest ≡ v)
@@ -180,7 +181,7 @@ module _ {s : Set} (fit : Fit s) (len i : ℕ) where
             → pick b (some m) none ≡ some rest → (t : Tree) × Grown s len i h t × (length (slots t) + rest ≡ v)
         pass m o false g e = refuted e
         pass m o true g e =
-            let k = reached-tree (slotsIn s) (s .cells) (small fit) (rootAt s h) v m (o .reaches) in
+            let k = reached-tree (slotsOf (s .names)) (s .cells) (small fit) (rootAt s h) v m (o .reaches) in
             let z : m ≡ rest = cc in
             (k .0, good-grown (k .0) (v - m) (k .1) (omega (arith, k .2)) o g, omega (arith, k .2))
 
@@ -192,13 +193,13 @@ module _ {s : Set} (fit : Fit s) (len i : ℕ) where
     grown-obeyed : (v : ℕ) (t : Tree) → Grown s len i h t → length (slots t) ≤ v → Obeyed (s .names) (s .cells) (rootAt s h) v (v - length (slots t))
     grown-obeyed v t g b =
         record {
-          reaches = tree-reached (slotsIn s) (s .cells) (small fit) (rootAt s h) v (g .rooted) b;
+          reaches = tree-reached (slotsOf (s .names)) (s .cells) (small fit) (rootAt s h) v (g .rooted) b;
           rise = rises-rising (s .names) (s .cells) (small fit) (rootAt s h) (g .rooted) .1 (g .rising);
-          hues = coloured-coloured (slotsIn s) (s .cells) (small fit) (ends fit) (rootAt s h) (g .rooted) .1 (g .hues);
-          even = level-level (slotsIn s) (s .cells) (small fit) (rootAt s h) (g .rooted) .1 (g .even);
+          hues = coloured-coloured (slotsOf (s .names)) (s .cells) (small fit) (ends fit) (rootAt s h) (g .rooted) .1 (g .hues);
+          even = level-level (slotsOf (s .names)) (s .cells) (small fit) (rootAt s h) (g .rooted) .1 (g .even);
         }
 
-    pub grown-fine : (v : ℕ) (t : Tree) → Grown s len i h t → length (slots t) ≤ v → length (slots t) ≤ slotsIn s → treeFine (s .names) (s .cells) len i (rootAt s h) (firstAt s h) (countAt s h) v ≡ some (v - length (slots t))
+    pub grown-fine : (v : ℕ) (t : Tree) → Grown s len i h t → length (slots t) ≤ v → length (slots t) ≤ slotsOf (s .names) → treeFine (s .names) (s .cells) len i (rootAt s h) (firstAt s h) (countAt s h) v ≡ some (v - length (slots t))
     unfolding treeFine
     grown-fine v t g b c =
         rw (

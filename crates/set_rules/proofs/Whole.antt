@@ -14,8 +14,8 @@ use Rattle.tree_rules.proofs.Counting.{exactly-length}
 use Rattle.tree_rules.proofs.Reaching.{hangs-stand, hangs-inside}
 use Rattle.index_rules.specs.Sound.{used}
 use Rattle.index_rules.proofs.Rules.{used-hued}
-use Rattle.set_rules.specs.Words.{Set, Fit, tablesOf, slotsIn, Bin, list, tree, binAt}
-use Rattle.set_rules.specs.Accepted.{Accepted, Entry, Holds}
+use Rattle.set_rules.specs.Words.{Set, Fit, tablesOf, Bin, list, tree, binAt}
+use Rattle.set_rules.specs.Accepted.{Accepted, EntryOf, HeldIn}
 use Rattle.set_rules.proofs.Fit.{small}
 use Rattle.set_rules.proofs.Lists.{listed-inside, listed-unique}
 use Rattle.set_rules.specs.Cursor.{Cursor, starts}
@@ -25,6 +25,7 @@ use Rattle.set_rules.specs.Walked.{WholeWalk}
 use Rattle.set_rules.proofs.Giving.{walk-gives}
 use Rattle.set_rules.proofs.Keeping.{Told, told}
 use Rattle.set_rules.proofs.Mapping.{map-claims}
+use Rattle.tree_rules.specs.Find.{slotsOf}
 
 -- What the steps give is one list.
 pub listing-unique : {s : Set} {c : Cursor} {l m : List ℕ} → Listing s c l → Listing s c m → l ≡ m
@@ -37,28 +38,28 @@ listing-unique (Listing.step {x = x} {l} e q) (Listing.step {x = y} {l = m} f r)
 
 module _ (s : Set) (fit : Fit s) (acc : Accepted s) where
   -- An entry is not free.
-  entry-used : {k i x : ℕ} → Entry s k i x → used (s .cells) x ≡ 1
+  entry-used : {k i x : ℕ} → EntryOf s k i x → used (s .cells) x ≡ 1
   entry-used {k} {i} {x} f = go (binAt s k i) refl (f .holds) (f .member)
     where
-      go : (b : Bin) → binAt s k i ≡ b → {m : List ℕ} → Holds s b m → 1 ≤ times x m → used (s .cells) x ≡ 1
-      go (list a) e (Holds.listed h) m =
+      go : (b : Bin) → binAt s k i ≡ b → {m : List ℕ} → HeldIn s b m → 1 ≤ times x m → used (s .cells) x ≡ 1
+      go (list a) e (HeldIn.listed h) m =
           let g = acc .lists k i a (f .place) e in
           used-hued (s .cells) x black (g .plain x (rw (listed-unique s (small fit) h (g .ends)) at m) .states)
-      go (tree a) e (Holds.grown r) m = let d = hangs-stand (slotsIn s) (s .cells) (r .hangs) m in used-hued (s .cells) x (d .hue) (d .words .hued)
+      go (tree a) e (HeldIn.grown r) m = let d = hangs-stand (slotsOf (s .names)) (s .cells) (r .hangs) m in used-hued (s .cells) x (d .hue) (d .words .hued)
 
-  entry-inside : {k i x : ℕ} → Entry s k i x → x < slotsIn s
+  entry-inside : {k i x : ℕ} → EntryOf s k i x → x < slotsOf (s .names)
   entry-inside {k} {i} {x} f = go (f .holds) (f .member)
     where
-      go : {b : Bin} {m : List ℕ} → Holds s b m → 1 ≤ times x m → x < slotsIn s
-      go (Holds.listed h) m = listed-inside s (small fit) h x m
-      go (Holds.grown r) m = hangs-inside (slotsIn s) (s .cells) (r .hangs) m
+      go : {b : Bin} {m : List ℕ} → HeldIn s b m → 1 ≤ times x m → x < slotsOf (s .names)
+      go (HeldIn.listed h) m = listed-inside s (small fit) h x m
+      go (HeldIn.grown r) m = hangs-inside (slotsOf (s .names)) (s .cells) (r .hangs) m
 
   module _ (t : ℕ) (b : t < tablesOf s) where
     abbrev all : Told s fit acc t
     all = told s fit acc t b
 
     -- From table 0 the entries are the slots that are not free.
-    pub held-used : t ≡ 0 → (x : ℕ) → x < slotsIn s → used (s .cells) x ≡ times x (all .held)
+    pub held-used : t ≡ 0 → (x : ℕ) → x < slotsOf (s .names) → used (s .cells) x ≡ times x (all .held)
     held-used z x w = go (ℕ-discrete (cell (s .cells) x state) free) (decLe 1 (times x (all .held)))
       where
         go : Dec (cell (s .cells) x state ≡ free) → Dec (1 ≤ times x (all .held)) → used (s .cells) x ≡ times x (all .held)
@@ -75,7 +76,7 @@ module _ (s : Set) (fit : Fit s) (acc : Accepted s) where
       λ f. omega (arith, all .same x, all .entries x .1 (f .table, f .index, f .later, f .entry)),
     )
 
-    given-used : t ≡ 0 → (x : ℕ) → x < slotsIn s → used (s .cells) x ≡ times x (all .given)
+    given-used : t ≡ 0 → (x : ℕ) → x < slotsOf (s .names) → used (s .cells) x ≡ times x (all .given)
     given-used z x w = held-used z x w ∙ sym (all .same x)
 
     pub whole : WholeWalk s t
@@ -88,7 +89,7 @@ module _ (s : Set) (fit : Fit s) (acc : Accepted s) where
           entries = entries;
           once = λ x. omega (arith, all .same x, all .once x);
           all = given-used;
-          count = λ z. exactly-length (slotsIn s) (all .given) (λ x m. entry-inside (entries x .0 m .entry)) (used (s .cells)) (given-used z);
+          count = λ z. exactly-length (slotsOf (s .names)) (all .given) (λ x m. entry-inside (entries x .0 m .entry)) (used (s .cells)) (given-used z);
           agree =
               λ x. (let u = map-claims s fit acc .at t (nameOf (s .names) x hashPart) (nameOf (s .names) x keyPart) x b in
               (λ h. u .1 (entries x .0 h, refl), λ e. entries x .1 (u .0 e .0)));

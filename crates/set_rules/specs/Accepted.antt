@@ -12,7 +12,8 @@ use Rattle.tree_rules.specs.Tree.{Tree, slots, times, Rooted, Shaped}
 use Rattle.tree_rules.specs.Chain.{Chain}
 use Rattle.index_rules.specs.Live.{Live}
 use Rattle.index_rules.specs.Sound.{Cleared}
-use Rattle.set_rules.specs.Words.{Set, tablesOf, lengthAt, slotsIn, headersIn, rootAt, firstAt, countAt, Bin, empty, moved, bad, list, tree, binAt, bini}
+use Rattle.set_rules.specs.Words.{Set, tablesOf, lengthAt, headersIn, rootAt, firstAt, countAt, Bin, empty, moved, bad, list, tree, binAt, bini}
+use Rattle.tree_rules.specs.Find.{slotsOf}
 
 -- The slots of the set, as a live tree has them.
 abbrev pub slotted : Set → Live
@@ -29,15 +30,15 @@ pub data Listed (n : ℕ) (cells : List ℕ) : ℕ → List ℕ → Type 0 where
   onward : {i : ℕ} {l : List ℕ} → i < n → Listed n cells (cell cells i next) l → Listed n cells i (i ∷ l)
 
 -- The slots that a bin holds: those of its list, or those reached from the root of its tree.
-pub data Holds (s : Set) : Bin → List ℕ → Type 0 where
-  listed : {i : ℕ} {l : List ℕ} → Listed (slotsIn s) (s .cells) i l → Holds s (list i) l
-  grown : {h : ℕ} {t : Tree} → Rooted (slotsIn s) (s .cells) (rootAt s h) t → Holds s (tree h) (slots t)
+pub data HeldIn (s : Set) : Bin → List ℕ → Type 0 where
+  listed : {i : ℕ} {l : List ℕ} → Listed (slotsOf (s .names)) (s .cells) i l → HeldIn s (list i) l
+  grown : {h : ℕ} {t : Tree} → Rooted (slotsOf (s .names)) (s .cells) (rootAt s h) t → HeldIn s (tree h) (slots t)
 
 -- Slot x is an entry of bin i of table k.
-pub record Entry (s : Set) (k i x : ℕ) : Type 0 where
+pub record EntryOf (s : Set) (k i x : ℕ) : Type 0 where
   pub place : Place s k i
   pub held : List ℕ
-  pub holds : Holds s (binAt s k i) held
+  pub holds : HeldIn s (binAt s k i) held
   pub member : 1 ≤ times x held
 
 -- "no bin word is bad"
@@ -46,8 +47,8 @@ NoneBad s = (k i : ℕ) → Place s k i → binAt s k i ≢ bad
 
 -- "states are 0, 1 or 2 and links null or name a slot"
 pub record SlotWords (s : Set) : Type 0 where
-  pub states : (x : ℕ) → x < slotsIn s → cell (s .cells) x state ≤ 2
-  pub links : (x : ℕ) → x < slotsIn s → LinksNamed (slotsIn s) (s .cells) x
+  pub states : (x : ℕ) → x < slotsOf (s .names) → cell (s .cells) x state ≤ 2
+  pub links : (x : ℕ) → x < slotsOf (s .names) → LinksNamed (slotsOf (s .names)) (s .cells) x
 
 -- "the last table has no Moved"
 abbrev pub LastUnmoved : Set → Type 0
@@ -59,7 +60,7 @@ ParentMoved s = (k i : ℕ) → Place s (suc k) i → binAt s k (i % lengthAt s 
 
 -- "every entry lies in the bin its hash names"
 abbrev pub EntriesHome : Set → Type 0
-EntriesHome s = (k i x : ℕ) → Entry s k i x → bini (lengthAt s k) (nameOf (s .names) x hashPart) ≡ i
+EntriesHome s = (k i x : ℕ) → EntryOf s k i x → bini (lengthAt s k) (nameOf (s .names) x hashPart) ≡ i
 
 -- "no head is used by two bins": neither a list's nor a tree's.
 pub record HeadsOnce (s : Set) : Type 0 where
@@ -86,7 +87,7 @@ pub record ListSlot (cells : List ℕ) (x : ℕ) : Type 0 where
 -- "lists end and repeat no pair, and a list slot has state 1 and only its next link set"
 pub record GoodList (s : Set) (a : ℕ) : Type 0 where
   pub visits : List ℕ
-  pub ends : Listed (slotsIn s) (s .cells) a visits
+  pub ends : Listed (slotsOf (s .names)) (s .cells) a visits
   pub apart : Apart (s .names) visits
   pub plain : (x : ℕ) → 1 ≤ times x visits → ListSlot (s .cells) x
 
@@ -108,9 +109,9 @@ GoodTrees s = (k i h : ℕ) → Place s k i → binAt s k i ≡ tree h → Shape
 -- "its chain has as many slots as the tree, prev the reverse of next"; as E3 mends it, "a tree's chain visits exactly that tree's slots".
 pub record GoodChain (s : Set) (k i h : ℕ) : Type 0 where
   pub visits : List ℕ
-  pub linked : Chain (slotsIn s) (s .cells) null (firstAt s h) visits
+  pub linked : Chain (slotsOf (s .names)) (s .cells) null (firstAt s h) visits
   pub count : length visits ≡ countAt s h
-  pub own : (x : ℕ) → (1 ≤ times x visits) ↔ Entry s k i x
+  pub own : (x : ℕ) → (1 ≤ times x visits) ↔ EntryOf s k i x
 
 abbrev pub GoodChains : Set → Type 0
 GoodChains s = (k i h : ℕ) → Place s k i → binAt s k i ≡ tree h → GoodChain s k i h
@@ -119,13 +120,13 @@ GoodChains s = (k i h : ℕ) → Place s k i → binAt s k i ≡ tree h → Good
 pub record InOne (s : Set) (x : ℕ) : Type 0 where
   pub table : ℕ
   pub index : ℕ
-  pub entry : Entry s table index x
-  pub only : (k i : ℕ) → Entry s k i x → (k ≡ table) × (i ≡ index)
+  pub entry : EntryOf s table index x
+  pub only : (k i : ℕ) → EntryOf s k i x → (k ≡ table) × (i ≡ index)
 
 -- "every used slot is in one list or tree, and free slots are cleared"
 pub record Slots (s : Set) : Type 0 where
-  pub used : (x : ℕ) → x < slotsIn s → cell (s .cells) x state ≢ free → InOne s x
-  pub cleared : (x : ℕ) → x < slotsIn s → cell (s .cells) x state ≡ free → Cleared (slotted s) x
+  pub used : (x : ℕ) → x < slotsOf (s .names) → cell (s .cells) x state ≢ free → InOne s x
+  pub cleared : (x : ℕ) → x < slotsOf (s .names) → cell (s .cells) x state ≡ free → Cleared (slotted s) x
 
 pub record Accepted (s : Set) : Type 0 where
   pub none-bad : NoneBad s

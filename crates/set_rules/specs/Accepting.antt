@@ -11,7 +11,7 @@ use Rattle.tree_rules.specs.Find.{slotsOf}
 use Rattle.tree_rules.specs.Rules.{then, obeyed}
 use Rattle.tree_rules.specs.Chain.{chained, tally}
 use Rattle.index_rules.specs.Sound.{used, slotsFine, leaves}
-use Rattle.set_rules.specs.Words.{Set, tablesOf, lengthAt, slotsIn, headersIn, rootAt, firstAt, countAt, fits}
+use Rattle.set_rules.specs.Words.{Set, tablesOf, lengthAt, headersIn, rootAt, firstAt, countAt, fits}
 use Rattle.set_rules.specs.Words.{Bin, empty, moved, bad, list, tree, binOf, binAt, bini}
 use Rattle.set_rules.specs.Accepted.{slotted}
 
@@ -85,12 +85,12 @@ treeFine names cells len i root first count v =
     then (obeyed names cells root v) (λ rest. pick (treeGood names cells len i root first count (v - rest)) (some rest) none)
 
 -- A bin may stand where it does: it is not bad, it is empty unless it `may` hold something, and a Moved one has tables after its own.
-unfoldable pub placed : Bin → Bool → ℕ → Bool
-placed empty may left = true
-placed moved may left = pick (eqb left 0) false may
-placed (list a) may left = may
-placed (tree h) may left = may
-placed bad may left = false
+unfoldable pub wellPlaced : Bin → Bool → ℕ → Bool
+wellPlaced empty may left = true
+wellPlaced moved may left = pick (eqb left 0) false may
+wellPlaced (list a) may left = may
+wellPlaced (tree h) may left = may
+wellPlaced bad may left = false
 
 -- The list or tree of a bin, with v visits left.
 unfoldable pub ownFine : Set → ℕ → ℕ → Bin → ℕ → Value
@@ -109,7 +109,7 @@ isMoved bad = false
 
 -- A bin, where so many tables come after its own, with the check of the two bins below it: these may hold something where it is Moved.
 unfoldable pub binAsks : Set → ℕ → ℕ → ℕ → (Bool → ℕ → Value) → Bool → ℕ → Bin → Value
-binAsks s left k i below may v b = pick (placed b may left) (then (ownFine s (lengthAt s k) i b v) (below (isMoved b))) none
+binAsks s left k i below may v b = pick (wellPlaced b may left) (then (ownFine s (lengthAt s k) i b v) (below (isMoved b))) none
 
 -- The check of the two bins below bin i of table k, and of a bin: they ask each other, the tables left falling.
 unfoldable pub belowFine : ℕ → Set → ℕ → ℕ → Bool → ℕ → Value
@@ -152,11 +152,11 @@ headersFine n h heads bins = eqb (tally h (filled heads)) (tally (length bins) (
 
 -- The bins hold as many slots as are not free: the visits used are as many.
 unfoldable pub allHeld : Set → Bool
-allHeld s = leaves (slotsIn s) (tally (slotsIn s) (used (s .cells))) (tableFine (lengthAt s 0) s (slotsIn s))
+allHeld s = leaves (slotsOf (s .names)) (tally (slotsOf (s .names)) (used (s .cells))) (tableFine (lengthAt s 0) s (slotsOf (s .names)))
 
 -- The whole check.
 unfoldable pub accepted : Set → Bool
-accepted s = slotsFine (slotsIn s) (slotsIn s) (slotted s) and headersFine (slotsIn s) (headersIn s) (s .heads) (s .bins) and allHeld s
+accepted s = slotsFine (slotsOf (s .names)) (slotsOf (s .names)) (slotted s) and headersFine (slotsOf (s .names)) (headersIn s) (s .heads) (s .bins) and allHeld s
 
 -- "The full check and acceptance give 1, or else yes or no": yes is 1, no is 0.
 unfoldable pub accepts : Set → Answer

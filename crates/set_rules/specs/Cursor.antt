@@ -9,7 +9,8 @@ use lib.Dec.{eqb, ltb}
 use Rattle.slots.specs.Words.{null, pick, _and_}
 use Rattle.slots.specs.Answers.{Answer, given, refused}
 use Rattle.tree_rules.specs.Check.{inRange}
-use Rattle.set_rules.specs.Words.{Set, tablesOf, lengthAt, slotsIn, fits}
+use Rattle.set_rules.specs.Words.{Set, tablesOf, lengthAt, fits}
+use Rattle.tree_rules.specs.Find.{slotsOf}
 
 -- "It holds base table, depth, eight indexes, the first the base index .., and the slot last given."
 pub record Cursor : Type 0 where
@@ -54,7 +55,7 @@ pub data BadCursor (s : Set) (c : Cursor) : Type 0 where
   not-congruent : (j : ℕ) → j < c .depth
       → indexAt c (suc j) % lengthAt s (c .base + j) ≢ indexAt c j % lengthAt s (c .base + j)
       → BadCursor s c
-  stray-last : c .last ≢ null → slotsIn s ≤ c .last → BadCursor s c
+  stray-last : c .last ≢ null → slotsOf (s .names) ≤ c .last → BadCursor s c
 
 -- An index below one at i, in a table of `lower` bins under one of `upper`: the same, or that plus the upper length.
 unfoldable pub levelFine : ℕ → ℕ → ℕ → ℕ → Bool
@@ -79,4 +80,4 @@ fine lengths n base depth x last =
     and inRange n last
 
 abbrev pub fineCursor : Set → Cursor → Bool
-fineCursor s c = fine (s .lengths) (slotsIn s) (c .base) (c .depth) (c .indexes) (c .last)
+fineCursor s c = fine (s .lengths) (slotsOf (s .names)) (c .base) (c .depth) (c .indexes) (c .last)

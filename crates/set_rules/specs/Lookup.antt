@@ -47,27 +47,27 @@ lookups s t hash key =
     pick (fits s) (pick (ltb t (tablesOf s)) (forwarded (tablesOf s - t) s t hash key) (refused 10)) (refused 1)
 
 -- A list from first is read up to the link p once k slots are visited, none of which has the pair.
-pub data Follows (names cells : List ℕ) (first hash key : ℕ) : ℕ → ℕ → Type 0 where
-  start : Follows names cells first hash key 0 first
+pub data ListFollows (names cells : List ℕ) (first hash key : ℕ) : ℕ → ℕ → Type 0 where
+  start : ListFollows names cells first hash key 0 first
   step : {k p : ℕ}
-      → Follows names cells first hash key k p
+      → ListFollows names cells first hash key k p
       → p ≢ null
       → p < slotsOf names
       → pairOf names p ≢ pair hash key
-      → Follows names cells first hash key (suc k) (cell cells p next)
+      → ListFollows names cells first hash key (suc k) (cell cells p next)
 
 -- "a read follows a link neither null nor a slot .., or would visit one slot more than there are slots"
 pub record ListLost (names cells : List ℕ) (first hash key : ℕ) : Type 0 where
   pub visited : ℕ
   pub link : ℕ
-  pub follows : Follows names cells first hash key visited link
+  pub follows : ListFollows names cells first hash key visited link
   pub solid : link ≢ null
   pub astray : (slotsOf names ≤ link) ⊎ (slotsOf names ≤ visited)
 
 -- A slot read that has the pair.
 pub record ListHere (names cells : List ℕ) (first hash key slot : ℕ) : Type 0 where
   pub visited : ℕ
-  pub follows : Follows names cells first hash key visited slot
+  pub follows : ListFollows names cells first hash key visited slot
   pub solid : slot ≢ null
   pub inside : slot < slotsOf names
   pub timely : visited < slotsOf names
@@ -76,28 +76,28 @@ pub record ListHere (names cells : List ℕ) (first hash key slot : ℕ) : Type 
 -- A null link read while visits are left.
 pub record ListMissed (names cells : List ℕ) (first hash key : ℕ) : Type 0 where
   pub visited : ℕ
-  pub follows : Follows names cells first hash key visited null
+  pub follows : ListFollows names cells first hash key visited null
   pub timely : visited ≤ slotsOf names
 
 -- The loop from table t comes to the bin of table k: that of t, and below a Moved one that of the next table.
-pub data Comes (s : Set) (t hash : ℕ) : ℕ → Type 0 where
-  start : Comes s t hash t
-  down : {k : ℕ} → Comes s t hash k → homeBin s k hash ≡ moved → suc k < tablesOf s → Comes s t hash (suc k)
+pub data Reaches (s : Set) (t hash : ℕ) : ℕ → Type 0 where
+  start : Reaches s t hash t
+  down : {k : ℕ} → Reaches s t hash k → homeBin s k hash ≡ moved → suc k < tablesOf s → Reaches s t hash (suc k)
 
 -- 9: "a bad bin word or Moved in the last table", or a list or a tree that is lost.
 pub data Astray (s : Set) (t hash key : ℕ) : Type 0 where
-  bad-bin : {k : ℕ} → Comes s t hash k → homeBin s k hash ≡ bad → Astray s t hash key
-  moved-last : {k : ℕ} → Comes s t hash k → homeBin s k hash ≡ moved → tablesOf s ≤ suc k → Astray s t hash key
-  in-list : {k p : ℕ} → Comes s t hash k → homeBin s k hash ≡ list p → ListLost (s .names) (s .cells) p hash key → Astray s t hash key
-  in-tree : {k h : ℕ} → Comes s t hash k → homeBin s k hash ≡ tree h → Lost (s .names) (s .cells) (rootAt s h) hash key → Astray s t hash key
+  bad-bin : {k : ℕ} → Reaches s t hash k → homeBin s k hash ≡ bad → Astray s t hash key
+  moved-last : {k : ℕ} → Reaches s t hash k → homeBin s k hash ≡ moved → tablesOf s ≤ suc k → Astray s t hash key
+  in-list : {k p : ℕ} → Reaches s t hash k → homeBin s k hash ≡ list p → ListLost (s .names) (s .cells) p hash key → Astray s t hash key
+  in-tree : {k h : ℕ} → Reaches s t hash k → homeBin s k hash ≡ tree h → Lost (s .names) (s .cells) (rootAt s h) hash key → Astray s t hash key
 
 -- The slot: where the bin that the loop comes to has it.
 pub data Hit (s : Set) (t hash key slot : ℕ) : Type 0 where
-  in-list : {k p : ℕ} → Comes s t hash k → homeBin s k hash ≡ list p → ListHere (s .names) (s .cells) p hash key slot → Hit s t hash key slot
-  in-tree : {k h : ℕ} → Comes s t hash k → homeBin s k hash ≡ tree h → Here (s .names) (s .cells) (rootAt s h) hash key slot → Hit s t hash key slot
+  in-list : {k p : ℕ} → Reaches s t hash k → homeBin s k hash ≡ list p → ListHere (s .names) (s .cells) p hash key slot → Hit s t hash key slot
+  in-tree : {k h : ℕ} → Reaches s t hash k → homeBin s k hash ≡ tree h → Here (s .names) (s .cells) (rootAt s h) hash key slot → Hit s t hash key slot
 
 -- Nothing: where that bin is empty, or its list or tree ends.
 pub data Miss (s : Set) (t hash key : ℕ) : Type 0 where
-  in-none : {k : ℕ} → Comes s t hash k → homeBin s k hash ≡ empty → Miss s t hash key
-  in-list : {k p : ℕ} → Comes s t hash k → homeBin s k hash ≡ list p → ListMissed (s .names) (s .cells) p hash key → Miss s t hash key
-  in-tree : {k h : ℕ} → Comes s t hash k → homeBin s k hash ≡ tree h → Missed (s .names) (s .cells) (rootAt s h) hash key → Miss s t hash key
+  in-none : {k : ℕ} → Reaches s t hash k → homeBin s k hash ≡ empty → Miss s t hash key
+  in-list : {k p : ℕ} → Reaches s t hash k → homeBin s k hash ≡ list p → ListMissed (s .names) (s .cells) p hash key → Miss s t hash key
+  in-tree : {k h : ℕ} → Reaches s t hash k → homeBin s k hash ≡ tree h → Missed (s .names) (s .cells) (rootAt s h) hash key → Miss s t hash key

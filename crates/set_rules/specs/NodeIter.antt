@@ -9,8 +9,9 @@ use lib.ListN.{getD}
 use lib.Dec.{eqb, ltb, leb}
 use Rattle.slots.specs.Words.{null, pick, next, cell}
 use Rattle.slots.specs.Answers.{given, nothing, refused}
-use Rattle.set_rules.specs.Words.{Set, tablesOf, lengthAt, slotsIn, firstAt, Bin, empty, moved, bad, list, tree, binAt}
+use Rattle.set_rules.specs.Words.{Set, tablesOf, lengthAt, firstAt, Bin, empty, moved, bad, list, tree, binAt}
 use Rattle.set_rules.specs.Cursor.{Cursor, indexAt, Step}
+use Rattle.tree_rules.specs.Find.{slotsOf}
 
 -- TableStack: a table that was left by a Moved bin, the index of that bin, and the table's length.
 pub record Frame : Type 0 where
@@ -58,7 +59,7 @@ matched s size it empty rest = rest (proceeds s size it)
 matched s size it moved rest = pick (ltb (suc (it .table)) (tablesOf s)) (rest (pushed s it)) stuck
 matched s size it bad rest = stuck
 matched s size it (list x) rest = yields x (proceeds s size it)
-matched s size it (tree h) rest = pick (ltb (firstAt s h) (slotsIn s)) (yields (firstAt s h) (proceeds s size it)) stuck
+matched s size it (tree h) rest = pick (ltb (firstAt s h) (slotsOf (s .names))) (yields (firstAt s h) (proceeds s size it)) stuck
 
 -- Its loop, for so many turns.
 unfoldable pub looped : ℕ → Set → ℕ → Iter → Yield
@@ -70,7 +71,7 @@ looped (suc turns) s size it =
 abbrev pub called : ℕ → Set → ℕ → Iter → ℕ → Yield
 called turns s size it prev =
     let link = cell (s .cells) prev next in
-    pick (eqb link null) (looped turns s size it) (pick (ltb link (slotsIn s)) (yields link it) stuck)
+    pick (eqb link null) (looped turns s size it) (pick (ltb link (slotsOf (s .names))) (yields link it) stuck)
 
 -- A cursor as such a state: the frames of the levels above d.
 unfoldable pub frames : Set → ℕ → ℕ → List ℕ → List Frame

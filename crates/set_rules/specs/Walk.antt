@@ -7,8 +7,9 @@ use lib.ListN.{length, getD, set}
 use lib.Dec.{eqb, ltb, leb}
 use Rattle.slots.specs.Words.{null, pick, next, cell}
 use Rattle.slots.specs.Answers.{given, nothing, refused}
-use Rattle.set_rules.specs.Words.{Set, tablesOf, lengthAt, slotsIn, firstAt, fits, Bin, empty, moved, bad, list, tree, binAt}
+use Rattle.set_rules.specs.Words.{Set, tablesOf, lengthAt, firstAt, fits, Bin, empty, moved, bad, list, tree, binAt}
 use Rattle.set_rules.specs.Cursor.{Cursor, lone, Step, fineCursor}
+use Rattle.tree_rules.specs.Find.{slotsOf}
 
 -- Where a step stands: a depth, and the index at each level down to it. The deepest names the bin to be read.
 pub record Place : Type 0 where
@@ -49,7 +50,7 @@ advanced (suc d) lengths base x =
     (advanced d lengths base (set x (suc d) 0))
 
 -- A place that a step may stand at: its table is there, and each index is below its table's length, or at depth 0 the base index is the end.
-pub record Stands (lengths : List ℕ) (base : ℕ) (p : Place) : Type 0 where
+pub record InTables (lengths : List ℕ) (base : ℕ) (p : Place) : Type 0 where
   pub eight : length (p .indexes) ≡ 8
   pub few : length lengths ≤ 8
   pub twice : (k : ℕ) → suc k < length lengths → getD lengths (suc k) 0 ≡ 2 * getD lengths k 0
@@ -71,19 +72,19 @@ abbrev pub taken : Set → ℕ → Place → ℕ → Sought
 taken s base p x = at x (onward s base p)
 
 -- One turn of it: the bin at the place p. A tree is walked from first, which is to be a slot.
-abbrev pub turned : Set → ℕ → Place → Bin → (Place → Sought) → Sought
-turned s base p empty rest = rest (onward s base p)
-turned s base p moved rest = pick (ltb (base + p .depth + 1) (tablesOf s)) (rest (below s base p)) lost
-turned s base p bad rest = lost
-turned s base p (list x) rest = taken s base p x
-turned s base p (tree h) rest = pick (ltb (firstAt s h) (slotsIn s)) (taken s base p (firstAt s h)) lost
+abbrev pub entered : Set → ℕ → Place → Bin → (Place → Sought) → Sought
+entered s base p empty rest = rest (onward s base p)
+entered s base p moved rest = pick (ltb (base + p .depth + 1) (tablesOf s)) (rest (below s base p)) lost
+entered s base p bad rest = lost
+entered s base p (list x) rest = taken s base p x
+entered s base p (tree h) rest = pick (ltb (firstAt s h) (slotsOf (s .names))) (taken s base p (firstAt s h)) lost
 
 -- The loop, with so many turns left.
 unfoldable pub sought : ℕ → Set → ℕ → Place → Sought
 sought zero s base p = ended
 sought (suc turns) s base p =
     pick (leb (lengthAt s (base + p .depth)) (deepest p)) ended
-    (turned s base p (binHere s base p) (λ q. sought turns s base q))
+    (entered s base p (binHere s base p) (λ q. sought turns s base q))
 
 -- How many bins hang below a bin with so many tables left, itself counted.
 unfoldable pub under : ℕ → ℕ
@@ -108,13 +109,13 @@ abbrev pub standing : Cursor → Place
 standing c = place (c .depth) (trimmed (c .depth) (c .indexes))
 
 -- A step from a cursor that is not bad: "the last slot's next, if any, comes first".
-unfoldable pub walked : Set → Cursor → Step
-walked s c =
+unfoldable pub stepsOn : Set → Cursor → Step
+stepsOn s c =
     let link = cell (s .cells) (c .last) next in
     pick (eqb link null) (stepped s c (sought (turnsIn s (c .base)) s (c .base) (standing c)))
-    (pick (ltb link (slotsIn s)) (stepped s c (at link (standing c))) (stepped s c lost))
+    (pick (ltb link (slotsOf (s .names))) (stepped s c (at link (standing c))) (stepped s c lost))
 
 -- "walk 1, 11, then 9", and a refusal hands back the same cursor.
 unfoldable pub nexts : Set → Cursor → Step
 nexts s c =
-    pick (fits s) (pick (fineCursor s c) (walked s c) (record { answer = refused 11; cursor = c })) (record { answer = refused 1; cursor = c })
+    pick (fits s) (pick (fineCursor s c) (stepsOn s c) (record { answer = refused 11; cursor = c })) (record { answer = refused 1; cursor = c })

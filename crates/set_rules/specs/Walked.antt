@@ -10,15 +10,16 @@ use Rattle.slots.specs.Answers.{given, nothing, refused}
 use Rattle.tree_rules.specs.Tree.{times}
 use Rattle.tree_rules.specs.Chain.{tally}
 use Rattle.index_rules.specs.Sound.{used}
-use Rattle.set_rules.specs.Words.{Set, tablesOf, lengthAt, slotsIn, Fit}
+use Rattle.set_rules.specs.Words.{Set, tablesOf, lengthAt, Fit}
 use Rattle.set_rules.specs.Accepted.{Accepted}
 use Rattle.set_rules.specs.Lookup.{lookups, Astray, Hit, Miss}
 use Rattle.set_rules.specs.Cursor.{Cursor, Step, indexAt, lone, blank, starts, BadCursor}
 use Rattle.set_rules.specs.Walk.{nexts}
 use Rattle.set_rules.specs.Ways.{Strays, Steps}
 use Rattle.set_rules.specs.NodeIter.{called, stateOf, IsCall}
-use Rattle.set_rules.specs.Held.{Reached, EntryFrom, Made, after}
+use Rattle.set_rules.specs.Held.{Reached, EntryFrom, Made, cursorAfter}
 use Rattle.set_rules.specs.Whole.{Onward, Listing}
+use Rattle.tree_rules.specs.Find.{slotsOf}
 
 -- Lookup on any words: "lookup and start 1, 10, then 9", each exactly when, and else what the bin says that the loop comes to.
 pub record Lookups (s : Set) (t hash key : ℕ) : Type 0 where
@@ -56,7 +57,7 @@ pub record Nexts (s : Set) (c : Cursor) : Type 0 where
 -- The walk of an accepted set: no step is refused, and repeated steps reach Done.
 pub record Walks (s : Set) (c : Cursor) : Type 0 where
   pub never : (n : ℕ) → 1 ≤ n → nexts s c .answer ≢ refused n
-  pub ends : (n : ℕ) × (nexts s (after n s c) .answer ≡ nothing)
+  pub ends : (n : ℕ) × (nexts s (cursorAfter n s c) .answer ≡ nothing)
 
 -- Lookup on an accepted set is the set's map: from table t it answers x exactly if x is an entry of table t or of a later one and has the
 -- pair, so from table 0 exactly if x is an entry, in whatever bin; and no two entries have one pair.
@@ -73,12 +74,12 @@ pub record WholeWalk (s : Set) (t : ℕ) : Type 0 where
   -- they are what the rules say of the bins, in that order: bins as the walk comes to them, a list by next, a tree from first by next
   pub order : (l : List ℕ) → Onward s t 0 l ↔ (l ≡ given-slots)
   -- from table 0: as many as the slots that are not free
-  pub count : t ≡ 0 → length given-slots ≡ tally (slotsIn s) (used (s .cells))
+  pub count : t ≡ 0 → length given-slots ≡ tally (slotsOf (s .names)) (used (s .cells))
   -- they are the entries of table t and of those below, and no slot is given twice
   pub entries : (x : ℕ) → (1 ≤ times x given-slots) ↔ EntryFrom s t x
   pub once : (x : ℕ) → times x given-slots ≤ 1
   -- from table 0: every slot that is not free, once
-  pub all : t ≡ 0 → (x : ℕ) → x < slotsIn s → used (s .cells) x ≡ times x given-slots
+  pub all : t ≡ 0 → (x : ℕ) → x < slotsOf (s .names) → used (s .cells) x ≡ times x given-slots
   -- lookup and walk agree: a slot is given exactly if lookup of its own pair answers it
   pub agree : (x : ℕ) → (1 ≤ times x given-slots) ↔ (lookups s t (nameOf (s .names) x hashPart) (nameOf (s .names) x keyPart) ≡ given x)
 

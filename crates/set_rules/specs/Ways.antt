@@ -6,9 +6,10 @@ use Prim.Native.Nat.{ℕ, suc, _+_, _<_, _≤_}
 use lib.ListN.{length, getD, set}
 use Rattle.slots.specs.Words.{null, next, cell}
 use Rattle.slots.specs.Answers.{given, nothing, refused}
-use Rattle.set_rules.specs.Words.{Set, tablesOf, lengthAt, slotsIn, firstAt, Bin, empty, moved, bad, list, tree, binAt}
+use Rattle.set_rules.specs.Words.{Set, tablesOf, lengthAt, firstAt, Bin, empty, moved, bad, list, tree, binAt}
 use Rattle.set_rules.specs.Cursor.{Cursor, indexAt, Step}
 use Rattle.set_rules.specs.Walk.{Place}
+use Rattle.tree_rules.specs.Find.{slotsOf}
 
 -- A place of so many levels below the base table, with these indexes.
 abbrev pub spot : ℕ → List ℕ → Place
@@ -67,11 +68,11 @@ pub record Reads (s : Set) (c : Cursor) (b : Bin) (p : Place) : Type 0 where
 -- word or Moved in the last table, or would visit one slot more than there are slots". The last never holds of a step: it visits the one
 -- slot that it gives.
 pub data Strays (s : Set) (c : Cursor) : Type 0 where
-  stray-next : cell (s .cells) (c .last) next ≢ null → slotsIn s ≤ cell (s .cells) (c .last) next → Strays s c
+  stray-next : cell (s .cells) (c .last) next ≢ null → slotsOf (s .names) ≤ cell (s .cells) (c .last) next → Strays s c
   bad-bin : {p : Place} → Reads s c bad p → Strays s c
   moved-last : {p : Place} → Reads s c moved p → tablesOf s ≤ c .base + suc (p .depth) → Strays s c
   no-first : {p : Place} {h : ℕ} → Reads s c (tree h) p → firstAt s h ≡ null → Strays s c
-  stray-first : {p : Place} {h : ℕ} → Reads s c (tree h) p → firstAt s h ≢ null → slotsIn s ≤ firstAt s h → Strays s c
+  stray-first : {p : Place} {h : ℕ} → Reads s c (tree h) p → firstAt s h ≢ null → slotsOf (s .names) ≤ firstAt s h → Strays s c
 
 -- The cursor at a place, with the slot given.
 abbrev pub moved-to : Cursor → Place → ℕ → Cursor
@@ -80,12 +81,12 @@ moved-to c p x = record { base = c .base; depth = p .depth; indexes = p .indexes
 -- What a step from a cursor that is not bad answers, and the cursor that comes back.
 pub data Steps (s : Set) (c : Cursor) : Step → Type 0 where
   -- "the last slot's next, if any, comes first"
-  by-next : {from : Place} {x : ℕ} → Begins c from → cell (s .cells) (c .last) next ≡ x → x ≢ null → x < slotsIn s
+  by-next : {from : Place} {x : ℕ} → Begins c from → cell (s .cells) (c .last) next ≡ x → x ≢ null → x < slotsOf (s .names)
       → Steps s c (record { answer = given x; cursor = moved-to c from x })
   by-list : {p q : Place} {x : ℕ} → Reads s c (list x) p → After s (c .base) p q
       → Steps s c (record { answer = given x; cursor = moved-to c q x })
   -- "A tree is walked from first by next."
-  by-tree : {p q : Place} {h : ℕ} → Reads s c (tree h) p → firstAt s h < slotsIn s → After s (c .base) p q
+  by-tree : {p q : Place} {h : ℕ} → Reads s c (tree h) p → firstAt s h < slotsOf (s .names) → After s (c .base) p q
       → Steps s c (record { answer = given (firstAt s h); cursor = moved-to c q (firstAt s h) })
   -- "Base index equal to the base length, at depth 0, is the end: with no such next it is Done, last slot then null"
   by-end : {from p : Place} → Begins c from → cell (s .cells) (c .last) next ≡ null → Comes s (c .base) from p → p .depth ≡ 0 → index p ≡ lengthAt s (c .base)

@@ -7,6 +7,7 @@ use lib.ListN.{length, getD}
 use lib.Dec.{eqb, leb, ltb}
 use lib.Bits.{bitAnd}
 use Rattle.slots.specs.Words.{null, pick, _and_, mostSlots}
+use Rattle.tree_rules.specs.Find.{slotsOf}
 
 -- `lengths`: the number of bins of each table; `bins`: all tables' bins in a row; `heads`: root, first and count of each tree header;
 -- `names` and `cells`: the slots, as in a live tree.
@@ -27,9 +28,6 @@ tablesOf s = length (s .lengths)
 -- The number of bins of table k; 0 where there is no such table.
 abbrev pub lengthAt : Set → ℕ → ℕ
 lengthAt s k = getD (s .lengths) k 0
-
-abbrev pub slotsIn : Set → ℕ
-slotsIn s = length (s .names) / 2
 
 abbrev pub headersIn : Set → ℕ
 headersIn s = length (s .heads) / 3
@@ -89,7 +87,7 @@ fitTables lengths =
 -- The test of `Fit`.
 unfoldable pub fits : Set → Bool
 fits s =
-    let n = slotsIn s in
+    let n = slotsOf (s .names) in
     let h = headersIn s in
     fitTables (s .lengths)
     and eqb (length (s .bins)) (begins (s .lengths) (tablesOf s))
@@ -118,7 +116,7 @@ binOf n h w =
     (pick (leb w 8193) (pick (ltb (w - firstTree) h) (tree (w - firstTree)) bad) bad)))
 
 abbrev pub binAt : Set → ℕ → ℕ → Bin
-binAt s k i = binOf (slotsIn s) (headersIn s) (binWord s k i)
+binAt s k i = binOf (slotsOf (s .names)) (headersIn s) (binWord s k i)
 
 -- "The bin for a hash is hash AND (length-1)."
 unfoldable pub bini : ℕ → ℕ → ℕ

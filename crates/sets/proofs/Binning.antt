@@ -79,7 +79,6 @@ binning =
       bini-one = λ len hash a b p q. home-one-to-one a b (p ∙ sym q);
       index-one = λ len hash a b p q. p ∙ sym q;
       bin-word-one = λ lengths bins k i a b p q. p ∙ sym q;
-      header-one = λ heads h f a b p q. p ∙ sym q;
       length-at-one = λ lengths k a b p q. p ∙ sym q;
       bins-before-one = λ lengths k a b p q. p ∙ sym q;
       fit-set-one = λ s a b p q. p ∙ sym q;

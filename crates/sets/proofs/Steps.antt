@@ -13,7 +13,7 @@ use Rattle.slots.specs.Answers.{Value, none, some}
 use Rattle.tree_rules.specs.Rules.{then}
 use Rattle.set_rules.specs.Words.{Set, fits, tablesOf, lengthAt, Bin, empty, moved, bad, list, tree, binAt}
 use Rattle.set_rules.specs.Accepting.{isHome, samePair, unlike, listSlotFine, listFine, isOwn, chainOwn, treeHome, isBlank, filled, namesHeader}
-use Rattle.set_rules.specs.Accepting.{treeFine, placed, ownFine, isMoved, binAsks, binFine, belowFine, tableFine}
+use Rattle.set_rules.specs.Accepting.{treeFine, wellPlaced, ownFine, isMoved, binAsks, binFine, belowFine, tableFine}
 use Rattle.set_rules.proofs.Fit.{fits-fit, length-bound}
 use Rattle.set_rules.proofs.Forest.{row-found}
 use Rattle.sets.specs.Room.{Room}
@@ -170,7 +170,7 @@ module _ (s : Set) where
   own-same len i (tree h) v = refl
   own-same len i bad v = refl
 
-  module _ (left k i : ℕ) (may : Bool) (v : ℕ) {b : Bin} (e : b ≡ binAt s k i) {stands : Bool} (f : stands ≡ placed b may left) where
+  module _ (left k i : ℕ) (may : Bool) (v : ℕ) {b : Bin} (e : b ≡ binAt s k i) {stands : Bool} (f : stands ≡ wellPlaced b may left) where
     pub bin-misplaced : stands ≡ false → none ≡ binFine left s k i may v
     unfolding binFine binAsks
     bin-misplaced g = rw (← e, ← f, g)

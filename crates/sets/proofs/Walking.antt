@@ -11,24 +11,25 @@ use lib.ListN.{getD, set}
 use borrow.Author.Tests.{eq-eqb, ne-eqb, lt-ltb, le-ltb}
 use Rattle.slots.specs.Words.{null, next, cell}
 use Rattle.slots.specs.Answers.{given, refused}
-use Rattle.set_rules.specs.Words.{Set, tablesOf, lengthAt, slotsIn, headersIn, begins, fits, Bin, empty, moved, bad, list, tree, binOf}
+use Rattle.set_rules.specs.Words.{Set, tablesOf, lengthAt, headersIn, begins, fits, Bin, empty, moved, bad, list, tree, binOf}
 use Rattle.set_rules.proofs.Fit.{fits-fit}
 use Rattle.set_rules.specs.Cursor.{Cursor, Step, lone, blank, starts, fineCursor}
-use Rattle.set_rules.specs.Walk.{Place, place, trimmed, advanced, Stands, Sought, at, ended, lost, turnsIn, standing, stepped, walked, nexts}
+use Rattle.set_rules.specs.Walk.{Place, place, trimmed, advanced, InTables, Sought, at, ended, lost, turnsIn, standing, stepped, stepsOn, nexts}
 use Rattle.set_rules.proofs.Standing.{inside}
 use Rattle.set_rules.proofs.Cursors.{fine-right, right-stands}
 use Rattle.set_rules.proofs.Seeking.{bare, no-cells, leftAt, seeks, at-end, at-empty, at-bad, at-list, at-moved, at-last, at-tree, at-stray, falls-onward, falls-below, good-onward, good-below}
+use Rattle.tree_rules.specs.Find.{slotsOf}
 
 -- The loop from here comes to what it comes to from the start.
 pub record Going (s : Set) (base : ℕ) (from here : Place) : Type 0 where
-  pub good : Stands (s .lengths) base here
+  pub good : InTables (s .lengths) base here
   pub same : seeks s base here ≡ seeks s base from
 
 module _ (s : Set) (base d : ℕ) (x : List ℕ) (from : Place) (g : Going s base from (place d x)) {i len : ℕ} (e : i ≡ getD x d 0) (f : len ≡ lengthAt s (base + d)) where
   pub stops : len ≤ i → ended ≡ seeks s base from
   stops l = sym (at-end s base (place d x) (omega (arith, e, f))) ∙ g .same
 
-  module _ (l : i < len) {b : Bin} (k : b ≡ binOf (slotsIn s) (headersIn s) (getD (s .bins) (begins (s .lengths) (base + d) + i) 0)) where
+  module _ (l : i < len) {b : Bin} (k : b ≡ binOf (slotsOf (s .names)) (headersIn s) (getD (s .bins) (begins (s .lengths) (base + d) + i) 0)) where
     here : getD x d 0 < lengthAt s (base + d)
     here = omega (arith, e, f)
 
@@ -36,7 +37,7 @@ module _ (s : Set) (base d : ℕ) (x : List ℕ) (from : Place) (g : Going s bas
     pub base-more : getD x 0 0 < lengthAt s base
     base-more = rw add-zero at (inside (s .lengths) base (place d x) (g .good) here 0 (omega arith))
 
-    bin : b ≡ binOf (slotsIn s) (headersIn s) (getD (s .bins) (begins (s .lengths) (base + d) + getD x d 0) 0)
+    bin : b ≡ binOf (slotsOf (s .names)) (headersIn s) (getD (s .bins) (begins (s .lengths) (base + d) + getD x d 0) 0)
     bin = rw e at k
 
     pub passes : b ≡ empty → {q : Place} → q ≡ advanced d (s .lengths) base x → Going s base from q
@@ -64,25 +65,25 @@ module _ (s : Set) (base d : ℕ) (x : List ℕ) (from : Place) (g : Going s bas
     from-list t h = rw h (sym (at-list s base (place d x) (g .good) here (sym bin ∙ t)) ∙ g .same)
 
     module _ {a first : ℕ} (t : b ≡ tree a) (m : first ≡ getD (s .heads) (3 * a + 1) null) where
-      pub from-tree : first < slotsIn s → {q : Place} → q ≡ advanced d (s .lengths) base x → at first q ≡ seeks s base from
+      pub from-tree : first < slotsOf (s .names) → {q : Place} → q ≡ advanced d (s .lengths) base x → at first q ≡ seeks s base from
       from-tree n h = rw (h, m) (sym (at-tree s base (place d x) (g .good) here (sym bin ∙ t) (omega (arith, m))) ∙ g .same)
 
-      pub no-first : slotsIn s ≤ first → lost ≡ seeks s base from
+      pub no-first : slotsOf (s .names) ≤ first → lost ≡ seeks s base from
       no-first n = sym (at-stray s base (place d x) (g .good) here (sym bin ∙ t) (omega (arith, m))) ∙ g .same
 
 -- A step from a cursor that is not bad, by what it reads.
 module _ (s : Set) (c : Cursor) {link : ℕ} (g : link ≡ cell (s .cells) (c .last) next) where
-  pub link-stray : link ≢ null → slotsIn s ≤ link → stepped s c lost ≡ walked s c
-  unfolding walked
+  pub link-stray : link ≢ null → slotsOf (s .names) ≤ link → stepped s c lost ≡ stepsOn s c
+  unfolding stepsOn
   link-stray n l = rw (← g, ne-eqb _ _ n, le-ltb _ _ l)
 
   module _ {x : List ℕ} (t : x ≡ trimmed (c .depth) (c .indexes)) where
-    pub link-next : link ≢ null → link < slotsIn s → stepped s c (at link (place (c .depth) x)) ≡ walked s c
-    unfolding walked
+    pub link-next : link ≢ null → link < slotsOf (s .names) → stepped s c (at link (place (c .depth) x)) ≡ stepsOn s c
+    unfolding stepsOn
     link-next n l = rw (← g, ne-eqb _ _ n, lt-ltb _ _ l, t)
 
-    pub from-bins : link ≡ null → {o : Sought} → o ≡ seeks (bare s) (c .base) (place (c .depth) x) → stepped s c o ≡ walked s c
-    unfolding walked
+    pub from-bins : link ≡ null → {o : Sought} → o ≡ seeks (bare s) (c .base) (place (c .depth) x) → stepped s c o ≡ stepsOn s c
+    unfolding stepsOn
     from-bins n k = rw (← g, eq-eqb _ _ n, k, t) (ap (stepped s c) (no-cells s (c .base) (turnsIn s (c .base)) (standing c)))
 
 -- The gates of start and next.
@@ -109,9 +110,9 @@ module _ (s : Set) (c : Cursor) {b : Bool} (e : b ≡ fits s) where
     unfolding nexts
     next-bad h = rw (← e, f, ← g, h)
 
-    pub next-stands : r ≡ true → Stands (s .lengths) (c .base) (standing c)
-    next-stands h = right-stands s (fits-fit s (sym e ∙ f)) c (fine-right (s .lengths) (slotsIn s) (c .base) (c .depth) (c .indexes) (c .last) (sym g ∙ h))
+    pub next-stands : r ≡ true → InTables (s .lengths) (c .base) (standing c)
+    next-stands h = right-stands s (fits-fit s (sym e ∙ f)) c (fine-right (s .lengths) (slotsOf (s .names)) (c .base) (c .depth) (c .indexes) (c .last) (sym g ∙ h))
 
-    pub next-walked : r ≡ true → {o : Step} → o ≡ walked s c → o ≡ nexts s c
+    pub next-walked : r ≡ true → {o : Step} → o ≡ stepsOn s c → o ≡ nexts s c
     unfolding nexts
     next-walked h i = rw (← e, f, ← g, h) i

@@ -2,9 +2,8 @@
 use mathlib.Core.Path.{_≡_}
 use mathlib.Core.Logic.{_≢_, _↔_}
 use mathlib.Core.List.{List}
-use Prim.Native.Nat.{ℕ, _+_, _*_}
+use Prim.Native.Nat.{ℕ, _+_}
 use lib.ListN.{getD}
-use Rattle.slots.specs.Words.{null}
 use Rattle.slots.specs.Answers.{OneAnswer, given, refused}
 use Rattle.set_rules.specs.Words.{Set, begins, fits, binOf, bini}
 use Rattle.sets.specs.Bins.{binAs, homeOf, binis}
@@ -24,7 +23,6 @@ pub record Binning : Type 0 where
   pub bini-one : (len hash : ℕ) → OneAnswer (λ r. homeOf r ≡ binis len hash)
   pub index-one : (len hash : ℕ) → OneAnswer (λ r. r ≡ bini len hash)
   pub bin-word-one : (lengths bins : List ℕ) (k i : ℕ) → OneAnswer (λ r. r ≡ getD bins (begins lengths k + i) 0)
-  pub header-one : (heads : List ℕ) (h f : ℕ) → OneAnswer (λ r. r ≡ getD heads (3 * h + f) null)
   pub length-at-one : (lengths : List ℕ) (k : ℕ) → OneAnswer (λ r. r ≡ getD lengths k 0)
   pub bins-before-one : (lengths : List ℕ) (k : ℕ) → OneAnswer (λ r. r ≡ begins lengths k)
   pub fit-set-one : (s : Set) → OneAnswer (λ r. r ≡ fits s)

@@ -5,8 +5,12 @@ use crate::fit::length_at;
 use crate::headers::headers_fine;
 use index::sound::slots_fine;
 use index::sound::used_slots;
+use slots::answer::Answer;
+use slots::answer::given;
+use slots::answer::refused;
 use tree::rules::Rest;
 ghost use mathlib.Core.Path.{_≡_};
+ghost use Rattle.slots.specs.Coded.{answerOf};
 ghost use mathlib.Core.Bool.{true};
 ghost use lib.ListN.{getD};
 ghost use Rattle.set_rules.specs.Words.{fits, lentSet};
@@ -82,6 +86,19 @@ pub enum Acceptance {
     Yes,
     No,
     Unfit, // 1
+}
+
+impl Acceptance {
+    // The number and the value.
+    pub fn answer(self) -> Answer
+        ensures { λ r. ⌜ answerOf r ≡ (acceptOf self) ⌝ }
+    {
+        match self {
+            Acceptance::Yes => given(1),
+            Acceptance::No => given(0),
+            Acceptance::Unfit => refused(1),
+        }
+    }
 }
 
 // Whether the set is accepted. Unfit where the slices are not a frozen set's.

@@ -1,20 +1,20 @@
 // A bin's check and the check of the two bins below it, which ask each other, the tables left falling.
 use crate::bin::Bin;
-use crate::bin::COUNT;
-use crate::bin::FIRST;
-use crate::bin::ROOT;
 use crate::bin::bin_of;
 use crate::bin::bin_word;
 use crate::bin::header;
 use crate::fit::length_at;
 use crate::lists::list_fine;
 use crate::trees::tree_fine;
+use slots::COUNT;
+use slots::FIRST;
+use slots::ROOT;
 use tree::rules::Rest;
 ghost use mathlib.Core.Path.{_≡_};
 ghost use mathlib.Core.List.{[]};
 ghost use Rattle.set_rules.specs.Words.{binAt, lentSet};
 ghost use Rattle.set_rules.specs.Accepting.{ownFine, binFine, belowFine};
-ghost use Rattle.set_rules.specs.Accepting.{placed as mayStand, isMoved as opens};
+ghost use Rattle.set_rules.specs.Accepting.{wellPlaced as mayStand, isMoved as opens};
 ghost use Rattle.tree.specs.Rules.{restOf};
 ghost use Rattle.sets.specs.Bins.{binAs};
 ghost use Rattle.sets.specs.Room.{Room};

@@ -1,27 +1,21 @@
 // What a bin's word says, which bin a hash names, and the words of a tree header.
 use crate::fit::bins_before;
 use slots::NULL;
+use slots::word;
 ghost use mathlib.Core.Path.{_≡_};
-ghost use Prim.Native.Nat.{_+_, _*_};
+ghost use Prim.Native.Nat.{_+_, _*_, _<_};
 ghost use lib.ListN.{getD};
 ghost use Rattle.slots.specs.Words.{null};
 ghost use Rattle.set_rules.specs.Words.{begins, binOf};
 ghost use Rattle.set_rules.specs.Words.{bini as home};
 ghost use Rattle.sets.specs.Bins.{binAs, homeOf, binis};
 
-// The words of a header, by their place.
-pub const ROOT: u32 = 0;
-
-pub const FIRST: u32 = 1;
-
-pub const COUNT: u32 = 2;
-
 // The word f of the header h; null where there is no such word.
-pub fn header(heads: &[u32], h: u32, f: u32) -> u32
+pub(crate) fn header(heads: &[u32], h: u32, f: usize) -> u32
+    requires { ⌜ f < 3 ⌝ }
     ensures { λ r. ⌜ r ≡ getD (now (heads .entry)) (3 * h + f) null ⌝ }
 {
-    let k = 3 * (h as usize) + (f as usize);
-    if k < heads.len() { heads[k] } else { NULL }
+    word(heads, 3 * (h as usize) + f, NULL)
 }
 
 // The word of bin i of table k; 0 where there is no such word.
@@ -39,6 +33,15 @@ pub fn bin_word(lengths: &[u32], bins: &[u32], k: u32, i: u32) -> u32
     bins[from + at]
 }
 
+// The bin words that name a list's first slot, and those that name a tree's header.
+const FIRST_LIST: u32 = 2;
+
+const LAST_LIST: u32 = 4097;
+
+const FIRST_TREE: u32 = 4098;
+
+const LAST_TREE: u32 = 8193;
+
 // What a bin word says, by its range.
 pub enum Bin {
     Empty,
@@ -55,16 +58,16 @@ pub fn bin_of(n: usize, h: usize, w: u32) -> Bin
     match w {
         0 => Bin::Empty,
         1 => Bin::Moved,
-        2..=4097 => {
-            if ((w - 2) as usize) < n {
-                Bin::List(w - 2)
+        FIRST_LIST..=LAST_LIST => {
+            if ((w - FIRST_LIST) as usize) < n {
+                Bin::List(w - FIRST_LIST)
             } else {
                 Bin::Bad
             }
         }
-        4098..=8193 => {
-            if ((w - 4098) as usize) < h {
-                Bin::Tree(w - 4098)
+        FIRST_TREE..=LAST_TREE => {
+            if ((w - FIRST_TREE) as usize) < h {
+                Bin::Tree(w - FIRST_TREE)
             } else {
                 Bin::Bad
             }

@@ -1,5 +1,6 @@
 // Whether lent slices are a frozen set's, and where the bins of a table begin.
 use slots::MOST_SLOTS;
+use slots::word;
 ghost use mathlib.Core.Path.{_≡_};
 ghost use lib.ListN.{length, getD};
 ghost use Rattle.set_rules.specs.Words.{begins, doubling, fits, lentSet};
@@ -11,8 +12,7 @@ ghost use Rattle.index_rules.specs.Index.{lent};
 pub fn length_at(lengths: &[u32], k: u32) -> u32
     ensures { λ r. ⌜ r ≡ getD (now (lengths .entry)) k 0 ⌝ }
 {
-    let i = k as usize;
-    if i < lengths.len() { lengths[i] } else { 0 }
+    word(lengths, k as usize, 0)
 }
 
 // Whether a number of bins is one of the thirteen powers of two up to 4,096.

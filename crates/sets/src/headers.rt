@@ -1,11 +1,11 @@
 // Headers are counted: those that are not null with count 0 are as many as the bins that name one.
 use crate::bin::Bin;
-use crate::bin::COUNT;
-use crate::bin::FIRST;
-use crate::bin::ROOT;
 use crate::bin::bin_of;
 use crate::bin::header;
+use slots::COUNT;
+use slots::FIRST;
 use slots::NULL;
+use slots::ROOT;
 ghost use mathlib.Core.Path.{_≡_};
 ghost use lib.ListN.{length};
 ghost use Rattle.sets.specs.Bins.{binAs};

@@ -1,6 +1,5 @@
 // lookup: the slot that has a pair, from a table down the forwarded ones.
 use crate::bin::Bin;
-use crate::bin::ROOT;
 use crate::bin::bin_of;
 use crate::bin::bin_word;
 use crate::bin::header;
@@ -11,18 +10,24 @@ use slots::HASH;
 use slots::KEY;
 use slots::NEXT;
 use slots::NULL;
+use slots::ROOT;
+use slots::answer::Answer;
+use slots::answer::given;
+use slots::answer::nothing;
+use slots::answer::refused;
 use slots::get;
 use slots::name;
 use tree::find::Found;
 use tree::find::find_tree_node;
 ghost use mathlib.Core.Path.{_≡_};
+ghost use Rattle.slots.specs.Coded.{answerOf};
 ghost use Prim.Native.Nat.{_+_, _-_, _<_, _≤_};
 ghost use lib.ListN.{length, getD};
 ghost use Rattle.tree_rules.specs.Find.{slotsOf};
 ghost use Rattle.set_rules.specs.Words.{begins, binOf, lentSet};
 ghost use Rattle.set_rules.specs.Words.{bini as home};
 ghost use Rattle.sets.specs.Bins.{binAs};
-ghost use Rattle.tree.specs.Find.{answerOf};
+ghost use Rattle.tree.specs.Find.{answerOf as searchedOf};
 ghost use Rattle.set_rules.specs.Lookup.{hasPair, listed, forwarded, lookups};
 ghost use Rattle.sets.specs.Lookups.{lookedOf};
 
@@ -40,7 +45,7 @@ fn has_pair(names: &[u64], p: u32, hash: u64, key: u64) -> bool
 // The slot of the list from first that has the pair. Lost where a link followed is neither null nor a slot, and where one slot
 // more than there are would be visited.
 fn find_in_list(names: &[u64], cells: &[u32], first: u32, hash: u64, key: u64) -> Found
-    ensures { λ r. ⌜ answerOf r ≡ listed (now (names .entry)) (now (cells .entry)) (slotsOf (now (names .entry))) first hash key ⌝ }
+    ensures { λ r. ⌜ searchedOf r ≡ listed (now (names .entry)) (now (cells .entry)) (slotsOf (now (names .entry))) first hash key ⌝ }
 {
     let slots = names.len() / 2;
     let mut p = first;
@@ -84,7 +89,7 @@ fn search(
     key: u64,
 ) -> Found
     requires { ⌜ (length (now lengths) ≤ 8) × (table < length (now lengths)) ⌝ }
-    ensures { λ r. ⌜ answerOf r
+    ensures { λ r. ⌜ searchedOf r
         ≡ forwarded (length (now (lengths .entry)) - table)
         (lentSet (now (lengths .entry)) (now (bins .entry)) (now (heads .entry)) (now (names .entry))
         (now (cells .entry))) table hash key ⌝ }
@@ -119,6 +124,21 @@ pub enum Looked {
     Unfit, // 1
     Unknown, // 10
     Lost, // 9
+}
+
+impl Looked {
+    // The number and the value.
+    pub fn answer(self) -> Answer
+        ensures { λ r. ⌜ answerOf r ≡ (lookedOf self) ⌝ }
+    {
+        match self {
+            Looked::At(slot) => given(slot),
+            Looked::Nothing => nothing(),
+            Looked::Unfit => refused(1),
+            Looked::Unknown => refused(10),
+            Looked::Lost => refused(9),
+        }
+    }
 }
 
 // The slot that has the pair (hash, key), from table on.

@@ -1,6 +1,5 @@
 // The walk: a cursor goes in by value and the new one comes back.
 use crate::bin::Bin;
-use crate::bin::FIRST;
 use crate::bin::bin_of;
 use crate::bin::bin_word;
 use crate::bin::header;
@@ -11,18 +10,24 @@ use crate::place::fine;
 use crate::place::index_at;
 use crate::place::set_index;
 use crate::place::trim;
+use slots::FIRST;
 use slots::NEXT;
 use slots::NULL;
+use slots::answer::Answer;
+use slots::answer::given;
+use slots::answer::nothing;
+use slots::answer::refused;
 use slots::get;
 ghost use mathlib.Core.Path.{_≡_};
+ghost use Rattle.slots.specs.Coded.{answerOf};
 ghost use mathlib.Core.List.{[]};
 ghost use Prim.Native.Nat.{_+_, _-_, _<_, _/_};
 ghost use lib.ListN.{length, getD, set};
 ghost use Rattle.set_rules.specs.Words.{Set, begins, binOf, lentSet};
 ghost use Rattle.sets.specs.Bins.{binAs};
 ghost use Rattle.set_rules.specs.Cursor.{starts};
-ghost use Rattle.set_rules.specs.Walk.{place, Stands, turnsIn, sought, standing, walked, nexts};
-ghost use Rattle.sets.specs.Cursors.{soughtOf, stepOf, startOf};
+ghost use Rattle.set_rules.specs.Walk.{place, InTables, turnsIn, sought, standing, stepsOn, nexts};
+ghost use Rattle.sets.specs.Cursors.{soughtOf, startedOf, givenOf, stepOf, startOf};
 ghost use Rattle.sets.specs.Cursors.{cursorOf};
 
 // What the loop over the bins comes to: an entry, and the depth of the place after it; the end; or it is lost.
@@ -50,7 +55,7 @@ fn seek(
     depth: u32,
     indexes: &mut [u32; 8],
 ) -> Sought
-    requires { ⌜ Stands (now lengths) base (place depth (now indexes)) ⌝ }
+    requires { ⌜ InTables (now lengths) base (place depth (now indexes)) ⌝ }
     ensures { λ r. ⌜ soughtOf r (now (indexes .exit))
         ≡ (let s : Set = lentSet (now (lengths .entry)) (now (bins .entry)) (now (heads .entry)) (now (names .entry)) [] in sought
         (turnsIn s base) s base (place depth (now (indexes .entry)))) ⌝ }
@@ -108,6 +113,19 @@ pub enum Started {
     Unknown, // 10
 }
 
+impl Started {
+    // The number and the value.
+    pub fn answer(self) -> Answer
+        ensures { λ r. ⌜ answerOf r ≡ (startedOf self) ⌝ }
+    {
+        match self {
+            Started::Made => given(1),
+            Started::Unfit => refused(1),
+            Started::Unknown => refused(10),
+        }
+    }
+}
+
 // What start answers, and the cursor made; all zero where it is refused.
 pub struct Start {
     pub answer: Started,
@@ -121,6 +139,21 @@ pub enum Given {
     Unfit, // 1
     BadCursor, // 11
     Lost, // 9
+}
+
+impl Given {
+    // The number and the value.
+    pub fn answer(self) -> Answer
+        ensures { λ r. ⌜ answerOf r ≡ (givenOf self) ⌝ }
+    {
+        match self {
+            Given::Entry(slot) => given(slot),
+            Given::Done => nothing(),
+            Given::Unfit => refused(1),
+            Given::BadCursor => refused(11),
+            Given::Lost => refused(9),
+        }
+    }
 }
 
 // What next answers, and the cursor after; the same where it is refused.
@@ -138,9 +171,9 @@ fn walk(
     names: &[u64],
     cells: &[u32],
 ) -> Step
-    requires { ⌜ Stands (now lengths) (cursor .base) (standing (cursorOf cursor)) ⌝ }
+    requires { ⌜ InTables (now lengths) (cursor .base) (standing (cursorOf cursor)) ⌝ }
     ensures { λ r. ⌜ stepOf r
-        ≡ walked (lentSet (now (lengths .entry)) (now (bins .entry)) (now (heads .entry)) (now (names .entry)) (now (cells .entry)))
+        ≡ stepsOn (lentSet (now (lengths .entry)) (now (bins .entry)) (now (heads .entry)) (now (names .entry)) (now (cells .entry)))
         (cursorOf cursor) ⌝ }
 {
     let base = cursor.base;

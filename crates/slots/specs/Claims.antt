@@ -5,10 +5,12 @@ use mathlib.Core.List.{List}
 use mathlib.Core.Bool.{true}
 use Prim.Native.Nat.{ℕ, _<_}
 use lib.Dec.{eqb}
-use lib.ListN.{length}
+use lib.ListN.{length, getD, set}
 use Rattle.slots.specs.Words.{pick, state, black, red, code, fields, parts, word, store, cell, write, nameOf, rename, roomy}
 use Rattle.slots.specs.Pairs.{Pair, pair, Less, before}
-use Rattle.slots.specs.Answers.{OneAnswer}
+use Rattle.slots.specs.Answers.{given, nothing, refused, OneAnswer}
+use Rattle.slots.specs.Coded.{answerOf}
+use Rattle.slots.specs.declared.answer.Answer.{Answer}
 
 -- The laws of reads and writes where a slot has w words and d stands for a word that is not there.
 pub record Words (w d : ℕ) : Type 0 where
@@ -33,7 +35,16 @@ pub record Claims : Type 0 where
   pub not-equal : (p q : Pair) → Less p q → p ≢ q
   -- and the test of it answers yes exactly then
   pub tested : (hash key at own : ℕ) → (before hash key at own ≡ true) ↔ Less (pair hash key) (pair at own)
+  -- an answer's number and value are all of it
+  pub answer-one-to-one : (a b : Answer) → answerOf a ≡ answerOf b → a ≡ b
   -- each public routine promises one outcome
+  pub given-one : (value : ℕ) → OneAnswer (λ r. answerOf r ≡ given value)
+  pub nothing-one : OneAnswer (λ r. answerOf r ≡ nothing)
+  pub refused-one : (number : ℕ) → OneAnswer (λ r. answerOf r ≡ refused number)
+  pub word-one : (words : List ℕ) (k none : ℕ) → OneAnswer (λ r. r ≡ getD words k none)
+  pub put-word-one : (words : List ℕ) (k v : ℕ) → OneAnswer (λ l. l ≡ set words k v)
+  pub wide-one : (words : List ℕ) (k : ℕ) → OneAnswer (λ r. r ≡ getD words k 0)
+  pub put-wide-one : (words : List ℕ) (k v : ℕ) → OneAnswer (λ l. l ≡ set words k v)
   pub get-one : (l : List ℕ) (i f : ℕ) → OneAnswer (λ r. r ≡ cell l i f)
   pub put-one : (l : List ℕ) (i f v : ℕ) → OneAnswer (λ l′. l′ ≡ write l i f v)
   pub name-one : (l : List ℕ) (i f : ℕ) → OneAnswer (λ r. r ≡ nameOf l i f)

@@ -13,7 +13,7 @@ use Rattle.slots.specs.Words.{null, pick, state, left, right, cell}
 use Rattle.slots.specs.Answers.{Value, none, some}
 use Rattle.slots.proofs.Laws.{some-is}
 use Rattle.tree_rules.specs.Find.{slotsOf}
-use Rattle.tree_rules.specs.Rules.{then, stands, reached, risen, calmed, levelled, quietly}
+use Rattle.tree_rules.specs.Rules.{then, stands, reached, risen, allCalm, levelled, isCalm}
 use Rattle.tree_rules.proofs.Reaching.{refuted}
 use Rattle.tree.proofs.Ruling.{rise-null, calm-null, level-null}
 use Rattle.tree.specs.Rules.{Judged, breaks, together, judged, deepestOf}
@@ -52,8 +52,8 @@ module _ (cells : List ℕ) where
   rise-past names (suc d) zero i h (at-slot n a b) m = absurd (omega arith)
   rise-past names (suc d) (suc e) i h (at-slot n a b) m = rw (rise-past names d e _ (omega arith) a m, rise-past names d e _ (omega arith) b i)
 
-  calm-past : (d e i : ℕ) → d ≤ e → Low cells d i → calmed e cells i ≡ calmed d cells i
-  unfolding calmed
+  calm-past : (d e i : ℕ) → d ≤ e → Low cells d i → allCalm e cells i ≡ allCalm d cells i
+  unfolding allCalm
   calm-past d e i h (at-null z) = sym (calm-null cells i e z) ∙ calm-null cells i d z
   calm-past (suc d) zero i h (at-slot n a b) = absurd (omega arith)
   calm-past (suc d) (suc e) i h (at-slot n a b) = rw (calm-past d e _ (omega arith) a, calm-past d e _ (omega arith) b)
@@ -106,10 +106,10 @@ module _ (cells : List ℕ) where
   three true false c e = absurd (false≢true e)
   three false b c e = absurd (false≢true e)
 
-  calms : (depth i : ℕ) → i ≢ null → calmed (suc depth) cells i ≡ true
-      → (quietly cells i ≡ true) × (calmed depth cells (cell cells i left) ≡ true) × (calmed depth cells (cell cells i right) ≡ true)
-  unfolding calmed
-  calms depth i n e = three (quietly cells i) _ _ (rw (ne-eqb i null n) at e)
+  calms : (depth i : ℕ) → i ≢ null → allCalm (suc depth) cells i ≡ true
+      → (isCalm cells i ≡ true) × (allCalm depth cells (cell cells i left) ≡ true) × (allCalm depth cells (cell cells i right) ≡ true)
+  unfolding allCalm
+  calms depth i n e = three (isCalm cells i) _ _ (rw (ne-eqb i null n) at e)
 
   black-children : (l r : Bool) → pick l false (pick r false true) ≡ true → (l ≡ false) × (r ≡ false)
   black-children true r e = absurd (false≢true e)
@@ -120,7 +120,7 @@ module _ (cells : List ℕ) where
   abbrev Lows : ℕ → ℕ → Type 0
   Lows b i = Low cells (2 * b + 1) i × (eqb (cell cells i state) 2 ≡ false → Low cells (2 * b) i)
 
-  low-slot : (depth i b : ℕ) → i ≢ null → (k : Evened depth i b) → quietly cells i ≡ true → Lows (k .half) (cell cells i left) → Lows (k .half) (cell cells i right) → Lows b i
+  low-slot : (depth i b : ℕ) → i ≢ null → (k : Evened depth i b) → isCalm cells i ≡ true → Lows (k .half) (cell cells i left) → Lows (k .half) (cell cells i right) → Lows b i
   low-slot depth i b n k q x y = go (eqb (cell cells i state) 2) refl
     where
       go : (red : Bool) → eqb (cell cells i state) 2 ≡ red → Lows b i
@@ -133,7 +133,7 @@ module _ (cells : List ℕ) where
           let w = at-slot n (x .0) (y .0) in
           (lower (suc (2 * (k .half) + 1)) (2 * b + 1) i (omega (arith, z)) w, λ f. lower (suc (2 * (k .half) + 1)) (2 * b) i (omega (arith, z)) w)
 
-  low : (depth i b : ℕ) → levelled depth cells i ≡ some b → calmed depth cells i ≡ true → Lows b i
+  low : (depth i b : ℕ) → levelled depth cells i ≡ some b → allCalm depth cells i ≡ true → Lows b i
   unfolding levelled
   low zero i b e c = null-or i (λ z. (at-null z, λ f. at-null z)) (λ n. refuted (rw (ne-eqb i null n) at e))
   low (suc depth) i b e c =
@@ -221,7 +221,7 @@ module _ (names cells : List ℕ) (root visits : ℕ) (few : visits < 1844674407
   both-deep : (d e : ℕ) → d ≤ e → Low cells d root → at d ≡ at e
   both-deep d e h k = sym (rw (rise-past cells names d e root h k null, calm-past cells d e root h k, level-past cells d e root h k) refl)
 
-  shallow : (depth rest b : ℕ) → reached visits (slotsOf names) cells null root visits ≡ some rest → levelled depth cells root ≡ some b → calmed depth cells root ≡ true → Low cells 129 root
+  shallow : (depth rest b : ℕ) → reached visits (slotsOf names) cells null root visits ≡ some rest → levelled depth cells root ≡ some b → allCalm depth cells root ≡ true → Low cells 129 root
   shallow depth rest b r e c =
       let m = sized (slotsOf names) cells depth visits null root visits rest b r e in
       let o : full 64 ≡ 18446744073709551616 = full-64 in
@@ -230,14 +230,14 @@ module _ (names cells : List ℕ) (root visits : ℕ) (few : visits < 1844674407
 
   deep-enough : (n : ℕ) → 129 ≤ n → at 129 ≡ at n
   deep-enough n h =
-      go (reached visits (slotsOf names) cells null root visits) refl (levelled 129 cells root) refl (levelled n cells root) refl (calmed n cells root) refl
+      go (reached visits (slotsOf names) cells null root visits) refl (levelled 129 cells root) refl (levelled n cells root) refl (allCalm n cells root) refl
     where
       go : (u : Value) → reached visits (slotsOf names) cells null root visits ≡ u → (w : Value) → levelled 129 cells root ≡ w
-          → (x : Value) → levelled n cells root ≡ x → (c : Bool) → calmed n cells root ≡ c → at 129 ≡ at n
+          → (x : Value) → levelled n cells root ≡ x → (c : Bool) → allCalm n cells root ≡ c → at 129 ≡ at n
       go u p (some b) q x y c z = both-deep 129 n h (level-low cells 129 root b q)
       go none p none q x y c z = rw p refl
-      go (some rest) p none q none y c z = rw (q, y) (sym (no-level (reached visits (slotsOf names) cells null root visits) (risen 129 names cells null root) (calmed 129 cells root)) ∙ no-level (reached visits (slotsOf names) cells null root visits) (risen n names cells null root) (calmed n cells root))
-      go (some rest) p none q (some b) y false z = rw (q, z) (sym (no-level (reached visits (slotsOf names) cells null root visits) (risen 129 names cells null root) (calmed 129 cells root)) ∙ no-calm (reached visits (slotsOf names) cells null root visits) (risen n names cells null root) (levelled n cells root))
+      go (some rest) p none q none y c z = rw (q, y) (sym (no-level (reached visits (slotsOf names) cells null root visits) (risen 129 names cells null root) (allCalm 129 cells root)) ∙ no-level (reached visits (slotsOf names) cells null root visits) (risen n names cells null root) (allCalm n cells root))
+      go (some rest) p none q (some b) y false z = rw (q, z) (sym (no-level (reached visits (slotsOf names) cells null root visits) (risen 129 names cells null root) (allCalm 129 cells root)) ∙ no-calm (reached visits (slotsOf names) cells null root visits) (risen n names cells null root) (levelled n cells root))
       go (some rest) p none q (some b) y true z = both-deep 129 n h (shallow n rest b p y z)
 
   pub deepest-enough : (n : ℕ) {depth : ℕ} → depth ≡ deepestOf n → at depth ≡ at n

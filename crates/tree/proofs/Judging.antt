@@ -10,7 +10,7 @@ use borrow.Author.Tests.{eq-eqb, ne-eqb}
 use Rattle.slots.specs.Words.{null, pick, state, left, right, cell}
 use Rattle.slots.specs.Answers.{Value, none, some}
 use Rattle.tree_rules.specs.Find.{slotsOf}
-use Rattle.tree_rules.specs.Rules.{then, isSome, stands, reached, follows, risen, calmed, levelled, rises, coloured, level, obeyed, quietly}
+use Rattle.tree_rules.specs.Rules.{then, isSome, stands, reached, follows, risen, allCalm, levelled, rises, coloured, level, obeyed, isCalm}
 use Rattle.tree_rules.proofs.Sizing.{obeyed-each}
 use Rattle.tree_rules.proofs.Visits.{reached-within, reached-fuel, reach-null, reach-outside, reach-spent, reach-wrong, reach-on}
 use Rattle.tree.specs.Rules.{Judged, obeys, breaks, together, judged, deepestOf}
@@ -70,16 +70,16 @@ module _ (names cells : List ℕ) (q last i depth visits : ℕ) where
   walk-spent d e = rw (← reach-spent (slotsOf names) cells q i visits d e)
 
   pub walk-deep : i ≢ null → depth ≡ 0 → breaks ≡ judged names cells q last i depth visits
-  walk-deep d e = rw (← rise-zero names cells last i depth d e) (no-rise (reached visits (slotsOf names) cells q i visits) (calmed depth cells i) (levelled depth cells i))
+  walk-deep d e = rw (← rise-zero names cells last i depth d e) (no-rise (reached visits (slotsOf names) cells q i visits) (allCalm depth cells i) (levelled depth cells i))
 
   module _ (d : i ≢ null) (l : i < slotsOf names) (w : visits ≢ 0) (z : depth ≢ 0) where
     pub walk-wrong : {stand : Bool} → stand ≡ stands cells q i → stand ≡ false → breaks ≡ judged names cells q last i depth visits
     walk-wrong s e = rw (← reach-wrong (slotsOf names) cells q i visits d l w s e)
 
-    pub walk-loud : {quiet : Bool} → quiet ≡ quietly cells i → quiet ≡ false → breaks ≡ judged names cells q last i depth visits
+    pub walk-loud : {quiet : Bool} → quiet ≡ isCalm cells i → quiet ≡ false → breaks ≡ judged names cells q last i depth visits
     walk-loud c e = rw (calm-on cells i depth d z, ← c, e) (no-calm (reached visits (slotsOf names) cells q i visits) (risen depth names cells last i) (levelled depth cells i))
 
-    pub walk-on : {stand quiet : Bool} → stand ≡ stands cells q i → stand ≡ true → quiet ≡ quietly cells i → quiet ≡ true
+    pub walk-on : {stand quiet : Bool} → stand ≡ stands cells q i → stand ≡ true → quiet ≡ isCalm cells i → quiet ≡ true
         → judged names cells q last i depth visits
         ≡ onward (judged names cells i last (cell cells i left) (depth - 1) (visits - 1))
         (λ rest m a. pick (follows names m i) (onward (judged names cells i i (cell cells i right) (depth - 1) rest) (joined (λ k. follows names k i) (eqb (cell cells i state) 2) a)) breaks)
@@ -99,13 +99,13 @@ module _ (names cells : List ℕ) (q last i depth visits : ℕ) where
         (λ k h. reached-fuel (slotsOf names) cells (visits - 1) k i (cell cells i right) k (reached-within (slotsOf names) cells (visits - 1) i (cell cells i left) (visits - 1) k h) (omega arith))
         (risen (depth - 1) names cells last (cell cells i left))
         (risen (depth - 1) names cells i (cell cells i right))
-        (calmed (depth - 1) cells (cell cells i left))
-        (calmed (depth - 1) cells (cell cells i right))
+        (allCalm (depth - 1) cells (cell cells i left))
+        (allCalm (depth - 1) cells (cell cells i right))
         (levelled (depth - 1) cells (cell cells i left))
         (levelled (depth - 1) cells (cell cells i right)))
 
     -- Below the tests of the slot itself: t is the link to its left.
-    module _ {stand quiet : Bool} (s : stand ≡ stands cells q i) (e : stand ≡ true) (c : quiet ≡ quietly cells i) (f : quiet ≡ true) {t : ℕ} (p : t ≡ cell cells i left) where
+    module _ {stand quiet : Bool} (s : stand ≡ stands cells q i) (e : stand ≡ true) (c : quiet ≡ isCalm cells i) (f : quiet ≡ true) {t : ℕ} (p : t ≡ cell cells i left) where
       pub walk-left-breaks : breaks ≡ judged names cells i last t (depth - 1) (visits - 1) → breaks ≡ judged names cells q last i depth visits
       walk-left-breaks h = sym (walk-on s e c f ∙ rw (← p, ← h))
 
@@ -142,7 +142,7 @@ level-of (some v) (some m) true (some k) e = cc
 
 pub walk-blacks : (names cells : List ℕ) (q last i depth visits : ℕ) {rest end a : ℕ} → obeys rest end a ≡ judged names cells q last i depth visits → a ≤ depth
 walk-blacks names cells q last i depth visits e =
-    level-bound cells depth i _ (level-of (reached visits (slotsOf names) cells q i visits) (risen depth names cells last i) (calmed depth cells i) (levelled depth cells i) e)
+    level-bound cells depth i _ (level-of (reached visits (slotsOf names) cells q i visits) (risen depth names cells last i) (allCalm depth cells i) (levelled depth cells i) e)
 
 -- The whole tree.
 abbrev pub restLeft : Judged → Value
@@ -175,7 +175,7 @@ module _ (names cells : List ℕ) (root visits : ℕ) where
       (asked
       (reached visits (slotsOf names) cells null root visits)
       (risen (slotsOf names) names cells null root)
-      (calmed (slotsOf names) cells root)
+      (allCalm (slotsOf names) cells root)
       (levelled (slotsOf names) cells root))
 
   pub obeyed-within : {rest : ℕ} → some rest ≡ obeyed names cells root visits → rest ≤ visits

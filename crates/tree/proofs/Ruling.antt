@@ -11,7 +11,7 @@ use borrow.Author.Tests.{eq-eqb, ne-eqb}
 use Rattle.slots.specs.Words.{null, pick, state, left, right, cell}
 use Rattle.slots.specs.Answers.{Value, none, some}
 use Rattle.slots.proofs.Laws.{some-is}
-use Rattle.tree_rules.specs.Rules.{then, follows, risen, calmed, levelled, quietly}
+use Rattle.tree_rules.specs.Rules.{then, follows, risen, allCalm, levelled, isCalm}
 use Rattle.tree_rules.proofs.Reaching.{refuted}
 
 module _ (names cells : List ℕ) (m i : ℕ) where
@@ -33,15 +33,15 @@ module _ (names cells : List ℕ) (m i : ℕ) where
   rise-on (suc depth) n d = rw (ne-eqb i null n, sub-one)
 
 module _ (cells : List ℕ) (i : ℕ) where
-  pub calm-null : (depth : ℕ) → i ≡ null → true ≡ calmed depth cells i
-  unfolding calmed
+  pub calm-null : (depth : ℕ) → i ≡ null → true ≡ allCalm depth cells i
+  unfolding allCalm
   calm-null zero e = simp (eq-eqb i null e)
   calm-null (suc depth) e = simp (eq-eqb i null e)
 
   pub calm-on : (depth : ℕ) → i ≢ null → depth ≢ 0
-      → calmed depth cells i
-      ≡ pick (quietly cells i) (pick (calmed (depth - 1) cells (cell cells i left)) (calmed (depth - 1) cells (cell cells i right)) false) false
-  unfolding calmed
+      → allCalm depth cells i
+      ≡ pick (isCalm cells i) (pick (allCalm (depth - 1) cells (cell cells i left)) (allCalm (depth - 1) cells (cell cells i right)) false) false
+  unfolding allCalm
   calm-on zero n d = absurd (d refl)
   calm-on (suc depth) n d = rw (ne-eqb i null n, sub-one)
 

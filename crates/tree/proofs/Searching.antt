@@ -10,7 +10,7 @@ use lib.Dec.{eqb, ltb}
 use borrow.Author.Tests.{lt-ltb, le-ltb, ltb-false, eqb-true, eqb-false}
 use Rattle.slots.specs.Words.{null, pick, left, right, cell, nameOf, hashPart, keyPart}
 use Rattle.slots.specs.Answers.{Answer, given, nothing, refused}
-use Rattle.tree_rules.specs.Find.{Look, here, on, byKey, decided, looked, Search, after, slotsOf, searched}
+use Rattle.tree_rules.specs.Find.{Look, here, on, byKey, decided, looked, Search, lookedThen, slotsOf, searched}
 use Rattle.tree_rules.proofs.Searching.{at-null, out-of-range, visits-spent, at-slot}
 
 -- A look at a slot of another hash takes the side, at one of the same hash the keys decide.
@@ -37,7 +37,7 @@ answer e = ap (λ (s : Search). s .answer) e
 
 turn : (names cells : List ℕ) (hash key p visits : ℕ) {r : Answer} → searched names cells visits p hash key .answer ≡ r
     → p ≢ null → p < slotsOf names → visits ≢ 0 → (o : Look) → o ≡ looked names cells p hash key
-    → after o p (λ q. searched names cells (visits - 1) q hash key) .answer ≡ r
+    → lookedThen o p (λ q. searched names cells (visits - 1) q hash key) .answer ≡ r
 turn names cells hash key p zero i n h v o e = absurd (v refl)
 turn names cells hash key p (suc k) i n h v o e = rw (sub-one, e) (sym (answer (at-slot names cells hash key k p n h)) ∙ i)
 

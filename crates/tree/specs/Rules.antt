@@ -6,7 +6,7 @@ use lib.Dec.{ltb}
 use Rattle.slots.specs.Words.{pick}
 use Rattle.slots.specs.Answers.{Value, none, some}
 use Rattle.tree_rules.specs.Find.{slotsOf}
-use Rattle.tree_rules.specs.Rules.{reached, risen, calmed, levelled}
+use Rattle.tree_rules.specs.Rules.{reached, risen, allCalm, levelled}
 use Rattle.tree.specs.declared.rules.Rest.{Rest}
 use Rattle.tree.specs.declared.rules.Rest.the-variants.{Left, Wrong}
 use Rattle.tree.specs.declared.rules.Size.{Size}
@@ -31,18 +31,18 @@ abbrev pub partOf : Part → Judged
 partOf (Obeys rest last blacks) = obeys rest last blacks
 partOf Breaks = breaks
 
-abbrev pub told : Value → (ℕ → Judged) → Judged
-told (some v) f = f v
-told none f = breaks
+abbrev pub measuredBy : Value → (ℕ → Judged) → Judged
+measuredBy (some v) f = f v
+measuredBy none f = breaks
 
 -- The four rules asked together: none may be broken.
 abbrev pub together : Value → Value → Bool → Value → Judged
-together reach rise calm level = told reach (λ rest. told rise (λ last. pick calm (told level (λ blacks. obeys rest last blacks)) breaks))
+together reach rise calm level = measuredBy reach (λ rest. measuredBy rise (λ last. pick calm (measuredBy level (λ blacks. obeys rest last blacks)) breaks))
 
 -- What hangs from the link i under q, where `last` was read last: each rule by its own model, at most so deep and with so many visits.
 abbrev pub judged : List ℕ → List ℕ → ℕ → ℕ → ℕ → ℕ → ℕ → Judged
 judged names cells q last i depth visits =
-    together (reached visits (slotsOf names) cells q i visits) (risen depth names cells last i) (calmed depth cells i) (levelled depth cells i)
+    together (reached visits (slotsOf names) cells q i visits) (risen depth names cells last i) (allCalm depth cells i) (levelled depth cells i)
 
 -- So deep the walk over n slots may go.
 abbrev pub deepestOf : ℕ → ℕ

@@ -109,7 +109,7 @@ fn not_all_red(cells: &[u32], i: u32) -> bool
 }
 
 // The number of the first of the eight tests that fails at slot i; 0 where none does.
-fn first_failing(names: &[u64], cells: &[u32], i: u32) -> u32
+fn first_failing(names: &[u64], cells: &[u32], i: u32) -> u8
     ensures { λ r. ⌜ r ≡ firstFailing (now (names .entry)) (now (cells .entry)) i ⌝ }
 {
     let t1 = points_back(cells, i, PREV, NEXT);
@@ -186,7 +186,7 @@ pub fn links_in(n: usize, cells: &[u32], i: u32) -> bool
 // What a visit comes to: all passes, with so many visits left; a test fails at a slot; or the walk is lost.
 enum Walk {
     Passed(usize),
-    Failed(u32, u32),
+    Failed(u8, u32),
     Strayed,
 }
 
@@ -227,7 +227,7 @@ fn visit(names: &[u64], cells: &[u32], i: u32, visits: usize) -> Walk
 // What the source's check of one tree answers.
 pub enum Checked {
     Passes,
-    Fails(u32, u32),
+    Fails(u8, u32),
     Lost, // 9
 }
 

@@ -13,7 +13,7 @@ use slots::get;
 use slots::is_red;
 use slots::name;
 ghost use mathlib.Core.Path.{_≡_};
-ghost use Rattle.tree_rules.specs.Rules.{stands, follows, obeyed, treeSize, inUse, quietly};
+ghost use Rattle.tree_rules.specs.Rules.{stands, follows, obeyed, treeSize, inUse, isCalm};
 ghost use Rattle.tree.specs.Rules.{restOf, sizeOf, partOf, judged, deepestOf};
 
 // Slot i is black or red.
@@ -68,8 +68,8 @@ fn follow(names: &[u64], m: u32, i: u32) -> bool
 }
 
 // Slot i is not red, or none of its children is.
-fn quiet(cells: &[u32], i: u32) -> bool
-    ensures { λ r. ⌜ r ≡ quietly (now (cells .entry)) i ⌝ }
+fn is_calm(cells: &[u32], i: u32) -> bool
+    ensures { λ r. ⌜ r ≡ isCalm (now (cells .entry)) i ⌝ }
 {
     let own = get(cells, i, STATE);
     if own != RED {
@@ -124,7 +124,7 @@ fn walk(
     if !upright {
         return Part::Breaks;
     }
-    let calm = quiet(cells, i);
+    let calm = is_calm(cells, i);
     if !calm {
         return Part::Breaks;
     }

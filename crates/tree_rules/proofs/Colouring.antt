@@ -11,7 +11,7 @@ use borrow.Author.Tests.{ne-eqb}
 use Rattle.slots.specs.Words.{null, pick, state, cell, Colour, black, red, code}
 use Rattle.slots.proofs.Laws.{cell-null}
 use Rattle.tree_rules.specs.Tree.{Tree, leaf, node, top, colour, slots, Hangs, Rooted, Calm, nothing, darkly, redly, Coloured}
-use Rattle.tree_rules.specs.Rules.{calmed, coloured}
+use Rattle.tree_rules.specs.Rules.{allCalm, coloured}
 use Rattle.tree_rules.proofs.Reaching.{length-node, all, rooted-most}
 
 abbrev isRed : Colour → Bool
@@ -58,8 +58,8 @@ module _ (n : ℕ) (cells : List ℕ) (small : n ≤ null) (ends : length cells 
       go black = refl
       go red = refl
 
-  walk-calms : (depth : ℕ) {q : ℕ} {t : Tree} → Hangs n cells q t → length (slots t) ≤ depth → calmed depth cells (top t) ≡ calms t
-  unfolding calmed slots calms
+  walk-calms : (depth : ℕ) {q : ℕ} {t : Tree} → Hangs n cells q t → length (slots t) ≤ depth → allCalm depth cells (top t) ≡ calms t
+  unfolding allCalm slots calms
   walk-calms zero Hangs.none h = refl
   walk-calms (suc depth) Hangs.none h = refl
   walk-calms zero (Hangs.some {c = c} {l} {i} {r} w a b) h = absurd (omega (arith, length-node c l i r))

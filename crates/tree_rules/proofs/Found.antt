@@ -10,7 +10,7 @@ use lib.ListN.{length, getD, drop}
 use Rattle.slots.specs.Words.{null}
 use Rattle.slots.specs.Answers.{given, nothing, refused}
 use Rattle.slots.proofs.Laws.{number, given-is, nothing-given}
-use Rattle.tree_rules.specs.Find.{Look, here, on, looked, Search, after, slotsOf, searched, found, Follows, start, step, Lost, Here, Missed}
+use Rattle.tree_rules.specs.Find.{Look, here, on, looked, Search, lookedThen, slotsOf, searched, found, Follows, start, step, Lost, Here, Missed}
 use Rattle.tree_rules.proofs.Searching.{at-null, out-of-range, visits-spent, at-slot}
 
 -- A list whose rest from k on begins with p.
@@ -43,11 +43,11 @@ module _ (names cells : List ℕ) (root hash key : ℕ) where
   -- One more visit.
   onward : {p q : ℕ} (v : ℕ) → p ≢ null → p < slotsOf names → looked names cells p hash key ≡ on q
       → searched names cells (suc v) p hash key ≡ record { answer = searched names cells v q hash key .answer; looks = p ∷ searched names cells v q hash key .looks }
-  onward {p} v n l e = at-slot names cells hash key v p n l ∙ ap (λ (o : Look). after o p (λ q. searched names cells v q hash key)) e
+  onward {p} v n l e = at-slot names cells hash key v p n l ∙ ap (λ (o : Look). lookedThen o p (λ q. searched names cells v q hash key)) e
 
   stays : {p : ℕ} (v : ℕ) → p ≢ null → p < slotsOf names → looked names cells p hash key ≡ here
       → searched names cells (suc v) p hash key ≡ record { answer = given p; looks = p ∷ [] }
-  stays {p} v n l e = at-slot names cells hash key v p n l ∙ ap (λ (o : Look). after o p (λ q. searched names cells v q hash key)) e
+  stays {p} v n l e = at-slot names cells hash key v p n l ∙ ap (λ (o : Look). lookedThen o p (λ q. searched names cells v q hash key)) e
 
   fewer : (n k : ℕ) → suc k ≤ n → n - k ≡ suc (n - suc k)
   fewer n k h = omega arith

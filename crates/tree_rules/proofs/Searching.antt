@@ -6,7 +6,7 @@ use Prim.Native.Nat.{ℕ, zero, suc, _<_, _≤_}
 use borrow.Author.Tests.{eq-eqb, ne-eqb, le-leb, lt-leb}
 use Rattle.slots.specs.Words.{null}
 use Rattle.slots.specs.Answers.{nothing, refused}
-use Rattle.tree_rules.specs.Find.{looked, ends, after, slotsOf, searched}
+use Rattle.tree_rules.specs.Find.{looked, ends, lookedThen, slotsOf, searched}
 
 module _ (names cells : List ℕ) (hash key : ℕ) where
   pub at-null : (visits p : ℕ) → p ≡ null → searched names cells visits p hash key ≡ ends nothing
@@ -24,6 +24,6 @@ module _ (names cells : List ℕ) (hash key : ℕ) where
   visits-spent p n = simp (ne-eqb _ _ n)
 
   pub at-slot : (visits p : ℕ) → p ≢ null → p < slotsOf names
-      → searched names cells (suc visits) p hash key ≡ after (looked names cells p hash key) p (λ q. searched names cells visits q hash key)
+      → searched names cells (suc visits) p hash key ≡ lookedThen (looked names cells p hash key) p (λ q. searched names cells visits q hash key)
   unfolding searched
   at-slot visits p n h = simp (ne-eqb _ _ n, lt-leb _ _ h)

@@ -34,9 +34,9 @@ pub record Search : Type 0 where
 abbrev pub ends : Answer → Search
 ends a = record { answer = a; looks = [] }
 
-abbrev pub after : Look → ℕ → (ℕ → Search) → Search
-after here p rest = record { answer = given p; looks = p ∷ [] }
-after (on q) p rest = let r = rest q in record { answer = r .answer; looks = p ∷ r .looks }
+abbrev pub lookedThen : Look → ℕ → (ℕ → Search) → Search
+lookedThen here p rest = record { answer = given p; looks = p ∷ [] }
+lookedThen (on q) p rest = let r = rest q in record { answer = r .answer; looks = p ∷ r .looks }
 
 -- How many slots there are names for.
 abbrev pub slotsOf : List ℕ → ℕ
@@ -48,7 +48,7 @@ searched names cells zero p hash key = pick (eqb p null) (ends nothing) (ends (r
 searched names cells (suc visits) p hash key =
     pick (eqb p null) (ends nothing)
     (pick (leb (slotsOf names) p) (ends (refused 9))
-    (after (looked names cells p hash key) p (λ q. searched names cells visits q hash key)))
+    (lookedThen (looked names cells p hash key) p (λ q. searched names cells visits q hash key)))
 
 -- find_tree_node from a root: as many visits as there are slots.
 unfoldable pub found : List ℕ → List ℕ → ℕ → ℕ → ℕ → Search

@@ -54,19 +54,19 @@ risen (suc depth) names cells m i =
     (λ k. pick (follows names k i) (risen depth names cells i (cell cells i right)) none))
 
 -- Slot i is not red, or none of its children is.
-abbrev pub quietly : List ℕ → ℕ → Bool
-quietly cells i =
+abbrev pub isCalm : List ℕ → ℕ → Bool
+isCalm cells i =
     pick (eqb (cell cells i state) 2)
     (pick (eqb (cell cells (cell cells i left) state) 2) false (pick (eqb (cell cells (cell cells i right) state) 2) false true))
     true
 
 -- T5: no red slot has a red child, from the link i down.
-unfoldable pub calmed : ℕ → List ℕ → ℕ → Bool
-calmed zero cells i = eqb i null
-calmed (suc depth) cells i =
+unfoldable pub allCalm : ℕ → List ℕ → ℕ → Bool
+allCalm zero cells i = eqb i null
+allCalm (suc depth) cells i =
     pick (eqb i null) true
-    (pick (quietly cells i)
-    (pick (calmed depth cells (cell cells i left)) (calmed depth cells (cell cells i right)) false)
+    (pick (isCalm cells i)
+    (pick (allCalm depth cells (cell cells i left)) (allCalm depth cells (cell cells i right)) false)
     false)
 
 -- T6: the number of black slots that every way from the link i down meets, or none where two differ.
@@ -87,7 +87,7 @@ unfoldable pub rises : List ℕ → List ℕ → ℕ → Bool
 rises names cells root = isSome (risen (slotsOf names) names cells null root)
 
 unfoldable pub coloured : ℕ → List ℕ → ℕ → Bool
-coloured n cells root = pick (eqb (cell cells root state) 2) false (calmed n cells root)
+coloured n cells root = pick (eqb (cell cells root state) 2) false (allCalm n cells root)
 
 unfoldable pub level : ℕ → List ℕ → ℕ → Bool
 level n cells root = isSome (levelled n cells root)

@@ -4,10 +4,10 @@ mod list;
 mod words;
 
 use calls::line;
-use libc::STDOUT_FILENO;
+use index::fresh::fresh;
 use list::number;
-use slots::NULL;
-use words::clear;
+use trials::load::load;
+use trials::print::figure;
 use words::one_if;
 
 // The lines of a tree, up to the next tree: where it starts, how many there were and how many of them differ.
@@ -19,7 +19,9 @@ struct Seen {
 
 // The lines of a tree of so many slots. No tree of the list has as many lines as turns.
 fn lines(text: &[u8], from: usize, names: &mut [u64], cells: &mut [u32], slots: u32) -> Seen {
-    let mut head = [NULL, NULL, 0];
+    let mut head = [0u32; 3];
+    let mut journal = [0u64; 1];
+    fresh(names, cells, &mut head, &mut journal);
     let mut at = from;
     let mut count: u32 = 0;
     let mut wrong: u32 = 0;
@@ -76,18 +78,10 @@ fn cut(text: &[u8], at: usize, names: &mut [u64], cells: &mut [u32], slots: u32)
 // A tree: the number of its slots, at most 16, then its lines.
 fn tree(text: &[u8], from: usize) -> Seen {
     let mut names = [0u64; 32];
-    let mut cells = [NULL; 112];
+    let mut cells = [0u32; 112];
     let kind = number(text, from);
     let read = number(text, kind.at);
-    clear(&mut cells, read.value);
     cut(text, read.at, &mut names, &mut cells, read.value)
-}
-
-fn print(label: &[u8], value: u32) {
-    io::write_all(STDOUT_FILENO, label);
-    io::write_all(STDOUT_FILENO, b" ");
-    io::print_decimal(STDOUT_FILENO, value as u64);
-    io::write_all(STDOUT_FILENO, b"\n");
 }
 
 // Every tree of the list. It has fewer trees than turns.
@@ -107,22 +101,16 @@ fn trees(text: &[u8]) {
             wrong = std::num::wrapping_add_u32(wrong, seen.wrong);
         }
     }
-    print(b"trees", count);
-    print(b"lines", lines);
-    print(b"differences", wrong);
+    figure(b"trees", count);
+    figure(b"lines", lines);
+    figure(b"differences", wrong);
 }
 
 fn main() {
     let mut text = [0u8; 131072];
-    let file = os::open_read(b"sample.txt");
-    if file < 0 {
-        print(b"no list", 1);
-        return;
-    }
-    let n = io::read_full(file, &mut text);
-    libc::close(file);
+    let n = load(b"sample.txt", &mut text);
     if 131072 <= n {
-        print(b"no room", 1);
+        figure(b"no list", 1);
         return;
     }
     trees(&text[..n]);

@@ -117,13 +117,3 @@ pub fn take_slots(
     }
     at
 }
-
-// All slots free, from words that are null.
-pub fn clear(cells: &mut [u32], slots: u32) {
-    let mut i: u32 = 0;
-    while i < slots {
-        put(cells, i, PLACE, 0);
-        put(cells, i, PLACE + 1, 0);
-        i += 1;
-    }
-}

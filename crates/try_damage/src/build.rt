@@ -1,7 +1,6 @@
 // A sound tree of 47 used slots among 64. A position is a place in the reading order of a perfect tree of 63, from 1;
 // the tree has its even positions and 16 of its leaves.
 use slots::BLACK;
-use slots::FREE;
 use slots::HASH;
 use slots::KEY;
 use slots::LEFT;
@@ -89,24 +88,16 @@ fn join(cells: &mut [u32], p: u32) {
     }
 }
 
-// A slot whose links are null, made free.
-fn clear(cells: &mut [u32], i: u32) {
-    put(cells, i, PLACE, 0);
-    put(cells, i, STATE, FREE);
-}
-
 // The slot of p, with its place in the tree if there is one at p.
 fn stand(names: &mut [u64], cells: &mut [u32], p: u32) {
     if stands(p) {
         baptize(names, p);
         fill(cells, p);
         join(cells, p);
-    } else {
-        clear(cells, slot_of(p));
     }
 }
 
-// The tree, from names that are 0 and words that are null.
+// The tree, in an empty index.
 pub fn grow(names: &mut [u64], cells: &mut [u32]) {
     let mut p: u32 = 0;
     while p < 64 {

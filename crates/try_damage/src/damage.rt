@@ -9,14 +9,15 @@ use crate::build::slot_of;
 use crate::judge::judge;
 use index::check::Checked;
 use index::check::check;
+use index::fresh::fresh;
 use index::sound::Soundness;
 use index::sound::sound;
-use libc::STDOUT_FILENO;
 use slots::NULL;
 use slots::get;
 use slots::name;
 use slots::put;
 use slots::put_name;
+use trials::print::figure;
 
 // How many damages each word suffers.
 const KINDS: u32 = 6;
@@ -170,19 +171,12 @@ fn try_words(t: Tally, names: &mut [u64], cells: &mut [u32], head: &mut [u32]) -
     after
 }
 
-fn print(label: &[u8], value: u32) {
-    io::write_all(STDOUT_FILENO, label);
-    io::write_all(STDOUT_FILENO, b" ");
-    io::print_decimal(STDOUT_FILENO, value as u64);
-    io::write_all(STDOUT_FILENO, b"\n");
-}
-
 fn report(t: Tally) {
-    print(b"tried", t.tried);
-    print(b"yes", t.yes);
-    print(b"no", t.no);
-    print(b"differences", t.differences);
-    print(b"check passes", t.passes);
+    figure(b"tried", t.tried);
+    figure(b"yes", t.yes);
+    figure(b"no", t.no);
+    figure(b"differences", t.differences);
+    figure(b"check passes", t.passes);
 }
 
 // The tally of the damaged trees; that of the tree itself if it is not found sound.
@@ -205,9 +199,12 @@ fn damage(names: &mut [u64], cells: &mut [u32], head: &mut [u32]) -> Tally {
 
 pub fn run() {
     let mut names = [0u64; 128];
-    let mut cells = [NULL; 448];
+    let mut cells = [0u32; 448];
+    let mut head = [0u32; 3];
+    let mut lines = [0u64; 1];
+    fresh(&mut names, &mut cells, &mut head, &mut lines);
     grow(&mut names, &mut cells);
     let ends = chain(&mut cells);
-    let mut head = [slot_of(MIDDLE), ends.first, 47];
+    head = [slot_of(MIDDLE), ends.first, 47];
     report(damage(&mut names, &mut cells, &mut head));
 }

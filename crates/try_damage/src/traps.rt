@@ -3,7 +3,6 @@ use index::check::Checked;
 use index::check::check;
 use index::sound::Soundness;
 use index::sound::sound;
-use libc::STDOUT_FILENO;
 use slots::BLACK;
 use slots::HASH;
 use slots::LEFT;
@@ -17,10 +16,7 @@ use slots::RIGHT;
 use slots::STATE;
 use slots::put;
 use slots::put_name;
-
-fn say(words: &[u8]) {
-    io::write_all(STDOUT_FILENO, words);
-}
+use trials::print::say;
 
 fn say_check(answer: Checked) {
     match answer {

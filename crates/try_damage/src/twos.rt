@@ -6,7 +6,7 @@ use crate::build::grow;
 use crate::build::slot_of;
 use crate::damage::Tally;
 use crate::damage::compare;
-use libc::STDOUT_FILENO;
+use index::fresh::fresh;
 use slots::BLACK;
 use slots::HASH;
 use slots::KEY;
@@ -22,6 +22,8 @@ use slots::get;
 use slots::name;
 use slots::put;
 use slots::put_name;
+use trials::print::number;
+use trials::print::say;
 
 // The ways, by their number; any other moves a slot with all below it in the tree.
 const PAIRS: u32 = 0;
@@ -172,28 +174,26 @@ fn try_twos(names: [u64; 128], cells: [u32; 448], head: [u32; 3], way: u32) -> T
     t
 }
 
-fn print(label: &[u8], value: u32) {
-    io::write_all(STDOUT_FILENO, label);
-    io::print_decimal(STDOUT_FILENO, value as u64);
-}
-
 // One line to a way.
 fn report(label: &[u8], t: Tally) {
-    io::write_all(STDOUT_FILENO, label);
-    print(b": tried ", t.tried);
-    print(b", yes ", t.yes);
-    print(b", no ", t.no);
-    print(b", differences ", t.differences);
-    print(b", check passes ", t.passes);
-    io::write_all(STDOUT_FILENO, b"\n");
+    say(label);
+    number(b": tried ", t.tried);
+    number(b", yes ", t.yes);
+    number(b", no ", t.no);
+    number(b", differences ", t.differences);
+    number(b", check passes ", t.passes);
+    say(b"\n");
 }
 
 pub fn run() {
     let mut names = [0u64; 128];
-    let mut cells = [NULL; 448];
+    let mut cells = [0u32; 448];
+    let mut head = [0u32; 3];
+    let mut lines = [0u64; 1];
+    fresh(&mut names, &mut cells, &mut head, &mut lines);
     grow(&mut names, &mut cells);
     let ends = chain(&mut cells);
-    let head = [slot_of(MIDDLE), ends.first, 47];
+    head = [slot_of(MIDDLE), ends.first, 47];
     report(b"two pairs exchanged", try_twos(names, cells, head, PAIRS));
     report(
         b"two states exchanged",

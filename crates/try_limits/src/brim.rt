@@ -2,6 +2,7 @@
 use crate::contents::say_entries;
 use index::find::Found;
 use index::find::find;
+use index::fresh::fresh;
 use index::insert::Inserted;
 use index::insert::insert;
 use index::remove::Removed;
@@ -10,49 +11,33 @@ use index::rollback::RolledBack;
 use index::rollback::rollback;
 use index::sound::Soundness;
 use index::sound::sound;
-use libc::STDOUT_FILENO;
-use slots::FREE;
-use slots::NULL;
 use slots::PLACE;
-use slots::STATE;
 use slots::get;
 use slots::name;
-use slots::put;
 use slots::put_name;
-
-// Writes words to standard output, which is all that this program writes to.
-fn say(words: &[u8]) {
-    io::write_all(STDOUT_FILENO, words);
-}
-
-// One line to an answer, so that a line that differs names its call.
-fn print(label: &[u8], word: &[u8], value: u32) {
-    say(label);
-    say(word);
-    io::print_decimal(STDOUT_FILENO, value as u64);
-    say(b"\n");
-}
+use trials::print::line;
+use trials::print::say;
 
 // A refusal is printed by its number, so that it can be held against the rules.
 fn print_inserted(label: &[u8], inserted: Inserted) {
     match inserted {
         Inserted::At(slot) => {
-            print(label, b": slot ", slot);
+            line(label, b": slot ", slot);
         }
         Inserted::Unfit => {
-            print(label, b": no ", 1);
+            line(label, b": no ", 1);
         }
         Inserted::Damaged => {
-            print(label, b": no ", 2);
+            line(label, b": no ", 2);
         }
         Inserted::Present(slot) => {
-            print(label, b": no 3 at ", slot);
+            line(label, b": no 3 at ", slot);
         }
         Inserted::Full => {
-            print(label, b": no ", 5);
+            line(label, b": no ", 5);
         }
         Inserted::JournalFull => {
-            print(label, b": no ", 6);
+            line(label, b": no ", 6);
         }
     }
 }
@@ -61,19 +46,19 @@ fn print_inserted(label: &[u8], inserted: Inserted) {
 fn print_removed(label: &[u8], removed: Removed) {
     match removed {
         Removed::At(slot) => {
-            print(label, b": gone ", slot);
+            line(label, b": gone ", slot);
         }
         Removed::Unfit => {
-            print(label, b": no ", 1);
+            line(label, b": no ", 1);
         }
         Removed::Damaged => {
-            print(label, b": no ", 2);
+            line(label, b": no ", 2);
         }
         Removed::Absent => {
-            print(label, b": no ", 4);
+            line(label, b": no ", 4);
         }
         Removed::JournalFull => {
-            print(label, b": no ", 6);
+            line(label, b": no ", 6);
         }
     }
 }
@@ -82,19 +67,19 @@ fn print_removed(label: &[u8], removed: Removed) {
 fn print_rolled(label: &[u8], rolled: RolledBack) {
     match rolled {
         RolledBack::Lines(lines) => {
-            print(label, b": back ", lines);
+            line(label, b": back ", lines);
         }
         RolledBack::Unfit => {
-            print(label, b": no ", 1);
+            line(label, b": no ", 1);
         }
         RolledBack::Damaged => {
-            print(label, b": no ", 2);
+            line(label, b": no ", 2);
         }
         RolledBack::BadMark => {
-            print(label, b": no ", 7);
+            line(label, b": no ", 7);
         }
         RolledBack::Misfit => {
-            print(label, b": no ", 8);
+            line(label, b": no ", 8);
         }
     }
 }
@@ -103,39 +88,24 @@ fn print_rolled(label: &[u8], rolled: RolledBack) {
 fn print_tree(label: &[u8], names: &[u64], cells: &[u32], head: &[u32]) {
     match sound(names, cells, head) {
         Soundness::Yes => {
-            print(label, b": sound, count ", get(head, 0, 2));
+            line(label, b": sound, count ", get(head, 0, 2));
         }
         Soundness::No => {
-            print(label, b": not sound, count ", get(head, 0, 2));
+            line(label, b": not sound, count ", get(head, 0, 2));
         }
         Soundness::Unfit => {
-            print(label, b": no ", 1);
+            line(label, b": no ", 1);
         }
-    }
-}
-
-// A slot whose links are null, made free.
-fn clear(cells: &mut [u32], i: u32) {
-    put(cells, i, PLACE, 0);
-    put(cells, i, STATE, FREE);
-}
-
-// All slots free, from words that are null.
-fn clear_all(cells: &mut [u32], n: u32) {
-    let mut i: u32 = 0;
-    while i < n {
-        clear(cells, i);
-        i += 1;
     }
 }
 
 // The least capacity: one pair fills the tree, and a rollback has to free the slot before it can take the old pair back.
 fn one_slot() {
     let mut names = [0u64; 2];
-    let mut cells = [NULL; 7];
-    let mut head = [NULL, NULL, 0];
+    let mut cells = [0u32; 7];
+    let mut head = [0u32; 3];
     let mut lines = [0u64; 17];
-    clear(&mut cells, 0);
+    fresh(&mut names, &mut cells, &mut head, &mut lines);
     print_inserted(
         b"capacity 1, insert 1",
         insert(&mut names, &mut cells, &mut head, &mut lines, 0, 1, 10),
@@ -177,10 +147,10 @@ fn one_slot() {
 // The least journal: it is full from the start, and only a rollback to 0 is accepted.
 fn no_line() {
     let mut names = [0u64; 2];
-    let mut cells = [NULL; 7];
-    let mut head = [NULL, NULL, 0];
+    let mut cells = [0u32; 7];
+    let mut head = [0u32; 3];
     let mut lines = [0u64; 1];
-    clear(&mut cells, 0);
+    fresh(&mut names, &mut cells, &mut head, &mut lines);
     print_inserted(
         b"journal 0, insert 1",
         insert(&mut names, &mut cells, &mut head, &mut lines, 0, 1, 10),
@@ -294,12 +264,12 @@ fn right_pairs(names: &[u64], cells: &[u32], head: &[u32]) -> u32 {
 // The largest capacity and the largest journal, each filled up and emptied.
 fn all_slots() {
     let mut names = [0u64; 8192];
-    let mut cells = [NULL; 28672];
-    let mut head = [NULL, NULL, 0];
+    let mut cells = [0u32; 28672];
+    let mut head = [0u32; 3];
     let mut lines = [0u64; 4097];
-    clear_all(&mut cells, 4096);
+    fresh(&mut names, &mut cells, &mut head, &mut lines);
     let first = fill(&mut names, &mut cells, &mut head, &mut lines, 1024);
-    print(b"capacity 4096, journal 1024", b": accepted ", first);
+    line(b"capacity 4096, journal 1024", b": accepted ", first);
     print_inserted(
         b"insert 5000",
         insert(&mut names, &mut cells, &mut head, &mut lines, 0, 5000, 1),
@@ -314,21 +284,21 @@ fn all_slots() {
     );
     print_tree(b"the tree", &names, &cells, &head);
     let filled = fill(&mut names, &mut cells, &mut head, &mut lines, 4096);
-    print(b"filled", b": accepted ", filled);
+    line(b"filled", b": accepted ", filled);
     print_tree(b"the tree", &names, &cells, &head);
     print_inserted(
         b"insert 5000",
         insert(&mut names, &mut cells, &mut head, &mut lines, 0, 5000, 1),
     );
     let drained = drain(&mut names, &mut cells, &mut head, &mut lines, 4096);
-    print(b"emptied in another order", b": accepted ", drained);
+    line(b"emptied in another order", b": accepted ", drained);
     print_tree(b"the tree", &names, &cells, &head);
     print_rolled(
         b"rollback to 0",
         rollback(&mut names, &mut cells, &mut head, &mut lines, 0),
     );
     print_tree(b"the tree", &names, &cells, &head);
-    print(
+    line(
         b"pairs as at the mark",
         b": ",
         right_pairs(&names, &cells, &head),

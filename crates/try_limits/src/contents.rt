@@ -1,5 +1,4 @@
 // What a tree holds, printed slot by slot.
-use libc::STDOUT_FILENO;
 use slots::FREE;
 use slots::HASH;
 use slots::KEY;
@@ -7,23 +6,20 @@ use slots::PLACE;
 use slots::STATE;
 use slots::get;
 use slots::name;
+use trials::print;
 
 // The entry of slot i, if the slot is used.
 fn say_entry(names: &[u64], cells: &[u32], i: u32) {
     if get(cells, i, STATE) != FREE {
-        io::write_all(STDOUT_FILENO, b", ");
-        io::print_decimal(STDOUT_FILENO, name(names, i, HASH));
-        io::write_all(STDOUT_FILENO, b" ");
-        io::print_decimal(STDOUT_FILENO, name(names, i, KEY));
-        io::write_all(STDOUT_FILENO, b" at place ");
-        io::print_decimal(STDOUT_FILENO, get(cells, i, PLACE) as u64);
+        print::name(b", ", name(names, i, HASH));
+        print::name(b" ", name(names, i, KEY));
+        print::number(b" at place ", get(cells, i, PLACE));
     }
 }
 
 // How many entries a tree of n slots has and which, behind what stands on the line already.
 pub fn say_entries(names: &[u64], cells: &[u32], head: &[u32], n: u32) {
-    io::write_all(STDOUT_FILENO, b", entries ");
-    io::print_decimal(STDOUT_FILENO, get(head, 0, 2) as u64);
+    print::number(b", entries ", get(head, 0, 2));
     let mut i: u32 = 0;
     while i < n {
         say_entry(names, cells, i);

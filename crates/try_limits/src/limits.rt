@@ -1,33 +1,27 @@
 // Asks find at the limits of what it refuses, and prints each answer.
 use index::find::Found;
 use index::find::find;
-use libc::STDOUT_FILENO;
 use slots::LEFT;
 use slots::NULL;
 use slots::RIGHT;
 use slots::put;
-
-fn numbers(label: &[u8], word: &[u8], value: u32) {
-    io::write_all(STDOUT_FILENO, label);
-    io::write_all(STDOUT_FILENO, word);
-    io::print_decimal(STDOUT_FILENO, value as u64);
-    io::write_all(STDOUT_FILENO, b"\n");
-}
+use trials::print::line;
+use trials::print::say;
 
 fn print(label: &[u8], found: Found) {
     match found {
         Found::At(slot) => {
-            numbers(label, b": at ", slot);
+            line(label, b": at ", slot);
         }
         Found::Nothing => {
-            io::write_all(STDOUT_FILENO, label);
-            io::write_all(STDOUT_FILENO, b": none\n");
+            say(label);
+            say(b": none\n");
         }
         Found::Unfit => {
-            numbers(label, b": no ", 1);
+            line(label, b": no ", 1);
         }
         Found::Lost => {
-            numbers(label, b": no ", 9);
+            line(label, b": no ", 9);
         }
     }
 }

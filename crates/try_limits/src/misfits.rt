@@ -1,19 +1,17 @@
 // Damages a journal in one word at a time, asks rollback, and prints its answer and whether the lent slices are as they were before
 // the call; where they are not, also what the tree then holds.
 use crate::contents::say_entries;
+use index::fresh::fresh;
 use index::insert::insert;
 use index::remove::remove;
 use index::rollback::RolledBack;
 use index::rollback::rollback;
-use libc::STDOUT_FILENO;
-use slots::FREE;
 use slots::NULL;
-use slots::PLACE;
-use slots::STATE;
-use slots::get;
-use slots::name;
 use slots::put;
 use slots::put_name;
+use trials::print::number;
+use trials::print::say;
+use trials::same::same_index;
 
 // The words of a line, by their place.
 const KIND: u32 = 0;
@@ -25,16 +23,10 @@ const LINE_PLACE: u32 = 3;
 // One more than a 32-bit word holds.
 const HIGH: u64 = 4294967296;
 
-// Writes words to standard output, which is all that this program writes to.
-fn say(words: &[u8]) {
-    io::write_all(STDOUT_FILENO, words);
-}
-
 // One line to an answer, so that a line that differs names its question.
 fn print(label: &[u8], word: &[u8], value: u32, unchanged: bool) {
     say(label);
-    say(word);
-    io::print_decimal(STDOUT_FILENO, value as u64);
+    number(word, value);
     if unchanged {
         say(b", all as it was");
     } else {
@@ -71,42 +63,6 @@ fn print_rolled(label: &[u8], rolled: RolledBack, unchanged: bool) {
     }
 }
 
-// Whether the words are the same; no slice of words here has more than 21.
-fn same_words(a: &[u32], b: &[u32]) -> bool {
-    if a.len() != b.len() {
-        return false;
-    }
-    let mut k: u32 = 0;
-    while k < 21 {
-        if get(a, 0, k) != get(b, 0, k) {
-            return false;
-        }
-        k += 1;
-    }
-    true
-}
-
-// Whether the names or the lines are the same; no slice of them here has more than 13 words.
-fn same_names(a: &[u64], b: &[u64]) -> bool {
-    if a.len() != b.len() {
-        return false;
-    }
-    let mut k: u32 = 0;
-    while k < 13 {
-        if name(a, 0, k) != name(b, 0, k) {
-            return false;
-        }
-        k += 1;
-    }
-    true
-}
-
-// A slot whose links are null, made free.
-fn clear(cells: &mut [u32], i: u32) {
-    put(cells, i, PLACE, 0);
-    put(cells, i, STATE, FREE);
-}
-
 // The root where one is given, so that a tree that is not sound can be asked about.
 fn set_root(head: &mut [u32], root: u32) {
     if root != NULL {
@@ -118,12 +74,10 @@ fn set_root(head: &mut [u32], root: u32) {
 // that is not null, and the lines are rolled back to mark.
 fn ask(label: &[u8], k: u32, f: u32, value: u64, root: u32, mark: u32) {
     let mut names = [0u64; 6];
-    let mut cells = [NULL; 21];
-    let mut head = [NULL, NULL, 0];
+    let mut cells = [0u32; 21];
+    let mut head = [0u32; 3];
     let mut lines = [0u64; 13];
-    clear(&mut cells, 0);
-    clear(&mut cells, 1);
-    clear(&mut cells, 2);
+    fresh(&mut names, &mut cells, &mut head, &mut lines);
     insert(&mut names, &mut cells, &mut head, &mut lines, 0, 1, 10);
     insert(&mut names, &mut cells, &mut head, &mut lines, 0, 2, 20);
     remove(&mut names, &mut cells, &mut head, &mut lines, 0, 1);
@@ -134,16 +88,16 @@ fn ask(label: &[u8], k: u32, f: u32, value: u64, root: u32, mark: u32) {
     let head_before = head;
     let lines_before = lines;
     let rolled = rollback(&mut names, &mut cells, &mut head, &mut lines, mark);
-    let mut unchanged = same_names(&names, &names_before);
-    if !same_words(&cells, &cells_before) {
-        unchanged = false;
-    }
-    if !same_words(&head, &head_before) {
-        unchanged = false;
-    }
-    if !same_names(&lines, &lines_before) {
-        unchanged = false;
-    }
+    let unchanged = same_index(
+        &names,
+        &cells,
+        &head,
+        &lines,
+        &names_before,
+        &cells_before,
+        &head_before,
+        &lines_before,
+    );
     print_rolled(label, rolled, unchanged);
     end(&names, &cells, &head, 3, unchanged);
 }
@@ -151,10 +105,10 @@ fn ask(label: &[u8], k: u32, f: u32, value: u64, root: u32, mark: u32) {
 // One slot, in use, and a line that says that a pair was removed.
 fn ask_full(label: &[u8]) {
     let mut names = [0u64; 2];
-    let mut cells = [NULL; 7];
-    let mut head = [NULL, NULL, 0];
+    let mut cells = [0u32; 7];
+    let mut head = [0u32; 3];
     let mut lines = [0u64; 5];
-    clear(&mut cells, 0);
+    fresh(&mut names, &mut cells, &mut head, &mut lines);
     insert(&mut names, &mut cells, &mut head, &mut lines, 0, 1, 10);
     put_name(&mut lines, 0, 1, 2);
     put_name(&mut lines, 0, 3, 9);
@@ -163,16 +117,16 @@ fn ask_full(label: &[u8]) {
     let head_before = head;
     let lines_before = lines;
     let rolled = rollback(&mut names, &mut cells, &mut head, &mut lines, 0);
-    let mut unchanged = same_names(&names, &names_before);
-    if !same_words(&cells, &cells_before) {
-        unchanged = false;
-    }
-    if !same_words(&head, &head_before) {
-        unchanged = false;
-    }
-    if !same_names(&lines, &lines_before) {
-        unchanged = false;
-    }
+    let unchanged = same_index(
+        &names,
+        &cells,
+        &head,
+        &lines,
+        &names_before,
+        &cells_before,
+        &head_before,
+        &lines_before,
+    );
     print_rolled(label, rolled, unchanged);
     end(&names, &cells, &head, 1, unchanged);
 }

@@ -2,6 +2,7 @@
 // answers, and whether the lent words are as they were before the first call.
 use index::check::Checked;
 use index::check::check;
+use index::fresh::fresh;
 use index::insert::Inserted;
 use index::insert::insert;
 use index::remove::Removed;
@@ -10,32 +11,14 @@ use index::rollback::RolledBack;
 use index::rollback::rollback;
 use index::sound::Soundness;
 use index::sound::sound;
-use libc::STDOUT_FILENO;
-use slots::FREE;
 use slots::NULL;
-use slots::PLACE;
-use slots::STATE;
-use slots::get;
-use slots::name;
 use slots::put;
 use slots::put_name;
-
-// No slice of names or lines here has more words.
-const MOST_NAMES: u32 = 8195;
-
-// No slice of cells here has more words.
-const MOST_CELLS: u32 = 28680;
-
-// Writes words to standard output, which is all that this program writes to.
-fn say(words: &[u8]) {
-    io::write_all(STDOUT_FILENO, words);
-}
-
-// A word and its number.
-fn number(word: &[u8], value: u32) {
-    say(word);
-    io::print_decimal(STDOUT_FILENO, value as u64);
-}
+use trials::print::number;
+use trials::print::say;
+use trials::same::same_index;
+ghost use Prim.Native.Nat.{_≤_};
+ghost use lib.ListN.{length as size};
 
 // A refusal is printed by its number, so that it can be held against the rules.
 fn say_inserted(inserted: Inserted) {
@@ -136,40 +119,6 @@ fn say_checked(checked: Checked) {
     }
 }
 
-// Whether the names or the lines are the same.
-fn same_names(a: &[u64], b: &[u64]) -> bool {
-    let mut k: u32 = 0;
-    while k < MOST_NAMES {
-        if name(a, 0, k) != name(b, 0, k) {
-            return false;
-        }
-        k += 1;
-    }
-    true
-}
-
-// Whether the cells or the headers are the same.
-fn same_cells(a: &[u32], b: &[u32]) -> bool {
-    let mut k: u32 = 0;
-    while k < MOST_CELLS {
-        if get(a, 0, k) != get(b, 0, k) {
-            return false;
-        }
-        k += 1;
-    }
-    true
-}
-
-// All slots free, from words that are null.
-fn clear_all(cells: &mut [u32], n: u32) {
-    let mut i: u32 = 0;
-    while i < n {
-        put(cells, i, PLACE, 0);
-        put(cells, i, STATE, FREE);
-        i += 1;
-    }
-}
-
 // The three calls that can write: pair (0, 1) goes in, (0, 2) is to go, and the mark is 1.
 fn ask_three(names: &mut [u64], cells: &mut [u32], head: &mut [u32], lines: &mut [u64]) {
     say_inserted(insert(names, cells, head, lines, 0, 1, 10));
@@ -185,8 +134,8 @@ fn ask_five(names: &mut [u64], cells: &mut [u32], head: &mut [u32], lines: &mut 
 }
 
 // Ends a line.
-fn say_same(a: bool, b: bool, c: bool, d: bool) {
-    if a && b && c && d {
+fn say_same(same: bool) {
+    if same {
         say(b", all as it was\n");
     } else {
         say(b", written\n");
@@ -224,14 +173,28 @@ fn ask_part(
     );
 }
 
+// An empty index of 4,096 slots and 1,024 lines in the first words of each slice.
+fn empty(names: &mut [u64], cells: &mut [u32], head: &mut [u32], lines: &mut [u64])
+    requires { ⌜ (8192 ≤ size (now names)) × (28672 ≤ size (now cells)) × (3 ≤ size (now head)) × (4097 ≤ size (now lines)) ⌝ }
+{
+    fresh(
+        &mut names[..8192],
+        &mut cells[..28672],
+        &mut head[..3],
+        &mut lines[..4097],
+    );
+}
+
 // An empty tree and an empty journal, with the journal's length, the root and the count as given, and n, c, h and l words of names,
 // cells, header and lines.
 fn ask(label: &[u8], n: usize, c: usize, h: usize, l: usize, length: u64, root: u32, count: u32) {
     let mut names = [0u64; 8195];
-    let mut cells = [NULL; 28680];
-    let mut head = [root, NULL, count, 0];
+    let mut cells = [0u32; 28680];
+    let mut head = [0u32; 4];
     let mut lines = [0u64; 4102];
-    clear_all(&mut cells, 4097);
+    empty(&mut names, &mut cells, &mut head, &mut lines);
+    put(&mut head, 0, 0, root);
+    put(&mut head, 0, 2, count);
     put_name(&mut lines, 0, 0, length);
     let names_before = names;
     let cells_before = cells;
@@ -239,12 +202,16 @@ fn ask(label: &[u8], n: usize, c: usize, h: usize, l: usize, length: u64, root: 
     let lines_before = lines;
     say(label);
     ask_part(&mut names, &mut cells, &mut head, &mut lines, n, c, h, l);
-    say_same(
-        same_names(&names, &names_before),
-        same_cells(&cells, &cells_before),
-        same_cells(&head, &head_before),
-        same_names(&lines, &lines_before),
-    );
+    say_same(same_index(
+        &names,
+        &cells,
+        &head,
+        &lines,
+        &names_before,
+        &cells_before,
+        &head_before,
+        &lines_before,
+    ));
 }
 
 // Each slice one word off, beside words that fit.

@@ -1,35 +1,20 @@
 // Runs scripts whose answers are known, each whole, in pieces of seven bytes and byte by byte, and compares every answer.
-mod play;
-
-use libc::STDOUT_FILENO;
-use play::play;
-use slots::FREE;
-use slots::NULL;
-use slots::PLACE;
-use slots::STATE;
-use slots::put;
+use index::fresh::fresh;
+use trials::load::load;
+use trials::play::play;
+use trials::print::figure;
 ghost use Prim.Native.Nat.{_≤_};
 
 // How many scripts there are: data/01.in with its answers data/01.out, and so on.
 const SCRIPTS: u32 = 55;
 
-// All slots free, from words that are null.
-fn clear(cells: &mut [u32]) {
-    let mut i: u32 = 0;
-    while i < 512 {
-        put(cells, i, PLACE, 0);
-        put(cells, i, STATE, FREE);
-        i += 1;
-    }
-}
-
 // Whether a script, in pieces of so many bytes, gives all of its answers and nothing else.
 fn runs(input: &[u8], expected: &[u8], cut: usize, out: &mut [u8]) -> bool {
     let mut names = [0u64; 1024];
-    let mut cells = [NULL; 3584];
-    let mut head = [NULL, NULL, 0];
+    let mut cells = [0u32; 3584];
+    let mut head = [0u32; 3];
     let mut lines = [0u64; 2049];
-    clear(&mut cells);
+    fresh(&mut names, &mut cells, &mut head, &mut lines);
     let met = play(
         input,
         cut,
@@ -66,17 +51,6 @@ fn digit(x: u32) -> u8 {
     b'0' + (x % 10) as u8
 }
 
-// Reads a file, and answers how many bytes it has; one that is missing or longer than the room has as many as the room.
-fn load(path: &[u8], room: &mut [u8]) -> usize {
-    let file = os::open_read(path);
-    if file < 0 {
-        return room.len();
-    }
-    let n = io::read_full(file, room);
-    libc::close(file);
-    n
-}
-
 // The script of a number, from its two files.
 fn try_script(number: u32, input: &mut [u8], expected: &mut [u8], out: &mut [u8]) -> u32 {
     let tens = digit(number / 10);
@@ -105,20 +79,12 @@ fn try_all(input: &mut [u8], expected: &mut [u8], out: &mut [u8]) -> u32 {
     differences
 }
 
-// One line to a figure, so that a line that differs names it.
-fn print(label: &[u8], value: u32) {
-    io::write_all(STDOUT_FILENO, label);
-    io::write_all(STDOUT_FILENO, b" ");
-    io::print_decimal(STDOUT_FILENO, value as u64);
-    io::write_all(STDOUT_FILENO, b"\n");
-}
-
 fn main() {
     let mut input = [0u8; 262144];
     let mut expected = [0u8; 262144];
     let mut out = [0u8; 524288];
     let differences = try_all(&mut input, &mut expected, &mut out);
-    print(b"scripts", SCRIPTS);
-    print(b"runs", 3 * SCRIPTS);
-    print(b"differences", differences);
+    figure(b"scripts", SCRIPTS);
+    figure(b"runs", 3 * SCRIPTS);
+    figure(b"differences", differences);
 }

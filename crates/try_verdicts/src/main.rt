@@ -1,5 +1,4 @@
 // Asks accept of small sets, each a word or two away from an accepted one, and prints its answer: yes, no, or 1.
-use libc::STDOUT_FILENO;
 use sets::accept::Acceptance;
 use sets::accept::accept;
 use slots::BLACK;
@@ -16,10 +15,7 @@ use slots::RIGHT;
 use slots::STATE;
 use slots::put;
 use slots::put_name;
-
-fn say(words: &[u8]) {
-    io::write_all(STDOUT_FILENO, words);
-}
+use trials::print::say;
 
 // One line to a set.
 fn ask(label: &[u8], lengths: &[u32], bins: &[u32], heads: &[u32], names: &[u64], cells: &[u32]) {

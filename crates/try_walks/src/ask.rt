@@ -5,6 +5,7 @@ use sets::walk::Cursor;
 use sets::walk::Given;
 use sets::walk::Started;
 use slots::NULL;
+use trials::print;
 
 // The lookup of (hash, key) from a table on.
 pub fn look(
@@ -17,10 +18,10 @@ pub fn look(
     hash: u32,
     key: u32,
 ) {
-    say::pair(b"lookup from ", table);
-    say::pair(b" of ", hash);
-    say::pair(b" ", key);
-    say::text(b": ");
+    print::number(b"lookup from ", table);
+    print::number(b" of ", hash);
+    print::number(b" ", key);
+    print::say(b": ");
     say::looked(lookup(
         lengths,
         bins,
@@ -31,7 +32,7 @@ pub fn look(
         hash as u64,
         key as u64,
     ));
-    say::text(b"\n");
+    print::say(b"\n");
 }
 
 // At most n steps from a cursor, until one gives no entry.
@@ -78,18 +79,18 @@ pub fn walk(
     let start = Cursor::start(lengths, bins, heads, names, cells, table);
     let answer = start.answer;
     let c = start.cursor;
-    say::pair(b"walk from ", table);
+    print::number(b"walk from ", table);
     match answer {
         Started::Made => {
             say::cursor(c);
             steps(lengths, bins, heads, names, cells, c, n);
         }
         Started::Unfit => {
-            say::text(b": no 1");
+            print::say(b": no 1");
             say::cursor(c);
         }
         Started::Unknown => {
-            say::text(b": no 10");
+            print::say(b": no 10");
             say::cursor(c);
         }
     }

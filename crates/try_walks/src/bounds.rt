@@ -4,10 +4,10 @@ use crate::ask::fresh;
 use crate::ask::look;
 use crate::ask::step;
 use crate::ask::walk;
-use crate::say;
 use crate::whole::two;
 use sets::walk::Cursor;
 use slots::NULL;
+use trials::print;
 
 // A step from a cursor on tables of 2, 4 and 8 bins, where bin 3 of table 1 and bin 5 of table 2 hold a list of one.
 fn from(label: &[u8], c: Cursor) {
@@ -15,7 +15,7 @@ fn from(label: &[u8], c: Cursor) {
     let bins = [1u32, 1, 0, 1, 0, 2, 0, 0, 0, 0, 0, 3, 0, 0];
     let heads = [0u32; 0];
     let names = [3u64, 0, 5, 1];
-    say::text(label);
+    print::say(label);
     step(&lengths, &bins, &heads, &names, &two(), c);
 }
 
@@ -78,7 +78,7 @@ fn rest() {
 
 // Each number of a cursor at its last fine value, and one past it.
 pub fn cursors() {
-    say::text(b"cursors\n");
+    print::say(b"cursors\n");
     ends();
     depths();
     below();
@@ -96,7 +96,7 @@ fn ask_tables(lengths: &[u32], bins: &[u32], table: u32, cells: &[u32]) {
 
 // Tables that are not there, and lengths that break their rule.
 pub fn tables() {
-    say::text(b"tables\n");
+    print::say(b"tables\n");
     let bins = [0u32, 0, 0];
     let none = [0u32; 0];
     ask_tables(&[1u32, 2], &bins, 1, &none);

@@ -1,20 +1,20 @@
 // Sets that lookup and next refuse with 9, and those where they differ.
 use crate::ask::look;
 use crate::ask::walk;
-use crate::say;
 use crate::whole::fill;
 use crate::whole::two;
 use slots::BLACK;
 use slots::NEXT;
 use slots::NULL;
 use slots::put;
+use trials::print;
 
 // A lookup of a key with hash 0 and a walk of a set of one table, whose one bin has this word.
 fn word(w: u32, heads: &[u32], names: &[u64], cells: &[u32], key: u32) {
     let lengths = [1u32];
     let bins = [w];
-    say::pair(b"word ", w);
-    say::text(b"\n");
+    print::number(b"word ", w);
+    print::say(b"\n");
     look(&lengths, &bins, heads, names, cells, 0, 0, key);
     walk(&lengths, &bins, heads, names, cells, 0, 3);
 }
@@ -35,7 +35,7 @@ fn small_words(heads: &[u32], names: &[u64], cells: &[u32]) {
 
 // A bin's word at each edge of what two slots and one header, whose tree is slot 1, allow. Moved is in the last table.
 pub fn words() {
-    say::text(b"two slots and one header\n");
+    print::say(b"two slots and one header\n");
     let heads = [1u32, 1, 1];
     let names = [0u64, 0, 0, 1];
     small_words(&heads, &names, &two());
@@ -67,7 +67,7 @@ fn wide_words(heads: &[u32], names: &[u64], cells: &[u32]) {
 
 // The words that name the last slot, the first header, the last header, and none.
 pub fn widest() {
-    say::text(b"4096 slots and 4096 headers\n");
+    print::say(b"4096 slots and 4096 headers\n");
     let names = [0u64; 8192];
     wide_words(&wide_heads(), &names, &wide_cells());
 }
@@ -83,15 +83,15 @@ fn one() -> [u32; 7] {
 fn header(root: u32, first: u32) {
     let heads = [root, first, 1];
     let names = [0u64, 0];
-    say::pair(b"root ", root);
-    say::pair(b" first ", first);
-    say::text(b"\n");
+    print::number(b"root ", root);
+    print::number(b" first ", first);
+    print::say(b"\n");
     word(4098, &heads, &names, &one(), 0);
 }
 
 // Lookup reads a header's root alone, the walk its first alone: a null root, a null first, and each out of range.
 pub fn headers() {
-    say::text(b"headers\n");
+    print::say(b"headers\n");
     header(0, 0);
     header(0, NULL);
     header(NULL, 0);
@@ -118,14 +118,14 @@ fn linked(next: u32) {
     let bins = [2u32];
     let heads = [0u32; 0];
     let names = [0u64, 0, 0, 1];
-    say::pair(b"next ", next);
-    say::text(b"\n");
+    print::number(b"next ", next);
+    print::say(b"\n");
     ask_linked(&lengths, &bins, &heads, &names, &linked_cells(next));
 }
 
 // A list that ends, one that goes round, and one whose link names no slot. A step reads one slot, so a ring is walked for ever.
 pub fn links() {
-    say::text(b"lists\n");
+    print::say(b"lists\n");
     linked(NULL);
     linked(0);
     linked(1);

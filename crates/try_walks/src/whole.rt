@@ -1,7 +1,6 @@
 // Whole sets: the rules' worked example, lists and trees in one table, and Moved bins down to table 7. A slot's key is its number.
 use crate::ask::look;
 use crate::ask::walk;
-use crate::say;
 use slots::BLACK;
 use slots::LEFT;
 use slots::NEXT;
@@ -13,6 +12,7 @@ use slots::RED;
 use slots::RIGHT;
 use slots::STATE;
 use slots::put;
+use trials::print;
 
 // The place of slot i, which is its number, and its state.
 pub fn fill(cells: &mut [u32], i: u32, state: u32) {
@@ -67,7 +67,7 @@ fn ask_worked(lengths: &[u32], bins: &[u32], heads: &[u32], names: &[u64], cells
 // Lengths 2, 4, 8; Moved: both bins of table 0, bins 0 and 2 of table 1; a list of one in each other bin that the walk comes to. Two slots
 // are in no bin.
 pub fn worked() {
-    say::text(b"worked example\n");
+    print::say(b"worked example\n");
     let lengths = [2u32, 4, 8];
     let bins = [1u32, 1, 1, 2, 1, 3, 4, 0, 5, 0, 6, 0, 7, 0];
     let heads = [0u32; 0];
@@ -106,7 +106,7 @@ fn ask_mixed(lengths: &[u32], bins: &[u32], heads: &[u32], names: &[u64], cells:
 
 // One table of four bins: a list of three, a tree of three, nothing, and a list of one.
 pub fn mixed() {
-    say::text(b"lists and a tree\n");
+    print::say(b"lists and a tree\n");
     let lengths = [4u32];
     let bins = [2u32, 4098, 0, 8];
     let heads = [4u32, 5, 3];
@@ -147,7 +147,7 @@ fn ask_deep(lengths: &[u32], bins: &[u32], heads: &[u32], names: &[u64], cells: 
 }
 
 pub fn deep() {
-    say::text(b"moved down to table 7\n");
+    print::say(b"moved down to table 7\n");
     let lengths = [1u32, 2, 4, 8, 16, 32, 64, 128];
     let heads = [0u32; 0];
     let names = [0u64, 0, 1, 1, 2, 2, 4, 3, 8, 4, 16, 5, 32, 6, 64, 7];

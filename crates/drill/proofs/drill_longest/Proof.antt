@@ -32,41 +32,41 @@ slice-aggregate-try-cuts-2 c = simp length-take (omega arith)
 try-cuts-requires : tie.Need-try-cuts-requires
 try-cuts-requires c κs = search needs
 
-slice-aggregate-print : tie.Need-slice-aggregate-print
-slice-aggregate-print c = search needs
+slice-aggregate-number : tie.Need-slice-aggregate-number
+slice-aggregate-number c = search needs
 
-print-requires : tie.Need-print-requires
-print-requires c κs = search needs
+number-requires : tie.Need-number-requires
+number-requires c κs = search needs
 
-slice-aggregate-print-2 : tie.Need-slice-aggregate-print-2
-slice-aggregate-print-2 c = search needs
+slice-aggregate-number-2 : tie.Need-slice-aggregate-number-2
+slice-aggregate-number-2 c = search needs
 
-print-requires-2 : tie.Need-print-requires-2
-print-requires-2 c κs = search needs
+number-requires-2 : tie.Need-number-requires-2
+number-requires-2 c κs = search needs
 
-slice-aggregate-print-3 : tie.Need-slice-aggregate-print-3
-slice-aggregate-print-3 c = search needs
+slice-aggregate-number-3 : tie.Need-slice-aggregate-number-3
+slice-aggregate-number-3 c = search needs
 
-print-requires-3 : tie.Need-print-requires-3
-print-requires-3 c κs = search needs
+number-requires-3 : tie.Need-number-requires-3
+number-requires-3 c κs = search needs
 
-slice-aggregate-print-4 : tie.Need-slice-aggregate-print-4
-slice-aggregate-print-4 c = search needs
+slice-aggregate-number-4 : tie.Need-slice-aggregate-number-4
+slice-aggregate-number-4 c = search needs
 
-print-requires-4 : tie.Need-print-requires-4
-print-requires-4 c κs = search needs
+number-requires-4 : tie.Need-number-requires-4
+number-requires-4 c κs = search needs
 
-slice-aggregate-print-5 : tie.Need-slice-aggregate-print-5
-slice-aggregate-print-5 c = search needs
+slice-aggregate-number-5 : tie.Need-slice-aggregate-number-5
+slice-aggregate-number-5 c = search needs
 
-print-requires-5 : tie.Need-print-requires-5
-print-requires-5 c κs = search needs
+number-requires-5 : tie.Need-number-requires-5
+number-requires-5 c κs = search needs
 
-slice-aggregate-write-all : tie.Need-slice-aggregate-write-all
-slice-aggregate-write-all c = search needs
+slice-aggregate-say : tie.Need-slice-aggregate-say
+slice-aggregate-say c = search needs
 
-write-all-requires : tie.Need-write-all-requires
-write-all-requires c κs = search needs
+say-requires : tie.Need-say-requires
+say-requires c κs = search needs
 
 same-length : tie.Need-same-length
 same-length c = search needs
@@ -93,18 +93,18 @@ drill-longest-spec =
     slice-reshare-prefix-try-cuts-2
     slice-aggregate-try-cuts-2
     try-cuts-requires
-    slice-aggregate-print
-    print-requires
-    slice-aggregate-print-2
-    print-requires-2
-    slice-aggregate-print-3
-    print-requires-3
-    slice-aggregate-print-4
-    print-requires-4
-    slice-aggregate-print-5
-    print-requires-5
-    slice-aggregate-write-all
-    write-all-requires
+    slice-aggregate-number
+    number-requires
+    slice-aggregate-number-2
+    number-requires-2
+    slice-aggregate-number-3
+    number-requires-3
+    slice-aggregate-number-4
+    number-requires-4
+    slice-aggregate-number-5
+    number-requires-5
+    slice-aggregate-say
+    say-requires
     same-length
     same-length-2
     same-length-3

@@ -1,34 +1,24 @@
--- `slots::put_name` writes the word where it is there; where it is not, the list keeps its words.
-use mathlib.Core.Path.{refl, sym}
-use lib.Seq.{set-out}
+-- The part's place among the words.
 use Rattle.slots.specs.Words.{rename}
 use borrow.Author.Needs.{needs}
 use Rattle.slots.proofs.put_name.Statement.{statement}
 use Rattle.slots.proofs.put_name.Tie as tie
 
-mul-k : tie.Need-mul-k
-mul-k c = search needs
+mul-put-wide : tie.Need-mul-put-wide
+mul-put-wide c = search needs
 
-add-k : tie.Need-add-k
-add-k c = search needs
+add-put-wide : tie.Need-add-put-wide
+add-put-wide c = search needs
 
-mul-names : tie.Need-mul-names
-mul-names c = search needs
-
-slice-write-names : tie.Need-slice-write-names
-slice-write-names c = search needs
+put-wide-requires : tie.Need-put-wide-requires
+put-wide-requires c κs = search needs
 
 same-length : tie.Need-same-length
 same-length c = search needs
 
 returns : tie.Need-returns
 unfolding rename
-returns c = refl
-
-returns-2 : tie.Need-returns-2
-unfolding rename
-returns-2 c = sym (set-out _ _ _ (c .if1 .left))
+returns c = search needs
 
 pub put-name-spec : {M : Type 1} → statement M
-put-name-spec =
-    tie.close (tie.spec mul-k add-k mul-names slice-write-names same-length returns returns-2)
+put-name-spec = tie.close (tie.spec mul-put-wide add-put-wide put-wide-requires same-length returns)

@@ -14,6 +14,15 @@ abbrev μ-loop : tie.MeasureT-loop
 μ-loop text from names₀ cells₀ slots head₀ at₀ count₀ wrong₀ turns₀ names cells head at count wrong turns =
     turns
 
+slice-aggregate-fresh : tie.Need-slice-aggregate-fresh Inv-loop μ-loop
+slice-aggregate-fresh c = search needs
+
+slice-aggregate-fresh-2 : tie.Need-slice-aggregate-fresh-2 Inv-loop μ-loop
+slice-aggregate-fresh-2 c = search needs
+
+fresh-requires : tie.Need-fresh-requires Inv-loop μ-loop
+fresh-requires c κs = search needs
+
 loop-holds : tie.Need-loop-holds Inv-loop μ-loop
 loop-holds c = search needs
 
@@ -74,6 +83,9 @@ lines-spec =
     (tie.spec
     Inv-loop
     μ-loop
+    slice-aggregate-fresh
+    slice-aggregate-fresh-2
+    fresh-requires
     loop-holds
     sub-turns
     same-length

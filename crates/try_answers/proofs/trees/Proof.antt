@@ -40,23 +40,23 @@ loop-less-2 c = search needs
 loop-again-2 : tie.Need-loop-again-2 Inv-loop μ-loop
 loop-again-2 c = search needs
 
-slice-aggregate-print : tie.Need-slice-aggregate-print Inv-loop μ-loop
-slice-aggregate-print c = search needs
+slice-aggregate-figure : tie.Need-slice-aggregate-figure Inv-loop μ-loop
+slice-aggregate-figure c = search needs
 
-print-requires : tie.Need-print-requires Inv-loop μ-loop
-print-requires c κs = search needs
+figure-requires : tie.Need-figure-requires Inv-loop μ-loop
+figure-requires c κs = search needs
 
-slice-aggregate-print-2 : tie.Need-slice-aggregate-print-2 Inv-loop μ-loop
-slice-aggregate-print-2 c = search needs
+slice-aggregate-figure-2 : tie.Need-slice-aggregate-figure-2 Inv-loop μ-loop
+slice-aggregate-figure-2 c = search needs
 
-print-requires-2 : tie.Need-print-requires-2 Inv-loop μ-loop
-print-requires-2 c κs = search needs
+figure-requires-2 : tie.Need-figure-requires-2 Inv-loop μ-loop
+figure-requires-2 c κs = search needs
 
-slice-aggregate-print-3 : tie.Need-slice-aggregate-print-3 Inv-loop μ-loop
-slice-aggregate-print-3 c = search needs
+slice-aggregate-figure-3 : tie.Need-slice-aggregate-figure-3 Inv-loop μ-loop
+slice-aggregate-figure-3 c = search needs
 
-print-requires-3 : tie.Need-print-requires-3 Inv-loop μ-loop
-print-requires-3 c κs = search needs
+figure-requires-3 : tie.Need-figure-requires-3 Inv-loop μ-loop
+figure-requires-3 c κs = search needs
 
 returns : tie.Need-returns Inv-loop μ-loop
 returns c = search needs
@@ -77,10 +77,10 @@ trees-spec =
     loop-again
     loop-less-2
     loop-again-2
-    slice-aggregate-print
-    print-requires
-    slice-aggregate-print-2
-    print-requires-2
-    slice-aggregate-print-3
-    print-requires-3
+    slice-aggregate-figure
+    figure-requires
+    slice-aggregate-figure-2
+    figure-requires-2
+    slice-aggregate-figure-3
+    figure-requires-3
     returns)

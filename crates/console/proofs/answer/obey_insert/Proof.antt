@@ -1,4 +1,4 @@
--- The call, its answer as a reply, and the reply printed.
+-- The call, and its answer printed.
 use Rattle.script_rules.specs.Text.{slotText}
 use Rattle.script_rules.specs.Answers.{obeyed}
 use Rattle.console.proofs.Turns.{said}
@@ -9,14 +9,14 @@ use Rattle.console.proofs.answer.obey_insert.Tie as tie
 insert-requires : tie.Need-insert-requires
 insert-requires c κs = search needs
 
-of-inserted-requires : tie.Need-of-inserted-requires
-of-inserted-requires c κs = search needs
+answer-requires : tie.Need-answer-requires
+answer-requires c κs = search needs
 
-slice-aggregate-tell-reply : tie.Need-slice-aggregate-tell-reply
-slice-aggregate-tell-reply c = search needs
+slice-aggregate-tell-answer : tie.Need-slice-aggregate-tell-answer
+slice-aggregate-tell-answer c = search needs
 
-tell-reply-requires : tie.Need-tell-reply-requires
-tell-reply-requires c κs = search needs
+tell-answer-requires : tie.Need-tell-answer-requires
+tell-answer-requires c κs = search needs
 
 same-length : tie.Need-same-length
 same-length c = search needs
@@ -37,18 +37,18 @@ returns : tie.Need-returns
 unfolding obeyed
 returns c =
     let c2 = c .before .before in
-    let c3 = c2 .before .before .before in
-    let c8 = c3 .before .before .before .before .before .before .before .before .before in
-    said slotText _ _ (c8 .insert .ensures) (c3 .of-inserted .ensures slotText) (c2 .tell-reply .ensures)
+    let c3 = c2 .before in
+    let c8 = c3 .before .before .before .before .before .before .before .before .before .before .before in
+    said slotText _ _ (c8 .insert .ensures) (c3 .answer .ensures) (c2 .tell-answer .ensures)
 
 pub obey-insert-spec : {M : Type 1} → statement M
 obey-insert-spec =
     tie.close
     (tie.spec
     insert-requires
-    of-inserted-requires
-    slice-aggregate-tell-reply
-    tell-reply-requires
+    slice-aggregate-tell-answer
+    answer-requires
+    tell-answer-requires
     same-length
     same-length-2
     same-length-3

@@ -45,8 +45,8 @@ returns-2 c =
     let c6 = c5 .before in
     mark-journal _ _ (c6 .fit .ensures) (not-false (c6 .fit .result) (c5 .if1 .left)) (c4 .fit-journal .ensures) (not-true (c4 .fit-journal .result) (c3 .if2 .taken)) (c2 .tell2 .ensures)
 
-word-requires : tie.Need-word-requires
-word-requires c κs = search needs
+length-of-requires : tie.Need-length-of-requires
+length-of-requires c κs = search needs
 
 slice-aggregate-tell-3 : tie.Need-slice-aggregate-tell-3
 slice-aggregate-tell-3 c = search needs
@@ -72,7 +72,7 @@ returns-3 c =
     (not-false (c7 .fit .result) (c6 .if1 .left))
     (c5 .fit-journal .ensures)
     (not-false (c5 .fit-journal .result) (c4 .if2 .left))
-    (c3 .word .ensures)
+    (c3 .length-of .ensures)
     (c2 .tell3 .ensures)
 
 pub tell-mark-spec : {M : Type 1} → statement M
@@ -89,7 +89,7 @@ tell-mark-spec =
     tell-requires-2
     same-length-2
     returns-2
-    word-requires
+    length-of-requires
     slice-aggregate-tell-3
     tell-requires-3
     same-length-3

@@ -1,4 +1,4 @@
--- The measure is what is left of the script; no answer past the last is compared, and each array keeps its length.
+-- The measure is what is left of the script, and each array keeps its length.
 use mathlib.Core.Path.{_≡_}
 use Prim.Native.Nat.{_≤_, _-_}
 use native.Mathlib.Omega.{arith}
@@ -10,7 +10,6 @@ use Rattle.drill.proofs.longest.try_cuts.Tie as tie
 abbrev Inv-loop : tie.InvT-loop
 Inv-loop script answers out₀ names₀ cells₀ head₀ lines₀ made₀ t₀ said₀ at₀ out names cells head lines made t said at =
     (at ≤ length script)
-    × (said ≤ length answers)
     × (length out ≡ length out₀)
     × (length names ≡ 1024)
     × (length cells ≡ 3584)
@@ -21,11 +20,20 @@ Inv-loop script answers out₀ names₀ cells₀ head₀ lines₀ made₀ t₀ s
 abbrev μ-loop : tie.MeasureT-loop
 μ-loop script answers out₀ names₀ cells₀ head₀ lines₀ made₀ t₀ said₀ at₀ out names cells head lines made t said at = length script - at
 
-slice-aggregate-clear-all : tie.Need-slice-aggregate-clear-all Inv-loop μ-loop
-slice-aggregate-clear-all c = search needs
+slice-aggregate-fresh : tie.Need-slice-aggregate-fresh Inv-loop μ-loop
+slice-aggregate-fresh c = search needs
 
-clear-all-requires : tie.Need-clear-all-requires Inv-loop μ-loop
-clear-all-requires c κs = search needs
+slice-aggregate-fresh-2 : tie.Need-slice-aggregate-fresh-2 Inv-loop μ-loop
+slice-aggregate-fresh-2 c = search needs
+
+slice-aggregate-fresh-3 : tie.Need-slice-aggregate-fresh-3 Inv-loop μ-loop
+slice-aggregate-fresh-3 c = search needs
+
+slice-aggregate-fresh-4 : tie.Need-slice-aggregate-fresh-4 Inv-loop μ-loop
+slice-aggregate-fresh-4 c = search needs
+
+fresh-requires : tie.Need-fresh-requires Inv-loop μ-loop
+fresh-requires c κs = search needs
 
 loop-holds : tie.Need-loop-holds Inv-loop μ-loop
 loop-holds c = search needs
@@ -96,11 +104,10 @@ loop-again c =
           .before .before .before .before .before .before .before .before .before .line-end .ensures,
       c .before .before .before .before .before .before .before .before .before .before .before .before .before .before
           .before .before .before .before .before .before .before .before .before .before .before .loop .inv,
-      c .before .before .before .before .before .before .before .before .before .before .before .call .ensures,
-      c .before .before .before .before .before .before .before .before .before .before .names2 .given,
+      c .before .before .before .before .before .before .before .before .before .before .names4 .given,
       c .before .before .before .before .before .before .before .before .before .cells4 .given,
-      c .before .before .before .before .before .before .before .before .head2 .given,
-      c .before .before .before .before .before .before .before .lines3 .given,
+      c .before .before .before .before .before .before .before .before .head4 .given,
+      c .before .before .before .before .before .before .before .lines5 .given,
       c .before .before .before .before .before .before .out .given,
       c .before .before .before .before .before .before .before .before .before .before .before .before .before .before
           .before .before .before .before .made2 .given,
@@ -119,8 +126,11 @@ try-cuts-spec =
     (tie.spec
     Inv-loop
     μ-loop
-    slice-aggregate-clear-all
-    clear-all-requires
+    slice-aggregate-fresh
+    slice-aggregate-fresh-2
+    slice-aggregate-fresh-3
+    slice-aggregate-fresh-4
+    fresh-requires
     loop-holds
     line-end-requires
     slice-aggregate-length

@@ -5,38 +5,38 @@ use borrow.Author.Needs.{needs}
 use Rattle.exports.proofs.cursor.read.Statement.{statement}
 use Rattle.exports.proofs.cursor.read.Tie as tie
 
-get-requires : tie.Need-get-requires
-get-requires c κs = search needs
+word-requires : tie.Need-word-requires
+word-requires c κs = search needs
 
-get-requires-2 : tie.Need-get-requires-2
-get-requires-2 c κs = search needs
+word-requires-2 : tie.Need-word-requires-2
+word-requires-2 c κs = search needs
 
-get-requires-3 : tie.Need-get-requires-3
-get-requires-3 c κs = search needs
+word-requires-3 : tie.Need-word-requires-3
+word-requires-3 c κs = search needs
 
-get-requires-4 : tie.Need-get-requires-4
-get-requires-4 c κs = search needs
+word-requires-4 : tie.Need-word-requires-4
+word-requires-4 c κs = search needs
 
-get-requires-5 : tie.Need-get-requires-5
-get-requires-5 c κs = search needs
+word-requires-5 : tie.Need-word-requires-5
+word-requires-5 c κs = search needs
 
-get-requires-6 : tie.Need-get-requires-6
-get-requires-6 c κs = search needs
+word-requires-6 : tie.Need-word-requires-6
+word-requires-6 c κs = search needs
 
-get-requires-7 : tie.Need-get-requires-7
-get-requires-7 c κs = search needs
+word-requires-7 : tie.Need-word-requires-7
+word-requires-7 c κs = search needs
 
-get-requires-8 : tie.Need-get-requires-8
-get-requires-8 c κs = search needs
+word-requires-8 : tie.Need-word-requires-8
+word-requires-8 c κs = search needs
 
-get-requires-9 : tie.Need-get-requires-9
-get-requires-9 c κs = search needs
+word-requires-9 : tie.Need-word-requires-9
+word-requires-9 c κs = search needs
 
-get-requires-10 : tie.Need-get-requires-10
-get-requires-10 c κs = search needs
+word-requires-10 : tie.Need-word-requires-10
+word-requires-10 c κs = search needs
 
-get-requires-11 : tie.Need-get-requires-11
-get-requires-11 c κs = search needs
+word-requires-11 : tie.Need-word-requires-11
+word-requires-11 c κs = search needs
 
 returns : tie.Need-returns
 returns c =
@@ -50,21 +50,21 @@ returns c =
     let c8 = c7 .before in
     let c9 = c8 .before in
     let c10 = c9 .before in
-    reads (now (c10 .before .before .args .words)) (c10 .get .ensures) (c9 .get2 .ensures) (c8 .get3 .ensures) (c7 .get4 .ensures) (c6 .get5 .ensures) (c5 .get6 .ensures) (c4 .get7 .ensures) (c3 .get8 .ensures) (c2 .get9 .ensures) (c1 .get10 .ensures) (c .get11 .ensures)
+    reads (now (c10 .before .before .args .words)) (c10 .word .ensures) (c9 .word2 .ensures) (c8 .word3 .ensures) (c7 .word4 .ensures) (c6 .word5 .ensures) (c5 .word6 .ensures) (c4 .word7 .ensures) (c3 .word8 .ensures) (c2 .word9 .ensures) (c1 .word10 .ensures) (c .word11 .ensures)
 
 pub read-spec : {M : Type 1} → statement M
 read-spec =
     tie.close
     (tie.spec
-    get-requires
-    get-requires-2
-    get-requires-3
-    get-requires-4
-    get-requires-5
-    get-requires-6
-    get-requires-7
-    get-requires-8
-    get-requires-9
-    get-requires-10
-    get-requires-11
+    word-requires
+    word-requires-2
+    word-requires-3
+    word-requires-4
+    word-requires-5
+    word-requires-6
+    word-requires-7
+    word-requires-8
+    word-requires-9
+    word-requires-10
+    word-requires-11
     returns)

@@ -7,62 +7,62 @@ use borrow.Author.Needs.{needs}
 use Rattle.exports.proofs.cursor.write.Statement.{statement}
 use Rattle.exports.proofs.cursor.write.Tie as tie
 
-put-requires : tie.Need-put-requires
-put-requires c κs = search needs
+put-word-requires : tie.Need-put-word-requires
+put-word-requires c κs = search needs
 
-put-requires-2 : tie.Need-put-requires-2
-put-requires-2 c κs = search needs
+put-word-requires-2 : tie.Need-put-word-requires-2
+put-word-requires-2 c κs = search needs
 
-array-read-put : tie.Need-array-read-put
-array-read-put c = search needs
+array-read-put-word : tie.Need-array-read-put-word
+array-read-put-word c = search needs
 
-put-requires-3 : tie.Need-put-requires-3
-put-requires-3 c κs = search needs
+put-word-requires-3 : tie.Need-put-word-requires-3
+put-word-requires-3 c κs = search needs
 
-array-read-put-2 : tie.Need-array-read-put-2
-array-read-put-2 c = search needs
+array-read-put-word-2 : tie.Need-array-read-put-word-2
+array-read-put-word-2 c = search needs
 
-put-requires-4 : tie.Need-put-requires-4
-put-requires-4 c κs = search needs
+put-word-requires-4 : tie.Need-put-word-requires-4
+put-word-requires-4 c κs = search needs
 
-array-read-put-3 : tie.Need-array-read-put-3
-array-read-put-3 c = search needs
+array-read-put-word-3 : tie.Need-array-read-put-word-3
+array-read-put-word-3 c = search needs
 
-put-requires-5 : tie.Need-put-requires-5
-put-requires-5 c κs = search needs
+put-word-requires-5 : tie.Need-put-word-requires-5
+put-word-requires-5 c κs = search needs
 
-array-read-put-4 : tie.Need-array-read-put-4
-array-read-put-4 c = search needs
+array-read-put-word-4 : tie.Need-array-read-put-word-4
+array-read-put-word-4 c = search needs
 
-put-requires-6 : tie.Need-put-requires-6
-put-requires-6 c κs = search needs
+put-word-requires-6 : tie.Need-put-word-requires-6
+put-word-requires-6 c κs = search needs
 
-array-read-put-5 : tie.Need-array-read-put-5
-array-read-put-5 c = search needs
+array-read-put-word-5 : tie.Need-array-read-put-word-5
+array-read-put-word-5 c = search needs
 
-put-requires-7 : tie.Need-put-requires-7
-put-requires-7 c κs = search needs
+put-word-requires-7 : tie.Need-put-word-requires-7
+put-word-requires-7 c κs = search needs
 
-array-read-put-6 : tie.Need-array-read-put-6
-array-read-put-6 c = search needs
+array-read-put-word-6 : tie.Need-array-read-put-word-6
+array-read-put-word-6 c = search needs
 
-put-requires-8 : tie.Need-put-requires-8
-put-requires-8 c κs = search needs
+put-word-requires-8 : tie.Need-put-word-requires-8
+put-word-requires-8 c κs = search needs
 
-array-read-put-7 : tie.Need-array-read-put-7
-array-read-put-7 c = search needs
+array-read-put-word-7 : tie.Need-array-read-put-word-7
+array-read-put-word-7 c = search needs
 
-put-requires-9 : tie.Need-put-requires-9
-put-requires-9 c κs = search needs
+put-word-requires-9 : tie.Need-put-word-requires-9
+put-word-requires-9 c κs = search needs
 
-array-read-put-8 : tie.Need-array-read-put-8
-array-read-put-8 c = search needs
+array-read-put-word-8 : tie.Need-array-read-put-word-8
+array-read-put-word-8 c = search needs
 
-put-requires-10 : tie.Need-put-requires-10
-put-requires-10 c κs = search needs
+put-word-requires-10 : tie.Need-put-word-requires-10
+put-word-requires-10 c κs = search needs
 
-put-requires-11 : tie.Need-put-requires-11
-put-requires-11 c κs = search needs
+put-word-requires-11 : tie.Need-put-word-requires-11
+put-word-requires-11 c κs = search needs
 
 same-length : tie.Need-same-length
 same-length c =
@@ -88,7 +88,7 @@ same-length c =
     let c20 = c19 .before in
     let c21 = c20 .before .before .before in
     let c22 = c21 .before in
-    c2 .put11 .kept .0 ∙ c4 .put10 .kept .0 ∙ c6 .put9 .kept .0 ∙ c8 .put8 .kept .0 ∙ c10 .put7 .kept .0 ∙ c12 .put6 .kept .0 ∙ c14 .put5 .kept .0 ∙ c16 .put4 .kept .0 ∙ c18 .put3 .kept .0 ∙ c20 .put2 .kept .0 ∙ c22 .put .kept .0
+    c2 .put-word11 .kept .0 ∙ c4 .put-word10 .kept .0 ∙ c6 .put-word9 .kept .0 ∙ c8 .put-word8 .kept .0 ∙ c10 .put-word7 .kept .0 ∙ c12 .put-word6 .kept .0 ∙ c14 .put-word5 .kept .0 ∙ c16 .put-word4 .kept .0 ∙ c18 .put-word3 .kept .0 ∙ c20 .put-word2 .kept .0 ∙ c22 .put-word .kept .0
 
 returns : tie.Need-returns
 returns c =
@@ -120,40 +120,40 @@ returns c =
     writes
     (now (a .words))
     (cursorOf (a .cursor))
-    (c22 .put .ensures)
-    (c20 .put2 .ensures)
-    (c18 .put3 .ensures)
-    (c16 .put4 .ensures)
-    (c14 .put5 .ensures)
-    (c12 .put6 .ensures)
-    (c10 .put7 .ensures)
-    (c8 .put8 .ensures)
-    (c6 .put9 .ensures)
-    (c4 .put10 .ensures)
-    (c2 .put11 .ensures)
+    (c22 .put-word .ensures)
+    (c20 .put-word2 .ensures)
+    (c18 .put-word3 .ensures)
+    (c16 .put-word4 .ensures)
+    (c14 .put-word5 .ensures)
+    (c12 .put-word6 .ensures)
+    (c10 .put-word7 .ensures)
+    (c8 .put-word8 .ensures)
+    (c6 .put-word9 .ensures)
+    (c4 .put-word10 .ensures)
+    (c2 .put-word11 .ensures)
 
 pub write-spec : {M : Type 1} → statement M
 write-spec =
     tie.close
     (tie.spec
-    put-requires
-    put-requires-2
-    array-read-put
-    put-requires-3
-    array-read-put-2
-    put-requires-4
-    array-read-put-3
-    put-requires-5
-    array-read-put-4
-    put-requires-6
-    array-read-put-5
-    put-requires-7
-    array-read-put-6
-    put-requires-8
-    array-read-put-7
-    put-requires-9
-    array-read-put-8
-    put-requires-10
-    put-requires-11
+    put-word-requires
+    put-word-requires-2
+    array-read-put-word
+    put-word-requires-3
+    array-read-put-word-2
+    put-word-requires-4
+    array-read-put-word-3
+    put-word-requires-5
+    array-read-put-word-4
+    put-word-requires-6
+    array-read-put-word-5
+    put-word-requires-7
+    array-read-put-word-6
+    put-word-requires-8
+    array-read-put-word-7
+    put-word-requires-9
+    array-read-put-word-8
+    put-word-requires-10
+    put-word-requires-11
     same-length
     returns)

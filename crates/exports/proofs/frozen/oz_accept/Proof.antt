@@ -1,18 +1,21 @@
 -- The library answers what the model does, and its word is that answer's.
 use mathlib.Core.Path.{ap, _∙_}
-use borrow.Author.Needs.{needs}
 use Rattle.exports.specs.Words.{answerWord}
+use borrow.Author.Needs.{needs}
 use Rattle.exports.proofs.frozen.oz_accept.Statement.{statement}
 use Rattle.exports.proofs.frozen.oz_accept.Tie as tie
 
 accept-requires : tie.Need-accept-requires
 accept-requires c κs = search needs
 
-accepted-word-requires : tie.Need-accepted-word-requires
-accepted-word-requires c κs = search needs
+answer-requires : tie.Need-answer-requires
+answer-requires c κs = search needs
+
+word-requires : tie.Need-word-requires
+word-requires c κs = search needs
 
 returns : tie.Need-returns
-returns c = c .accepted-word .ensures ∙ ap answerWord (c .before .accept .ensures)
+returns c = c .word .ensures ∙ ap answerWord (c .before .answer .ensures ∙ c .before .before .accept .ensures)
 
 pub oz-accept-spec : {M : Type 1} → statement M
-oz-accept-spec = tie.close (tie.spec accept-requires accepted-word-requires returns)
+oz-accept-spec = tie.close (tie.spec accept-requires answer-requires word-requires returns)

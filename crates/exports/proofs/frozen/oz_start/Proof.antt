@@ -1,23 +1,28 @@
 -- A cursor of another length is refused; else the library starts a walk, and what it made is kept.
-use Rattle.exports.specs.Cursors.{started}
+use mathlib.Core.Path.{ap, _∙_}
+use Rattle.exports.specs.Cursors.{startedInto}
 use Rattle.exports.proofs.Keeping.{short, long}
 use denote.Ref.{now}
+use Rattle.exports.specs.Words.{answerWord}
 use borrow.Author.Needs.{needs}
 use Rattle.exports.proofs.frozen.oz_start.Statement.{statement}
 use Rattle.exports.proofs.frozen.oz_start.Tie as tie
 
-word-requires : tie.Need-word-requires
-word-requires c κs = search needs
+packed-requires : tie.Need-packed-requires
+packed-requires c κs = search needs
 
 returns : tie.Need-returns
-unfolding started
-returns c = short _ (c .before .if1 .taken) (c .word .ensures)
+unfolding startedInto
+returns c = short _ (c .before .if1 .taken) (c .packed .ensures)
 
 start-requires : tie.Need-start-requires
 start-requires c κs = search needs
 
-started-word-requires : tie.Need-started-word-requires
-started-word-requires c κs = search needs
+answer-requires : tie.Need-answer-requires
+answer-requires c κs = search needs
+
+word-requires : tie.Need-word-requires
+word-requires c κs = search needs
 
 keep-requires : tie.Need-keep-requires
 keep-requires c κs = search needs
@@ -26,22 +31,24 @@ same-length : tie.Need-same-length
 same-length c = search needs
 
 returns-2 : tie.Need-returns-2
-unfolding started
+unfolding startedInto
 returns-2 c =
     let at-keep = c .before .before in
     let at-word = at-keep .before .before in
-    let at-start = at-word .before .before in
+    let at-answer = at-word .before in
+    let at-start = at-answer .before .before in
     let a = at-start .before .before .before .before .before .before .before .before .args in
-    long (now (a .cursor)) (at-start .before .if1 .left) (at-word .started-word .ensures) (at-start .start .ensures) (at-keep .keep .ensures)
+    long (now (a .cursor)) (at-start .before .if1 .left) (at-word .word .ensures ∙ ap answerWord (at-answer .answer .ensures)) (at-start .start .ensures) (at-keep .keep .ensures)
 
 pub oz-start-spec : {M : Type 1} → statement M
 oz-start-spec =
     tie.close
     (tie.spec
-    word-requires
+    packed-requires
     returns
     start-requires
-    started-word-requires
+    answer-requires
+    word-requires
     keep-requires
     same-length
     returns-2)

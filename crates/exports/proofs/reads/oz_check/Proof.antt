@@ -1,21 +1,22 @@
 -- The library answers what the model does, and its word is that answer's.
-use mathlib.Core.Path.{ap, sym, subst, _∙_}
-use Prim.Native.Nat.{_≤_}
-use Rattle.slots.specs.Answers.{Answer}
+use mathlib.Core.Path.{ap, _∙_}
+use Rattle.exports.specs.Words.{wordOf, checkWord}
 use borrow.Author.Needs.{needs}
-use Rattle.exports.specs.Words.{checkWord}
-use Rattle.exports.proofs.Bounds.{checks-most}
 use Rattle.exports.proofs.reads.oz_check.Statement.{statement}
 use Rattle.exports.proofs.reads.oz_check.Tie as tie
 
 check-requires : tie.Need-check-requires
 check-requires c κs = search needs
 
-checked-word-requires : tie.Need-checked-word-requires
-checked-word-requires c κs = subst (λ (a : Answer). a .number ≤ 108) (sym (c .check .ensures)) (checks-most _)
+answer-requires : tie.Need-answer-requires
+answer-requires c κs = search needs
+
+word-with-requires : tie.Need-word-with-requires
+word-with-requires c κs = search needs
 
 returns : tie.Need-returns
-returns c = c .checked-word .ensures ∙ ap checkWord (c .before .check .ensures)
+unfolding checkWord
+returns c = c .word-with .ensures ∙ ap (wordOf 0) (c .before .answer .ensures ∙ c .before .before .check .ensures)
 
 pub oz-check-spec : {M : Type 1} → statement M
-oz-check-spec = tie.close (tie.spec check-requires checked-word-requires returns)
+oz-check-spec = tie.close (tie.spec check-requires answer-requires word-with-requires returns)

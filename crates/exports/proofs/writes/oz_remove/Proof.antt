@@ -1,4 +1,6 @@
 -- The library comes to what the model does, and its word is that answer's.
+use mathlib.Core.Path.{ap, _∙_}
+use Rattle.exports.specs.Words.{answerWord}
 use borrow.Author.Needs.{needs}
 use Rattle.exports.proofs.Telling.{tells}
 use Rattle.exports.proofs.writes.oz_remove.Statement.{statement}
@@ -7,8 +9,11 @@ use Rattle.exports.proofs.writes.oz_remove.Tie as tie
 remove-requires : tie.Need-remove-requires
 remove-requires c κs = search needs
 
-removed-word-requires : tie.Need-removed-word-requires
-removed-word-requires c κs = search needs
+answer-requires : tie.Need-answer-requires
+answer-requires c κs = search needs
+
+word-requires : tie.Need-word-requires
+word-requires c κs = search needs
 
 same-length : tie.Need-same-length
 same-length c = search needs
@@ -23,7 +28,9 @@ same-length-4 : tie.Need-same-length-4
 same-length-4 c = search needs
 
 returns : tie.Need-returns
-returns c = tells (c .removed-word .ensures) (c .before .before .before .before .before .before .before .before .before .remove .ensures)
+returns c =
+    let c1 = c .before in
+    tells (c .word .ensures ∙ ap answerWord (c1 .answer .ensures)) (c1 .before .before .before .before .before .before .before .before .before .remove .ensures)
 
 pub oz-remove-spec : {M : Type 1} → statement M
-oz-remove-spec = tie.close (tie.spec remove-requires removed-word-requires same-length same-length-2 same-length-3 same-length-4 returns)
+oz-remove-spec = tie.close (tie.spec remove-requires answer-requires word-requires same-length same-length-2 same-length-3 same-length-4 returns)

@@ -5,8 +5,8 @@ use borrow.Author.Needs.{needs}
 use Rattle.index.proofs.journal.append.Statement.{statement}
 use Rattle.index.proofs.journal.append.Tie as tie
 
-word-requires : tie.Need-word-requires
-word-requires c κs = search needs
+length-of-requires : tie.Need-length-of-requires
+length-of-requires c κs = search needs
 
 same-length : tie.Need-same-length
 same-length c = search needs
@@ -16,17 +16,17 @@ returns c =
     let c1 = c .before in
     let a = c1 .before .before .before .args in
     no-append (now (a .lines)) (a .kind) (a .hash) (a .key) (a .place)
-    (c1 .word .ensures)
+    (c1 .length-of .ensures)
     (c .if1 .taken)
 
 put-line-requires : tie.Need-put-line-requires
 put-line-requires c κs = search needs
 
-add-put-word : tie.Need-add-put-word
-add-put-word c = search needs
+add-put-wide : tie.Need-add-put-wide
+add-put-wide c = search needs
 
-put-word-requires : tie.Need-put-word-requires
-put-word-requires c κs = search needs
+put-wide-requires : tie.Need-put-wide-requires
+put-wide-requires c κs = search needs
 
 same-length-2 : tie.Need-same-length-2
 same-length-2 c = search needs
@@ -39,20 +39,20 @@ returns-2 c =
     let c4 = c3 .before in
     let a = c4 .before .before .before .args in
     append (now (a .lines)) (a .kind) (a .hash) (a .key) (a .place)
-    (c4 .word .ensures)
+    (c4 .length-of .ensures)
     (c3 .if1 .left)
     (c2 .put-line .ensures)
-    (c1 .put-word .ensures)
+    (c1 .put-wide .ensures)
 
 pub append-spec : {M : Type 1} → statement M
 append-spec =
     tie.close
     (tie.spec
-    word-requires
+    length-of-requires
     same-length
     returns
     put-line-requires
-    add-put-word
-    put-word-requires
+    add-put-wide
+    put-wide-requires
     same-length-2
     returns-2)

@@ -8,8 +8,8 @@ use Rattle.index.proofs.journal.cut.Tie as tie
 blank-requires : tie.Need-blank-requires
 blank-requires c κs = search needs
 
-put-word-requires : tie.Need-put-word-requires
-put-word-requires c κs = search needs
+put-wide-requires : tie.Need-put-wide-requires
+put-wide-requires c κs = search needs
 
 same-length : tie.Need-same-length
 same-length c = search needs
@@ -21,7 +21,7 @@ returns c =
     let a = c2 .before .before .before .args in
     cut (now (a .lines)) (a .m) (a .count)
     (c2 .blank .ensures)
-    (c1 .put-word .ensures)
+    (c1 .put-wide .ensures)
 
 pub cut-spec : {M : Type 1} → statement M
-cut-spec = tie.close (tie.spec blank-requires put-word-requires same-length returns)
+cut-spec = tie.close (tie.spec blank-requires put-wide-requires same-length returns)

@@ -30,13 +30,13 @@ returns-3 : tie.Need-returns-3
 unfolding fitsJournal
 returns-3 c = rw (le-leb _ _ (c .before .if2 .left), ne-eqb _ _ (c .if3 .taken))
 
-word-requires : tie.Need-word-requires
-word-requires c κs = search needs
+length-of-requires : tie.Need-length-of-requires
+length-of-requires c κs = search needs
 
 returns-4 : tie.Need-returns-4
 unfolding fitsJournal
-returns-4 c = rw (le-leb _ _ (c .before .before .if2 .left), eq-eqb _ _ (c .before .if3 .left), ← c .word .ensures)
+returns-4 c = rw (le-leb _ _ (c .before .before .if2 .left), eq-eqb _ _ (c .before .if3 .left), ← c .length-of .ensures)
 
 pub fit-journal-spec : {M : Type 1} → statement M
 fit-journal-spec =
-    tie.close (tie.spec returns returns-2 mul-if3 add-if3 returns-3 word-requires returns-4)
+    tie.close (tie.spec returns returns-2 mul-if3 add-if3 returns-3 length-of-requires returns-4)

@@ -8,17 +8,17 @@ use borrow.Author.Needs.{needs}
 use Rattle.index.proofs.journal.line_word.Statement.{statement}
 use Rattle.index.proofs.journal.line_word.Tie as tie
 
-mul-word : tie.Need-mul-word
-mul-word c = search needs
+mul-wide : tie.Need-mul-wide
+mul-wide c = search needs
 
-add-word : tie.Need-add-word
-add-word c = search needs
+add-wide : tie.Need-add-wide
+add-wide c = search needs
 
-add-word-2 : tie.Need-add-word-2
-add-word-2 c = search needs
+add-wide-2 : tie.Need-add-wide-2
+add-wide-2 c = search needs
 
-word-requires : tie.Need-word-requires
-word-requires c κs = search needs
+wide-requires : tie.Need-wide-requires
+wide-requires c κs = search needs
 
 returns : tie.Need-returns
 returns c = search needs
@@ -30,4 +30,4 @@ returns-2 c =
     sym (List·getD-eq-default (now (a .lines)) 0 out)
 
 pub line-word-spec : {M : Type 1} → statement M
-line-word-spec = tie.close (tie.spec mul-word add-word add-word-2 word-requires returns returns-2)
+line-word-spec = tie.close (tie.spec mul-wide add-wide add-wide-2 wide-requires returns returns-2)

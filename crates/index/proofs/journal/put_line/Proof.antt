@@ -17,26 +17,26 @@ mul-at c = search needs
 add-at : tie.Need-add-at
 add-at c = search needs
 
-put-word-requires : tie.Need-put-word-requires
-put-word-requires c κs = search needs
+put-wide-requires : tie.Need-put-wide-requires
+put-wide-requires c κs = search needs
 
-add-put-word : tie.Need-add-put-word
-add-put-word c = search needs
+add-put-wide : tie.Need-add-put-wide
+add-put-wide c = search needs
 
-put-word-requires-2 : tie.Need-put-word-requires-2
-put-word-requires-2 c κs = search needs
+put-wide-requires-2 : tie.Need-put-wide-requires-2
+put-wide-requires-2 c κs = search needs
 
-add-put-word-2 : tie.Need-add-put-word-2
-add-put-word-2 c = search needs
+add-put-wide-2 : tie.Need-add-put-wide-2
+add-put-wide-2 c = search needs
 
-put-word-requires-3 : tie.Need-put-word-requires-3
-put-word-requires-3 c κs = search needs
+put-wide-requires-3 : tie.Need-put-wide-requires-3
+put-wide-requires-3 c κs = search needs
 
-add-put-word-3 : tie.Need-add-put-word-3
-add-put-word-3 c = search needs
+add-put-wide-3 : tie.Need-add-put-wide-3
+add-put-wide-3 c = search needs
 
-put-word-requires-4 : tie.Need-put-word-requires-4
-put-word-requires-4 c κs = search needs
+put-wide-requires-4 : tie.Need-put-wide-requires-4
+put-wide-requires-4 c κs = search needs
 
 same-length : tie.Need-same-length
 same-length c = search needs
@@ -50,10 +50,10 @@ returns-2 c =
     let c5 = c4 .before .before in
     let a = c5 .before .before .args in
     line (now (a .lines)) (a .k) (a .kind) (a .hash) (a .key) (a .place)
-    (c4 .put-word .ensures)
-    (c3 .put-word2 .ensures)
-    (c2 .put-word3 .ensures)
-    (c1 .put-word4 .ensures)
+    (c4 .put-wide .ensures)
+    (c3 .put-wide2 .ensures)
+    (c2 .put-wide3 .ensures)
+    (c1 .put-wide4 .ensures)
 
 pub put-line-spec : {M : Type 1} → statement M
 put-line-spec =
@@ -62,12 +62,12 @@ put-line-spec =
     returns
     mul-at
     add-at
-    put-word-requires
-    add-put-word
-    put-word-requires-2
-    add-put-word-2
-    put-word-requires-3
-    add-put-word-3
-    put-word-requires-4
+    put-wide-requires
+    add-put-wide
+    put-wide-requires-2
+    add-put-wide-2
+    put-wide-requires-3
+    add-put-wide-3
+    put-wide-requires-4
     same-length
     returns-2)

@@ -35,8 +35,8 @@ returns-2 c =
     let f = is-fit _ (c3 .fit-index .ensures) (c2 .enum-told .given .1) in
     damaged _ _ f (not-sound _ (tree-fits _ f) (c1 .sound .result) (c1 .sound .ensures) (c .match2 .keys2))
 
-word-requires : tie.Need-word-requires
-word-requires c κs = search needs
+length-of-requires : tie.Need-length-of-requires
+length-of-requires c κs = search needs
 
 returns-3 : tie.Need-returns-3
 returns-3 c =
@@ -48,7 +48,7 @@ returns-3 c =
     let f = is-fit _ (c6 .fit-index .ensures) (c5 .enum-told .given .1) in
     bad-mark _ _ f
     (is-sound _ (tree-fits _ f) (c4 .sound .result) (c4 .sound .ensures) (c2 .enum-told3 .given .1))
-    (c1 .word .ensures)
+    (c1 .length-of .ensures)
     (c .if1 .taken)
 
 sub-t11 : tie.Need-sub-t11
@@ -60,7 +60,7 @@ cast-t12 c =
     let c5 = c1 .before .before .before .before in
     let c6 = c5 .before .before in
     let h = fits-index _ (is-fit _ (c6 .fit-index .ensures) (c5 .enum-told .given .1)) in
-    omega (arith, h .most, h .within, c1 .word .ensures)
+    omega (arith, h .most, h .within, c1 .length-of .ensures)
 
 returns-4 : tie.Need-returns-4
 returns-4 c =
@@ -72,7 +72,7 @@ returns-4 c =
     let f = is-fit _ (c6 .fit-index .ensures) (c5 .enum-told .given .1) in
     good-mark _ _ f
     (is-sound _ (tree-fits _ f) (c4 .sound .result) (c4 .sound .ensures) (c2 .enum-told3 .given .1))
-    (c1 .word .ensures)
+    (c1 .length-of .ensures)
     (c .if1 .left)
 
 pub ask-spec : {M : Type 1} → statement M
@@ -86,7 +86,7 @@ ask-spec =
     sound-requires
     enum-told-3
     returns-2
-    word-requires
+    length-of-requires
     returns-3
     sub-t11
     cast-t12

@@ -39,7 +39,11 @@ slice-aggregate-copy-names-2 : tie.Need-slice-aggregate-copy-names-2
 slice-aggregate-copy-names-2 c = search needs
 
 copy-names-requires-2 : tie.Need-copy-names-requires-2
-copy-names-requires-2 c κs = search needs
+copy-names-requires-2 c κs =
+    let c7 = c .before .before .before .before .before .before .before .before .before .before in
+    let c15 = c7 .before .before .before .before .before .before .before .before .before .before .before .before .before .before .before in
+    let c17 = c15 .before .before .before .before .before .before .before in
+    omega (arith, c7 .unroll .kept .0, c15 .copy-names .kept .1 .0, c17 .pre .0)
 
 slice-aggregate-copy-cells-2 : tie.Need-slice-aggregate-copy-cells-2
 slice-aggregate-copy-cells-2 c = search needs

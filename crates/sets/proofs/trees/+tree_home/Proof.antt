@@ -25,49 +25,31 @@ abbrev tree-home-below : ℕ → In 2 tree-home-kinds.ps
 tree-home-below t =
     and 2 tree-home-kinds.ps (falls 2 tree-home-kinds.ps _<_ μ-tree-home t) tree-home.Pre
 
-tree-home-returns : (t : ℕ) → tree-home-lts.Need-returns (
+abbrev tree-home-calls : ℕ → tree-home-lts.Claims
+tree-home-calls t = (
   is-home-reads.Asked,
   is-home-reads.Learnt,
   get-reads.Asked,
   get-reads.Learnt,
   tree-home-below t,
   tree-home.Post,
-) (tree-home-at t) tree-home.Post
+)
+
+tree-home-returns : (t : ℕ) → tree-home-lts.Need-returns (tree-home-calls t) (tree-home-at t) tree-home.Post
 tree-home-returns t c =
     let c1 = c .before .before .before in
     home-null (now (c1 .args .names)) (now (c1 .args .cells)) (c1 .args .length) (c1 .args .i) (c1 .args .x) (c1 .args .depth) (c .if1 .taken)
 
-tree-home-returns-2 : (t : ℕ) → tree-home-lts.Need-returns-2 (
-  is-home-reads.Asked,
-  is-home-reads.Learnt,
-  get-reads.Asked,
-  get-reads.Learnt,
-  tree-home-below t,
-  tree-home.Post,
-) (tree-home-at t) tree-home.Post
+tree-home-returns-2 : (t : ℕ) → tree-home-lts.Need-returns-2 (tree-home-calls t) (tree-home-at t) tree-home.Post
 tree-home-returns-2 t c =
     let c1 = c .before in
     let c2 = c1 .before .before .before in
     home-zero (now (c2 .args .names)) (now (c2 .args .cells)) (c2 .args .length) (c2 .args .i) (c2 .args .x) (c2 .args .depth) (c1 .if1 .left) (c .if2 .taken)
 
-tree-home-is-home-requires : (t : ℕ) → tree-home-lts.Need-is-home-requires (
-  is-home-reads.Asked,
-  is-home-reads.Learnt,
-  get-reads.Asked,
-  get-reads.Learnt,
-  tree-home-below t,
-  tree-home.Post,
-) (tree-home-at t) tree-home.Post
+tree-home-is-home-requires : (t : ℕ) → tree-home-lts.Need-is-home-requires (tree-home-calls t) (tree-home-at t) tree-home.Post
 tree-home-is-home-requires t c κs = search needs
 
-tree-home-returns-3 : (t : ℕ) → tree-home-lts.Need-returns-3 (
-  is-home-reads.Asked,
-  is-home-reads.Learnt,
-  get-reads.Asked,
-  get-reads.Learnt,
-  tree-home-below t,
-  tree-home.Post,
-) (tree-home-at t) tree-home.Post
+tree-home-returns-3 : (t : ℕ) → tree-home-lts.Need-returns-3 (tree-home-calls t) (tree-home-at t) tree-home.Post
 tree-home-returns-3 t c =
     let c1 = c .before in
     let c2 = c1 .before in
@@ -75,34 +57,13 @@ tree-home-returns-3 t c =
     let c4 = c3 .before .before .before in
     rw (home-on (now (c4 .args .names)) (now (c4 .args .cells)) (c4 .args .length) (c4 .args .i) (c4 .args .x) (c4 .args .depth) (c3 .if1 .left) (c2 .if2 .left), ← c1 .is-home .ensures, not-true (c1 .is-home .result) (c .if3 .taken))
 
-tree-home-get-requires : (t : ℕ) → tree-home-lts.Need-get-requires (
-  is-home-reads.Asked,
-  is-home-reads.Learnt,
-  get-reads.Asked,
-  get-reads.Learnt,
-  tree-home-below t,
-  tree-home.Post,
-) (tree-home-at t) tree-home.Post
+tree-home-get-requires : (t : ℕ) → tree-home-lts.Need-get-requires (tree-home-calls t) (tree-home-at t) tree-home.Post
 tree-home-get-requires t c κs = search needs
 
-tree-home-sub-tree-home : (t : ℕ) → tree-home-lts.Need-sub-tree-home (
-  is-home-reads.Asked,
-  is-home-reads.Learnt,
-  get-reads.Asked,
-  get-reads.Learnt,
-  tree-home-below t,
-  tree-home.Post,
-) (tree-home-at t) tree-home.Post
+tree-home-sub-tree-home : (t : ℕ) → tree-home-lts.Need-sub-tree-home (tree-home-calls t) (tree-home-at t) tree-home.Post
 tree-home-sub-tree-home t c = search needs
 
-tree-home-tree-home-requires : (t : ℕ) → tree-home-lts.Need-tree-home-requires (
-  is-home-reads.Asked,
-  is-home-reads.Learnt,
-  get-reads.Asked,
-  get-reads.Learnt,
-  tree-home-below t,
-  tree-home.Post,
-) (tree-home-at t) tree-home.Post
+tree-home-tree-home-requires : (t : ℕ) → tree-home-lts.Need-tree-home-requires (tree-home-calls t) (tree-home-at t) tree-home.Post
 tree-home-tree-home-requires t c κs =
     let c1 = c .before in
     let c2 = c1 .before in
@@ -111,14 +72,7 @@ tree-home-tree-home-requires t c κs =
     let c5 = c4 .before .before .before in
     omega (arith, c5 .pre .0, c3 .if2 .left)
 
-tree-home-returns-4 : (t : ℕ) → tree-home-lts.Need-returns-4 (
-  is-home-reads.Asked,
-  is-home-reads.Learnt,
-  get-reads.Asked,
-  get-reads.Learnt,
-  tree-home-below t,
-  tree-home.Post,
-) (tree-home-at t) tree-home.Post
+tree-home-returns-4 : (t : ℕ) → tree-home-lts.Need-returns-4 (tree-home-calls t) (tree-home-at t) tree-home.Post
 tree-home-returns-4 t c =
     let c1 = c .before in
     let c2 = c1 .before in
@@ -129,34 +83,13 @@ tree-home-returns-4 t c =
     let c7 = c6 .before .before .before in
     rw (home-on (now (c7 .args .names)) (now (c7 .args .cells)) (c7 .args .length) (c7 .args .i) (c7 .args .x) (c7 .args .depth) (c6 .if1 .left) (c5 .if2 .left), ← c4 .is-home .ensures, not-false (c4 .is-home .result) (c3 .if3 .left), ← c2 .get .ensures, ← c1 .tree-home .ensures, not-true (c1 .tree-home .result) (c .if4 .taken))
 
-tree-home-get-requires-2 : (t : ℕ) → tree-home-lts.Need-get-requires-2 (
-  is-home-reads.Asked,
-  is-home-reads.Learnt,
-  get-reads.Asked,
-  get-reads.Learnt,
-  tree-home-below t,
-  tree-home.Post,
-) (tree-home-at t) tree-home.Post
+tree-home-get-requires-2 : (t : ℕ) → tree-home-lts.Need-get-requires-2 (tree-home-calls t) (tree-home-at t) tree-home.Post
 tree-home-get-requires-2 t c κs = search needs
 
-tree-home-sub-tree-home-2 : (t : ℕ) → tree-home-lts.Need-sub-tree-home-2 (
-  is-home-reads.Asked,
-  is-home-reads.Learnt,
-  get-reads.Asked,
-  get-reads.Learnt,
-  tree-home-below t,
-  tree-home.Post,
-) (tree-home-at t) tree-home.Post
+tree-home-sub-tree-home-2 : (t : ℕ) → tree-home-lts.Need-sub-tree-home-2 (tree-home-calls t) (tree-home-at t) tree-home.Post
 tree-home-sub-tree-home-2 t c = search needs
 
-tree-home-tree-home-requires-2 : (t : ℕ) → tree-home-lts.Need-tree-home-requires-2 (
-  is-home-reads.Asked,
-  is-home-reads.Learnt,
-  get-reads.Asked,
-  get-reads.Learnt,
-  tree-home-below t,
-  tree-home.Post,
-) (tree-home-at t) tree-home.Post
+tree-home-tree-home-requires-2 : (t : ℕ) → tree-home-lts.Need-tree-home-requires-2 (tree-home-calls t) (tree-home-at t) tree-home.Post
 tree-home-tree-home-requires-2 t c κs =
     let c1 = c .before in
     let c2 = c1 .before in
@@ -168,14 +101,7 @@ tree-home-tree-home-requires-2 t c κs =
     let c8 = c7 .before .before .before in
     omega (arith, c8 .pre .0, c6 .if2 .left)
 
-tree-home-returns-5 : (t : ℕ) → tree-home-lts.Need-returns-5 (
-  is-home-reads.Asked,
-  is-home-reads.Learnt,
-  get-reads.Asked,
-  get-reads.Learnt,
-  tree-home-below t,
-  tree-home.Post,
-) (tree-home-at t) tree-home.Post
+tree-home-returns-5 : (t : ℕ) → tree-home-lts.Need-returns-5 (tree-home-calls t) (tree-home-at t) tree-home.Post
 tree-home-returns-5 t c =
     let c1 = c .before in
     let c2 = c1 .before in
@@ -189,14 +115,7 @@ tree-home-returns-5 t c =
     rw (home-on (now (c9 .args .names)) (now (c9 .args .cells)) (c9 .args .length) (c9 .args .i) (c9 .args .x) (c9 .args .depth) (c8 .if1 .left) (c7 .if2 .left), ← c6 .is-home .ensures, not-false (c6 .is-home .result) (c5 .if3 .left), ← c4 .get .ensures, ← c3 .tree-home .ensures, not-false (c3 .tree-home .result) (c2 .if4 .left), ← c1 .get2 .ensures, ← c .tree-home2 .ensures)
 
 pub +tree-home-spec : {M : Type 1} → statement M
-+tree-home-spec = close μ-tree-home λ t. tree-home-lts.spec (
-  is-home-reads.Asked,
-  is-home-reads.Learnt,
-  get-reads.Asked,
-  get-reads.Learnt,
-  tree-home-below t,
-  tree-home.Post,
-)
++tree-home-spec = close μ-tree-home λ t. tree-home-lts.spec (tree-home-calls t)
     (tree-home-at t)
     tree-home.Post
     (tree-home-returns t)

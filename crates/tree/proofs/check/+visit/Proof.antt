@@ -28,7 +28,8 @@ visit-at t = and 2 visit-kinds.ps (is 2 visit-kinds.ps μ-visit t) visit.Pre
 abbrev visit-below : ℕ → In 2 visit-kinds.ps
 visit-below t = and 2 visit-kinds.ps (falls 2 visit-kinds.ps _<_ μ-visit t) visit.Pre
 
-visit-returns : (t : ℕ) → visit-lts.Need-returns (
+abbrev visit-calls : ℕ → visit-lts.Claims
+visit-calls t = (
   links-in-reads.Asked,
   links-in-reads.Learnt,
   first-failing-reads.Asked,
@@ -37,63 +38,29 @@ visit-returns : (t : ℕ) → visit-lts.Need-returns (
   get-reads.Learnt,
   visit-below t,
   visit.Post,
-) (visit-at t) visit.Post
+)
+
+visit-returns : (t : ℕ) → visit-lts.Need-returns (visit-calls t) (visit-at t) visit.Post
 visit-returns t c =
     let a = c .before .before .before .args in
     absent (now (a .names)) (now (a .cells)) (a .i) (a .visits) (c .if1 .taken)
 
-visit-returns-2 : (t : ℕ) → visit-lts.Need-returns-2 (
-  links-in-reads.Asked,
-  links-in-reads.Learnt,
-  first-failing-reads.Asked,
-  first-failing-reads.Learnt,
-  get-reads.Asked,
-  get-reads.Learnt,
-  visit-below t,
-  visit.Post,
-) (visit-at t) visit.Post
+visit-returns-2 : (t : ℕ) → visit-lts.Need-returns-2 (visit-calls t) (visit-at t) visit.Post
 visit-returns-2 t c =
     let at-null = c .before in
     let a = at-null .before .before .before .args in
     outside (now (a .names)) (now (a .cells)) (a .i) (a .visits) (at-null .if1 .left) (c .if2 .taken)
 
-visit-returns-3 : (t : ℕ) → visit-lts.Need-returns-3 (
-  links-in-reads.Asked,
-  links-in-reads.Learnt,
-  first-failing-reads.Asked,
-  first-failing-reads.Learnt,
-  get-reads.Asked,
-  get-reads.Learnt,
-  visit-below t,
-  visit.Post,
-) (visit-at t) visit.Post
+visit-returns-3 : (t : ℕ) → visit-lts.Need-returns-3 (visit-calls t) (visit-at t) visit.Post
 visit-returns-3 t c =
     let at-null = c .before .before in
     let a = at-null .before .before .before .args in
     spent (now (a .names)) (now (a .cells)) (a .i) (a .visits) (at-null .if1 .left) (c .if3 .taken)
 
-visit-links-in-requires : (t : ℕ) → visit-lts.Need-links-in-requires (
-  links-in-reads.Asked,
-  links-in-reads.Learnt,
-  first-failing-reads.Asked,
-  first-failing-reads.Learnt,
-  get-reads.Asked,
-  get-reads.Learnt,
-  visit-below t,
-  visit.Post,
-) (visit-at t) visit.Post
+visit-links-in-requires : (t : ℕ) → visit-lts.Need-links-in-requires (visit-calls t) (visit-at t) visit.Post
 visit-links-in-requires t c κs = search needs
 
-visit-returns-4 : (t : ℕ) → visit-lts.Need-returns-4 (
-  links-in-reads.Asked,
-  links-in-reads.Learnt,
-  first-failing-reads.Asked,
-  first-failing-reads.Learnt,
-  get-reads.Asked,
-  get-reads.Learnt,
-  visit-below t,
-  visit.Post,
-) (visit-at t) visit.Post
+visit-returns-4 : (t : ℕ) → visit-lts.Need-returns-4 (visit-calls t) (visit-at t) visit.Post
 visit-returns-4 t c =
     let at-links = c .before in
     let at-visits = at-links .before in
@@ -102,28 +69,10 @@ visit-returns-4 t c =
     let a = at-null .before .before .before .args in
     loose (now (a .names)) (now (a .cells)) (a .i) (a .visits) (at-null .if1 .left) (at-range .if2 .left) (at-visits .if3 .left) (at-links .links-in .ensures) (not-true (at-links .links-in .result) (c .if4 .taken))
 
-visit-first-failing-requires : (t : ℕ) → visit-lts.Need-first-failing-requires (
-  links-in-reads.Asked,
-  links-in-reads.Learnt,
-  first-failing-reads.Asked,
-  first-failing-reads.Learnt,
-  get-reads.Asked,
-  get-reads.Learnt,
-  visit-below t,
-  visit.Post,
-) (visit-at t) visit.Post
+visit-first-failing-requires : (t : ℕ) → visit-lts.Need-first-failing-requires (visit-calls t) (visit-at t) visit.Post
 visit-first-failing-requires t c κs = search needs
 
-visit-returns-5 : (t : ℕ) → visit-lts.Need-returns-5 (
-  links-in-reads.Asked,
-  links-in-reads.Learnt,
-  first-failing-reads.Asked,
-  first-failing-reads.Learnt,
-  get-reads.Asked,
-  get-reads.Learnt,
-  visit-below t,
-  visit.Post,
-) (visit-at t) visit.Post
+visit-returns-5 : (t : ℕ) → visit-lts.Need-returns-5 (visit-calls t) (visit-at t) visit.Post
 visit-returns-5 t c =
     let at-tests = c .before in
     let at-named = at-tests .before in
@@ -142,78 +91,24 @@ visit-returns-5 t c =
     (at-tests .first-failing .ensures)
     (c .if5 .taken)
 
-visit-get-requires : (t : ℕ) → visit-lts.Need-get-requires (
-  links-in-reads.Asked,
-  links-in-reads.Learnt,
-  first-failing-reads.Asked,
-  first-failing-reads.Learnt,
-  get-reads.Asked,
-  get-reads.Learnt,
-  visit-below t,
-  visit.Post,
-) (visit-at t) visit.Post
+visit-get-requires : (t : ℕ) → visit-lts.Need-get-requires (visit-calls t) (visit-at t) visit.Post
 visit-get-requires t c κs = search needs
 
-visit-sub-visit : (t : ℕ) → visit-lts.Need-sub-visit (
-  links-in-reads.Asked,
-  links-in-reads.Learnt,
-  first-failing-reads.Asked,
-  first-failing-reads.Learnt,
-  get-reads.Asked,
-  get-reads.Learnt,
-  visit-below t,
-  visit.Post,
-) (visit-at t) visit.Post
+visit-sub-visit : (t : ℕ) → visit-lts.Need-sub-visit (visit-calls t) (visit-at t) visit.Post
 visit-sub-visit t c = search needs
 
-visit-visit-requires : (t : ℕ) → visit-lts.Need-visit-requires (
-  links-in-reads.Asked,
-  links-in-reads.Learnt,
-  first-failing-reads.Asked,
-  first-failing-reads.Learnt,
-  get-reads.Asked,
-  get-reads.Learnt,
-  visit-below t,
-  visit.Post,
-) (visit-at t) visit.Post
+visit-visit-requires : (t : ℕ) → visit-lts.Need-visit-requires (visit-calls t) (visit-at t) visit.Post
 visit-visit-requires t c κs =
     let at-visits = c .before .before .before .before .before in
     omega (arith, at-visits .before .before .before .before .before .pre .0, at-visits .if3 .left)
 
-visit-enum-known-left : (t : ℕ) → visit-lts.Need-enum-known-left (
-  links-in-reads.Asked,
-  links-in-reads.Learnt,
-  first-failing-reads.Asked,
-  first-failing-reads.Learnt,
-  get-reads.Asked,
-  get-reads.Learnt,
-  visit-below t,
-  visit.Post,
-) (visit-at t) visit.Post
+visit-enum-known-left : (t : ℕ) → visit-lts.Need-enum-known-left (visit-calls t) (visit-at t) visit.Post
 visit-enum-known-left t c = search needs
 
-visit-get-requires-2 : (t : ℕ) → visit-lts.Need-get-requires-2 (
-  links-in-reads.Asked,
-  links-in-reads.Learnt,
-  first-failing-reads.Asked,
-  first-failing-reads.Learnt,
-  get-reads.Asked,
-  get-reads.Learnt,
-  visit-below t,
-  visit.Post,
-) (visit-at t) visit.Post
+visit-get-requires-2 : (t : ℕ) → visit-lts.Need-get-requires-2 (visit-calls t) (visit-at t) visit.Post
 visit-get-requires-2 t c κs = search needs
 
-visit-visit-requires-2 : (t : ℕ) → visit-lts.Need-visit-requires-2 (
-  links-in-reads.Asked,
-  links-in-reads.Learnt,
-  first-failing-reads.Asked,
-  first-failing-reads.Learnt,
-  get-reads.Asked,
-  get-reads.Learnt,
-  visit-below t,
-  visit.Post,
-) (visit-at t) visit.Post
+visit-visit-requires-2 : (t : ℕ) → visit-lts.Need-visit-requires-2 (visit-calls t) (visit-at t) visit.Post
 visit-visit-requires-2 t c κs =
     let at-told = c .before .before in
     let at-visit = at-told .before .before in
@@ -235,40 +130,13 @@ visit-visit-requires-2 t c κs =
       at-visits .if3 .left,
     )
 
-visit-enum-known-left-2 : (t : ℕ) → visit-lts.Need-enum-known-left-2 (
-  links-in-reads.Asked,
-  links-in-reads.Learnt,
-  first-failing-reads.Asked,
-  first-failing-reads.Learnt,
-  get-reads.Asked,
-  get-reads.Learnt,
-  visit-below t,
-  visit.Post,
-) (visit-at t) visit.Post
+visit-enum-known-left-2 : (t : ℕ) → visit-lts.Need-enum-known-left-2 (visit-calls t) (visit-at t) visit.Post
 visit-enum-known-left-2 t c = search needs
 
-visit-enum-told : (t : ℕ) → visit-lts.Need-enum-told (
-  links-in-reads.Asked,
-  links-in-reads.Learnt,
-  first-failing-reads.Asked,
-  first-failing-reads.Learnt,
-  get-reads.Asked,
-  get-reads.Learnt,
-  visit-below t,
-  visit.Post,
-) (visit-at t) visit.Post
+visit-enum-told : (t : ℕ) → visit-lts.Need-enum-told (visit-calls t) (visit-at t) visit.Post
 visit-enum-told t c = search needs
 
-visit-returns-6 : (t : ℕ) → visit-lts.Need-returns-6 (
-  links-in-reads.Asked,
-  links-in-reads.Learnt,
-  first-failing-reads.Asked,
-  first-failing-reads.Learnt,
-  get-reads.Asked,
-  get-reads.Learnt,
-  visit-below t,
-  visit.Post,
-) (visit-at t) visit.Post
+visit-returns-6 : (t : ℕ) → visit-lts.Need-returns-6 (visit-calls t) (visit-at t) visit.Post
 visit-returns-6 t c =
     let at-right = c .before in
     let at-told = at-right .before .before in
@@ -296,16 +164,7 @@ visit-returns-6 t c =
     (at-right .get2 .ensures)
     (c .visit2 .ensures)
 
-visit-returns-7 : (t : ℕ) → visit-lts.Need-returns-7 (
-  links-in-reads.Asked,
-  links-in-reads.Learnt,
-  first-failing-reads.Asked,
-  first-failing-reads.Learnt,
-  get-reads.Asked,
-  get-reads.Learnt,
-  visit-below t,
-  visit.Post,
-) (visit-at t) visit.Post
+visit-returns-7 : (t : ℕ) → visit-lts.Need-returns-7 (visit-calls t) (visit-at t) visit.Post
 visit-returns-7 t c =
     let at-told = c .before in
     let at-visit = at-told .before .before in
@@ -330,16 +189,7 @@ visit-returns-7 t c =
     (at-left .get .ensures)
     (ap walkOf (sym (at-told .left2 .given .1)) ∙ at-visit .visit .ensures)
 
-visit-returns-8 : (t : ℕ) → visit-lts.Need-returns-8 (
-  links-in-reads.Asked,
-  links-in-reads.Learnt,
-  first-failing-reads.Asked,
-  first-failing-reads.Learnt,
-  get-reads.Asked,
-  get-reads.Learnt,
-  visit-below t,
-  visit.Post,
-) (visit-at t) visit.Post
+visit-returns-8 : (t : ℕ) → visit-lts.Need-returns-8 (visit-calls t) (visit-at t) visit.Post
 visit-returns-8 t c =
     let at-visit = c .before .before in
     let at-left = at-visit .before in
@@ -364,16 +214,7 @@ visit-returns-8 t c =
     (ap walkOf (sym (c .enum-told .given .1)) ∙ at-visit .visit .ensures)
 
 pub +visit-spec : {M : Type 1} → statement M
-+visit-spec = close μ-visit λ t. visit-lts.spec (
-  links-in-reads.Asked,
-  links-in-reads.Learnt,
-  first-failing-reads.Asked,
-  first-failing-reads.Learnt,
-  get-reads.Asked,
-  get-reads.Learnt,
-  visit-below t,
-  visit.Post,
-)
++visit-spec = close μ-visit λ t. visit-lts.spec (visit-calls t)
     (visit-at t)
     visit.Post
     (visit-returns t)

@@ -16,7 +16,7 @@ use Rattle.tree.proofs.rules.+walk.Lts-walk as walk-lts
 use Rattle.slots.proofs.get.Reads as get-reads
 use Rattle.slots.proofs.is_red.Reads as is-red-reads
 use Rattle.tree.proofs.rules.follow.Reads as follow-reads
-use Rattle.tree.proofs.rules.quiet.Reads as quiet-reads
+use Rattle.tree.proofs.rules.is_calm.Reads as is-calm-reads
 use Rattle.tree.proofs.rules.stand.Reads as stand-reads
 use Rattle.tree.proofs.rules.+walk.{statement}
 use Rattle.tree.proofs.rules.+walk.Tie.{close}
@@ -30,11 +30,12 @@ walk-at t = and 2 walk-kinds.ps (is 2 walk-kinds.ps μ-walk t) walk.Pre
 abbrev walk-below : ℕ → In 2 walk-kinds.ps
 walk-below t = and 2 walk-kinds.ps (falls 2 walk-kinds.ps _<_ μ-walk t) walk.Pre
 
-walk-returns : (t : ℕ) → walk-lts.Need-returns (
+abbrev walk-calls : ℕ → walk-lts.Claims
+walk-calls t = (
   stand-reads.Asked,
   stand-reads.Learnt,
-  quiet-reads.Asked,
-  quiet-reads.Learnt,
+  is-calm-reads.Asked,
+  is-calm-reads.Learnt,
   get-reads.Asked,
   get-reads.Learnt,
   walk-below t,
@@ -43,98 +44,35 @@ walk-returns : (t : ℕ) → walk-lts.Need-returns (
   follow-reads.Learnt,
   is-red-reads.Asked,
   is-red-reads.Learnt,
-) (walk-at t) walk.Post
+)
+
+walk-returns : (t : ℕ) → walk-lts.Need-returns (walk-calls t) (walk-at t) walk.Post
 walk-returns t c =
     let a = c .before .before .before .args in
     walk-null (now (a .names)) (now (a .cells)) (a .q) (a .last) (a .i) (a .depth) (a .visits) (c .if1 .taken)
 
-walk-returns-2 : (t : ℕ) → walk-lts.Need-returns-2 (
-  stand-reads.Asked,
-  stand-reads.Learnt,
-  quiet-reads.Asked,
-  quiet-reads.Learnt,
-  get-reads.Asked,
-  get-reads.Learnt,
-  walk-below t,
-  walk.Post,
-  follow-reads.Asked,
-  follow-reads.Learnt,
-  is-red-reads.Asked,
-  is-red-reads.Learnt,
-) (walk-at t) walk.Post
+walk-returns-2 : (t : ℕ) → walk-lts.Need-returns-2 (walk-calls t) (walk-at t) walk.Post
 walk-returns-2 t c =
     let at-null = c .before in
     let a = at-null .before .before .before .args in
     walk-outside (now (a .names)) (now (a .cells)) (a .q) (a .last) (a .i) (a .depth) (a .visits) (at-null .if1 .left) (c .if2 .taken)
 
-walk-returns-3 : (t : ℕ) → walk-lts.Need-returns-3 (
-  stand-reads.Asked,
-  stand-reads.Learnt,
-  quiet-reads.Asked,
-  quiet-reads.Learnt,
-  get-reads.Asked,
-  get-reads.Learnt,
-  walk-below t,
-  walk.Post,
-  follow-reads.Asked,
-  follow-reads.Learnt,
-  is-red-reads.Asked,
-  is-red-reads.Learnt,
-) (walk-at t) walk.Post
+walk-returns-3 : (t : ℕ) → walk-lts.Need-returns-3 (walk-calls t) (walk-at t) walk.Post
 walk-returns-3 t c =
     let at-null = c .before .before in
     let a = at-null .before .before .before .args in
     walk-spent (now (a .names)) (now (a .cells)) (a .q) (a .last) (a .i) (a .depth) (a .visits) (at-null .if1 .left) (c .if3 .taken)
 
-walk-returns-4 : (t : ℕ) → walk-lts.Need-returns-4 (
-  stand-reads.Asked,
-  stand-reads.Learnt,
-  quiet-reads.Asked,
-  quiet-reads.Learnt,
-  get-reads.Asked,
-  get-reads.Learnt,
-  walk-below t,
-  walk.Post,
-  follow-reads.Asked,
-  follow-reads.Learnt,
-  is-red-reads.Asked,
-  is-red-reads.Learnt,
-) (walk-at t) walk.Post
+walk-returns-4 : (t : ℕ) → walk-lts.Need-returns-4 (walk-calls t) (walk-at t) walk.Post
 walk-returns-4 t c =
     let at-null = c .before .before .before in
     let a = at-null .before .before .before .args in
     walk-deep (now (a .names)) (now (a .cells)) (a .q) (a .last) (a .i) (a .depth) (a .visits) (at-null .if1 .left) (c .if4 .taken)
 
-walk-stand-requires : (t : ℕ) → walk-lts.Need-stand-requires (
-  stand-reads.Asked,
-  stand-reads.Learnt,
-  quiet-reads.Asked,
-  quiet-reads.Learnt,
-  get-reads.Asked,
-  get-reads.Learnt,
-  walk-below t,
-  walk.Post,
-  follow-reads.Asked,
-  follow-reads.Learnt,
-  is-red-reads.Asked,
-  is-red-reads.Learnt,
-) (walk-at t) walk.Post
+walk-stand-requires : (t : ℕ) → walk-lts.Need-stand-requires (walk-calls t) (walk-at t) walk.Post
 walk-stand-requires t c κs = search needs
 
-walk-returns-5 : (t : ℕ) → walk-lts.Need-returns-5 (
-  stand-reads.Asked,
-  stand-reads.Learnt,
-  quiet-reads.Asked,
-  quiet-reads.Learnt,
-  get-reads.Asked,
-  get-reads.Learnt,
-  walk-below t,
-  walk.Post,
-  follow-reads.Asked,
-  follow-reads.Learnt,
-  is-red-reads.Asked,
-  is-red-reads.Learnt,
-) (walk-at t) walk.Post
+walk-returns-5 : (t : ℕ) → walk-lts.Need-returns-5 (walk-calls t) (walk-at t) walk.Post
 walk-returns-5 t c =
     let at-stand = c .before in
     let at-deep = at-stand .before in
@@ -147,39 +85,13 @@ walk-returns-5 t c =
     (at-stand .stand .ensures)
     (not-true (at-stand .stand .result) (c .if5 .taken))
 
-walk-quiet-requires : (t : ℕ) → walk-lts.Need-quiet-requires (
-  stand-reads.Asked,
-  stand-reads.Learnt,
-  quiet-reads.Asked,
-  quiet-reads.Learnt,
-  get-reads.Asked,
-  get-reads.Learnt,
-  walk-below t,
-  walk.Post,
-  follow-reads.Asked,
-  follow-reads.Learnt,
-  is-red-reads.Asked,
-  is-red-reads.Learnt,
-) (walk-at t) walk.Post
-walk-quiet-requires t c κs = search needs
+walk-is-calm-requires : (t : ℕ) → walk-lts.Need-is-calm-requires (walk-calls t) (walk-at t) walk.Post
+walk-is-calm-requires t c κs = search needs
 
-walk-returns-6 : (t : ℕ) → walk-lts.Need-returns-6 (
-  stand-reads.Asked,
-  stand-reads.Learnt,
-  quiet-reads.Asked,
-  quiet-reads.Learnt,
-  get-reads.Asked,
-  get-reads.Learnt,
-  walk-below t,
-  walk.Post,
-  follow-reads.Asked,
-  follow-reads.Learnt,
-  is-red-reads.Asked,
-  is-red-reads.Learnt,
-) (walk-at t) walk.Post
+walk-returns-6 : (t : ℕ) → walk-lts.Need-returns-6 (walk-calls t) (walk-at t) walk.Post
 walk-returns-6 t c =
-    let at-quiet = c .before in
-    let at-upright = at-quiet .before in
+    let at-asked = c .before in
+    let at-upright = at-asked .before in
     let at-stand = at-upright .before in
     let at-deep = at-stand .before in
     let at-visits = at-deep .before in
@@ -188,75 +100,23 @@ walk-returns-6 t c =
     let a = at-null .before .before .before .args in
     walk-loud (now (a .names)) (now (a .cells)) (a .q) (a .last) (a .i) (a .depth) (a .visits)
     (at-null .if1 .left) (at-range .if2 .left) (at-visits .if3 .left) (at-deep .if4 .left)
-    (at-quiet .quiet .ensures)
-    (not-true (at-quiet .quiet .result) (c .if6 .taken))
+    (at-asked .is-calm .ensures)
+    (not-true (at-asked .is-calm .result) (c .if6 .taken))
 
-walk-get-requires : (t : ℕ) → walk-lts.Need-get-requires (
-  stand-reads.Asked,
-  stand-reads.Learnt,
-  quiet-reads.Asked,
-  quiet-reads.Learnt,
-  get-reads.Asked,
-  get-reads.Learnt,
-  walk-below t,
-  walk.Post,
-  follow-reads.Asked,
-  follow-reads.Learnt,
-  is-red-reads.Asked,
-  is-red-reads.Learnt,
-) (walk-at t) walk.Post
+walk-get-requires : (t : ℕ) → walk-lts.Need-get-requires (walk-calls t) (walk-at t) walk.Post
 walk-get-requires t c κs = search needs
 
-walk-sub-walk : (t : ℕ) → walk-lts.Need-sub-walk (
-  stand-reads.Asked,
-  stand-reads.Learnt,
-  quiet-reads.Asked,
-  quiet-reads.Learnt,
-  get-reads.Asked,
-  get-reads.Learnt,
-  walk-below t,
-  walk.Post,
-  follow-reads.Asked,
-  follow-reads.Learnt,
-  is-red-reads.Asked,
-  is-red-reads.Learnt,
-) (walk-at t) walk.Post
+walk-sub-walk : (t : ℕ) → walk-lts.Need-sub-walk (walk-calls t) (walk-at t) walk.Post
 walk-sub-walk t c = search needs
 
-walk-sub-walk-2 : (t : ℕ) → walk-lts.Need-sub-walk-2 (
-  stand-reads.Asked,
-  stand-reads.Learnt,
-  quiet-reads.Asked,
-  quiet-reads.Learnt,
-  get-reads.Asked,
-  get-reads.Learnt,
-  walk-below t,
-  walk.Post,
-  follow-reads.Asked,
-  follow-reads.Learnt,
-  is-red-reads.Asked,
-  is-red-reads.Learnt,
-) (walk-at t) walk.Post
+walk-sub-walk-2 : (t : ℕ) → walk-lts.Need-sub-walk-2 (walk-calls t) (walk-at t) walk.Post
 walk-sub-walk-2 t c = search needs
 
-walk-walk-requires : (t : ℕ) → walk-lts.Need-walk-requires (
-  stand-reads.Asked,
-  stand-reads.Learnt,
-  quiet-reads.Asked,
-  quiet-reads.Learnt,
-  get-reads.Asked,
-  get-reads.Learnt,
-  walk-below t,
-  walk.Post,
-  follow-reads.Asked,
-  follow-reads.Learnt,
-  is-red-reads.Asked,
-  is-red-reads.Learnt,
-) (walk-at t) walk.Post
+walk-walk-requires : (t : ℕ) → walk-lts.Need-walk-requires (walk-calls t) (walk-at t) walk.Post
 walk-walk-requires t c κs =
     let at-calm = c .before in
-    let at-quiet = at-calm .before in
-    let at-upright = at-quiet .before in
+    let at-asked = at-calm .before in
+    let at-upright = at-asked .before in
     let at-stand = at-upright .before in
     let at-deep = at-stand .before in
     let at-visits = at-deep .before in
@@ -265,59 +125,20 @@ walk-walk-requires t c κs =
     let a = at-null .before .before .before .args in
     omega (arith, at-null .before .before .before .pre .0, at-deep .if4 .left)
 
-walk-enum-known-lefts : (t : ℕ) → walk-lts.Need-enum-known-lefts (
-  stand-reads.Asked,
-  stand-reads.Learnt,
-  quiet-reads.Asked,
-  quiet-reads.Learnt,
-  get-reads.Asked,
-  get-reads.Learnt,
-  walk-below t,
-  walk.Post,
-  follow-reads.Asked,
-  follow-reads.Learnt,
-  is-red-reads.Asked,
-  is-red-reads.Learnt,
-) (walk-at t) walk.Post
+walk-enum-known-lefts : (t : ℕ) → walk-lts.Need-enum-known-lefts (walk-calls t) (walk-at t) walk.Post
 walk-enum-known-lefts t c = search needs
 
-walk-enum-told : (t : ℕ) → walk-lts.Need-enum-told (
-  stand-reads.Asked,
-  stand-reads.Learnt,
-  quiet-reads.Asked,
-  quiet-reads.Learnt,
-  get-reads.Asked,
-  get-reads.Learnt,
-  walk-below t,
-  walk.Post,
-  follow-reads.Asked,
-  follow-reads.Learnt,
-  is-red-reads.Asked,
-  is-red-reads.Learnt,
-) (walk-at t) walk.Post
+walk-enum-told : (t : ℕ) → walk-lts.Need-enum-told (walk-calls t) (walk-at t) walk.Post
 walk-enum-told t c = search needs
 
-walk-returns-7 : (t : ℕ) → walk-lts.Need-returns-7 (
-  stand-reads.Asked,
-  stand-reads.Learnt,
-  quiet-reads.Asked,
-  quiet-reads.Learnt,
-  get-reads.Asked,
-  get-reads.Learnt,
-  walk-below t,
-  walk.Post,
-  follow-reads.Asked,
-  follow-reads.Learnt,
-  is-red-reads.Asked,
-  is-red-reads.Learnt,
-) (walk-at t) walk.Post
+walk-returns-7 : (t : ℕ) → walk-lts.Need-returns-7 (walk-calls t) (walk-at t) walk.Post
 walk-returns-7 t c =
     let at-match = c .before in
     let at-walk = at-match .before in
     let at-left = at-walk .before in
     let at-calm = at-left .before in
-    let at-quiet = at-calm .before in
-    let at-upright = at-quiet .before in
+    let at-asked = at-calm .before in
+    let at-upright = at-asked .before in
     let at-stand = at-upright .before in
     let at-deep = at-stand .before in
     let at-visits = at-deep .before in
@@ -327,40 +148,14 @@ walk-returns-7 t c =
     walk-left-breaks (now (a .names)) (now (a .cells)) (a .q) (a .last) (a .i) (a .depth) (a .visits)
     (at-null .if1 .left) (at-range .if2 .left) (at-visits .if3 .left) (at-deep .if4 .left)
     (at-stand .stand .ensures) (not-false (at-stand .stand .result) (at-upright .if5 .left))
-    (at-quiet .quiet .ensures) (not-false (at-quiet .quiet .result) (at-calm .if6 .left))
+    (at-asked .is-calm .ensures) (not-false (at-asked .is-calm .result) (at-calm .if6 .left))
     (at-left .get .ensures)
     (ap partOf (sym (c .enum-told .given .1)) ∙ at-walk .walk .ensures)
 
-walk-follow-requires : (t : ℕ) → walk-lts.Need-follow-requires (
-  stand-reads.Asked,
-  stand-reads.Learnt,
-  quiet-reads.Asked,
-  quiet-reads.Learnt,
-  get-reads.Asked,
-  get-reads.Learnt,
-  walk-below t,
-  walk.Post,
-  follow-reads.Asked,
-  follow-reads.Learnt,
-  is-red-reads.Asked,
-  is-red-reads.Learnt,
-) (walk-at t) walk.Post
+walk-follow-requires : (t : ℕ) → walk-lts.Need-follow-requires (walk-calls t) (walk-at t) walk.Post
 walk-follow-requires t c κs = search needs
 
-walk-returns-8 : (t : ℕ) → walk-lts.Need-returns-8 (
-  stand-reads.Asked,
-  stand-reads.Learnt,
-  quiet-reads.Asked,
-  quiet-reads.Learnt,
-  get-reads.Asked,
-  get-reads.Learnt,
-  walk-below t,
-  walk.Post,
-  follow-reads.Asked,
-  follow-reads.Learnt,
-  is-red-reads.Asked,
-  is-red-reads.Learnt,
-) (walk-at t) walk.Post
+walk-returns-8 : (t : ℕ) → walk-lts.Need-returns-8 (walk-calls t) (walk-at t) walk.Post
 walk-returns-8 t c =
     let at-follow = c .before in
     let at-known = at-follow .before in
@@ -369,8 +164,8 @@ walk-returns-8 t c =
     let at-walk = at-match .before in
     let at-left = at-walk .before in
     let at-calm = at-left .before in
-    let at-quiet = at-calm .before in
-    let at-upright = at-quiet .before in
+    let at-asked = at-calm .before in
+    let at-upright = at-asked .before in
     let at-stand = at-upright .before in
     let at-deep = at-stand .before in
     let at-visits = at-deep .before in
@@ -380,58 +175,19 @@ walk-returns-8 t c =
     walk-falls (now (a .names)) (now (a .cells)) (a .q) (a .last) (a .i) (a .depth) (a .visits)
     (at-null .if1 .left) (at-range .if2 .left) (at-visits .if3 .left) (at-deep .if4 .left)
     (at-stand .stand .ensures) (not-false (at-stand .stand .result) (at-upright .if5 .left))
-    (at-quiet .quiet .ensures) (not-false (at-quiet .quiet .result) (at-calm .if6 .left))
+    (at-asked .is-calm .ensures) (not-false (at-asked .is-calm .result) (at-calm .if6 .left))
     (at-left .get .ensures)
     (ap partOf (sym (at-lefts .lefts .given .1)) ∙ at-walk .walk .ensures)
     (at-follow .follow .ensures)
     (not-true (at-follow .follow .result) (c .if7 .taken))
 
-walk-get-requires-2 : (t : ℕ) → walk-lts.Need-get-requires-2 (
-  stand-reads.Asked,
-  stand-reads.Learnt,
-  quiet-reads.Asked,
-  quiet-reads.Learnt,
-  get-reads.Asked,
-  get-reads.Learnt,
-  walk-below t,
-  walk.Post,
-  follow-reads.Asked,
-  follow-reads.Learnt,
-  is-red-reads.Asked,
-  is-red-reads.Learnt,
-) (walk-at t) walk.Post
+walk-get-requires-2 : (t : ℕ) → walk-lts.Need-get-requires-2 (walk-calls t) (walk-at t) walk.Post
 walk-get-requires-2 t c κs = search needs
 
-walk-sub-walk-3 : (t : ℕ) → walk-lts.Need-sub-walk-3 (
-  stand-reads.Asked,
-  stand-reads.Learnt,
-  quiet-reads.Asked,
-  quiet-reads.Learnt,
-  get-reads.Asked,
-  get-reads.Learnt,
-  walk-below t,
-  walk.Post,
-  follow-reads.Asked,
-  follow-reads.Learnt,
-  is-red-reads.Asked,
-  is-red-reads.Learnt,
-) (walk-at t) walk.Post
+walk-sub-walk-3 : (t : ℕ) → walk-lts.Need-sub-walk-3 (walk-calls t) (walk-at t) walk.Post
 walk-sub-walk-3 t c = search needs
 
-walk-walk-requires-2 : (t : ℕ) → walk-lts.Need-walk-requires-2 (
-  stand-reads.Asked,
-  stand-reads.Learnt,
-  quiet-reads.Asked,
-  quiet-reads.Learnt,
-  get-reads.Asked,
-  get-reads.Learnt,
-  walk-below t,
-  walk.Post,
-  follow-reads.Asked,
-  follow-reads.Learnt,
-  is-red-reads.Asked,
-  is-red-reads.Learnt,
-) (walk-at t) walk.Post
+walk-walk-requires-2 : (t : ℕ) → walk-lts.Need-walk-requires-2 (walk-calls t) (walk-at t) walk.Post
 walk-walk-requires-2 t c κs =
     let at-rising = c .before in
     let at-follow = at-rising .before in
@@ -441,8 +197,8 @@ walk-walk-requires-2 t c κs =
     let at-walk = at-match .before in
     let at-left = at-walk .before in
     let at-calm = at-left .before in
-    let at-quiet = at-calm .before in
-    let at-upright = at-quiet .before in
+    let at-asked = at-calm .before in
+    let at-upright = at-asked .before in
     let at-stand = at-upright .before in
     let at-deep = at-stand .before in
     let at-visits = at-deep .before in
@@ -451,52 +207,13 @@ walk-walk-requires-2 t c κs =
     let a = at-null .before .before .before .args in
     omega (arith, at-null .before .before .before .pre .0, at-deep .if4 .left)
 
-walk-enum-known-rights : (t : ℕ) → walk-lts.Need-enum-known-rights (
-  stand-reads.Asked,
-  stand-reads.Learnt,
-  quiet-reads.Asked,
-  quiet-reads.Learnt,
-  get-reads.Asked,
-  get-reads.Learnt,
-  walk-below t,
-  walk.Post,
-  follow-reads.Asked,
-  follow-reads.Learnt,
-  is-red-reads.Asked,
-  is-red-reads.Learnt,
-) (walk-at t) walk.Post
+walk-enum-known-rights : (t : ℕ) → walk-lts.Need-enum-known-rights (walk-calls t) (walk-at t) walk.Post
 walk-enum-known-rights t c = search needs
 
-walk-enum-told-2 : (t : ℕ) → walk-lts.Need-enum-told-2 (
-  stand-reads.Asked,
-  stand-reads.Learnt,
-  quiet-reads.Asked,
-  quiet-reads.Learnt,
-  get-reads.Asked,
-  get-reads.Learnt,
-  walk-below t,
-  walk.Post,
-  follow-reads.Asked,
-  follow-reads.Learnt,
-  is-red-reads.Asked,
-  is-red-reads.Learnt,
-) (walk-at t) walk.Post
+walk-enum-told-2 : (t : ℕ) → walk-lts.Need-enum-told-2 (walk-calls t) (walk-at t) walk.Post
 walk-enum-told-2 t c = search needs
 
-walk-returns-9 : (t : ℕ) → walk-lts.Need-returns-9 (
-  stand-reads.Asked,
-  stand-reads.Learnt,
-  quiet-reads.Asked,
-  quiet-reads.Learnt,
-  get-reads.Asked,
-  get-reads.Learnt,
-  walk-below t,
-  walk.Post,
-  follow-reads.Asked,
-  follow-reads.Learnt,
-  is-red-reads.Asked,
-  is-red-reads.Learnt,
-) (walk-at t) walk.Post
+walk-returns-9 : (t : ℕ) → walk-lts.Need-returns-9 (walk-calls t) (walk-at t) walk.Post
 walk-returns-9 t c =
     let at-match2 = c .before in
     let at-walk2 = at-match2 .before in
@@ -509,8 +226,8 @@ walk-returns-9 t c =
     let at-walk = at-match .before in
     let at-left = at-walk .before in
     let at-calm = at-left .before in
-    let at-quiet = at-calm .before in
-    let at-upright = at-quiet .before in
+    let at-asked = at-calm .before in
+    let at-upright = at-asked .before in
     let at-stand = at-upright .before in
     let at-deep = at-stand .before in
     let at-visits = at-deep .before in
@@ -520,7 +237,7 @@ walk-returns-9 t c =
     walk-right-breaks (now (a .names)) (now (a .cells)) (a .q) (a .last) (a .i) (a .depth) (a .visits)
     (at-null .if1 .left) (at-range .if2 .left) (at-visits .if3 .left) (at-deep .if4 .left)
     (at-stand .stand .ensures) (not-false (at-stand .stand .result) (at-upright .if5 .left))
-    (at-quiet .quiet .ensures) (not-false (at-quiet .quiet .result) (at-calm .if6 .left))
+    (at-asked .is-calm .ensures) (not-false (at-asked .is-calm .result) (at-calm .if6 .left))
     (at-left .get .ensures)
     (ap partOf (sym (at-lefts .lefts .given .1)) ∙ at-walk .walk .ensures)
     (at-follow .follow .ensures)
@@ -528,20 +245,7 @@ walk-returns-9 t c =
     (at-right .get2 .ensures)
     (ap partOf (sym (c .enum-told2 .given .1)) ∙ at-walk2 .walk2 .ensures)
 
-walk-returns-10 : (t : ℕ) → walk-lts.Need-returns-10 (
-  stand-reads.Asked,
-  stand-reads.Learnt,
-  quiet-reads.Asked,
-  quiet-reads.Learnt,
-  get-reads.Asked,
-  get-reads.Learnt,
-  walk-below t,
-  walk.Post,
-  follow-reads.Asked,
-  follow-reads.Learnt,
-  is-red-reads.Asked,
-  is-red-reads.Learnt,
-) (walk-at t) walk.Post
+walk-returns-10 : (t : ℕ) → walk-lts.Need-returns-10 (walk-calls t) (walk-at t) walk.Post
 walk-returns-10 t c =
     let at-known2 = c .before in
     let at-rights = at-known2 .before in
@@ -556,8 +260,8 @@ walk-returns-10 t c =
     let at-walk = at-match .before in
     let at-left = at-walk .before in
     let at-calm = at-left .before in
-    let at-quiet = at-calm .before in
-    let at-upright = at-quiet .before in
+    let at-asked = at-calm .before in
+    let at-upright = at-asked .before in
     let at-stand = at-upright .before in
     let at-deep = at-stand .before in
     let at-visits = at-deep .before in
@@ -567,7 +271,7 @@ walk-returns-10 t c =
     walk-uneven (now (a .names)) (now (a .cells)) (a .q) (a .last) (a .i) (a .depth) (a .visits)
     (at-null .if1 .left) (at-range .if2 .left) (at-visits .if3 .left) (at-deep .if4 .left)
     (at-stand .stand .ensures) (not-false (at-stand .stand .result) (at-upright .if5 .left))
-    (at-quiet .quiet .ensures) (not-false (at-quiet .quiet .result) (at-calm .if6 .left))
+    (at-asked .is-calm .ensures) (not-false (at-asked .is-calm .result) (at-calm .if6 .left))
     (at-left .get .ensures)
     (ap partOf (sym (at-lefts .lefts .given .1)) ∙ at-walk .walk .ensures)
     (at-follow .follow .ensures)
@@ -576,36 +280,10 @@ walk-returns-10 t c =
     (ap partOf (sym (at-rights .rights .given .1)) ∙ at-walk2 .walk2 .ensures)
     (c .if8 .taken)
 
-walk-is-red-requires : (t : ℕ) → walk-lts.Need-is-red-requires (
-  stand-reads.Asked,
-  stand-reads.Learnt,
-  quiet-reads.Asked,
-  quiet-reads.Learnt,
-  get-reads.Asked,
-  get-reads.Learnt,
-  walk-below t,
-  walk.Post,
-  follow-reads.Asked,
-  follow-reads.Learnt,
-  is-red-reads.Asked,
-  is-red-reads.Learnt,
-) (walk-at t) walk.Post
+walk-is-red-requires : (t : ℕ) → walk-lts.Need-is-red-requires (walk-calls t) (walk-at t) walk.Post
 walk-is-red-requires t c κs = search needs
 
-walk-returns-11 : (t : ℕ) → walk-lts.Need-returns-11 (
-  stand-reads.Asked,
-  stand-reads.Learnt,
-  quiet-reads.Asked,
-  quiet-reads.Learnt,
-  get-reads.Asked,
-  get-reads.Learnt,
-  walk-below t,
-  walk.Post,
-  follow-reads.Asked,
-  follow-reads.Learnt,
-  is-red-reads.Asked,
-  is-red-reads.Learnt,
-) (walk-at t) walk.Post
+walk-returns-11 : (t : ℕ) → walk-lts.Need-returns-11 (walk-calls t) (walk-at t) walk.Post
 walk-returns-11 t c =
     let at-is-red = c .before in
     let at-even = at-is-red .before in
@@ -622,8 +300,8 @@ walk-returns-11 t c =
     let at-walk = at-match .before in
     let at-left = at-walk .before in
     let at-calm = at-left .before in
-    let at-quiet = at-calm .before in
-    let at-upright = at-quiet .before in
+    let at-asked = at-calm .before in
+    let at-upright = at-asked .before in
     let at-stand = at-upright .before in
     let at-deep = at-stand .before in
     let at-visits = at-deep .before in
@@ -633,7 +311,7 @@ walk-returns-11 t c =
     walk-red (now (a .names)) (now (a .cells)) (a .q) (a .last) (a .i) (a .depth) (a .visits)
     (at-null .if1 .left) (at-range .if2 .left) (at-visits .if3 .left) (at-deep .if4 .left)
     (at-stand .stand .ensures) (not-false (at-stand .stand .result) (at-upright .if5 .left))
-    (at-quiet .quiet .ensures) (not-false (at-quiet .quiet .result) (at-calm .if6 .left))
+    (at-asked .is-calm .ensures) (not-false (at-asked .is-calm .result) (at-calm .if6 .left))
     (at-left .get .ensures)
     (ap partOf (sym (at-lefts .lefts .given .1)) ∙ at-walk .walk .ensures)
     (at-follow .follow .ensures)
@@ -644,20 +322,7 @@ walk-returns-11 t c =
     (at-is-red .is-red .ensures)
     (c .if9 .taken)
 
-walk-add-t24 : (t : ℕ) → walk-lts.Need-add-t24 (
-  stand-reads.Asked,
-  stand-reads.Learnt,
-  quiet-reads.Asked,
-  quiet-reads.Learnt,
-  get-reads.Asked,
-  get-reads.Learnt,
-  walk-below t,
-  walk.Post,
-  follow-reads.Asked,
-  follow-reads.Learnt,
-  is-red-reads.Asked,
-  is-red-reads.Learnt,
-) (walk-at t) walk.Post
+walk-add-t24 : (t : ℕ) → walk-lts.Need-add-t24 (walk-calls t) (walk-at t) walk.Post
 walk-add-t24 t c =
     let at-is-red = c .before in
     let at-even = at-is-red .before in
@@ -674,8 +339,8 @@ walk-add-t24 t c =
     let at-walk = at-match .before in
     let at-left = at-walk .before in
     let at-calm = at-left .before in
-    let at-quiet = at-calm .before in
-    let at-upright = at-quiet .before in
+    let at-asked = at-calm .before in
+    let at-upright = at-asked .before in
     let at-stand = at-upright .before in
     let at-deep = at-stand .before in
     let at-visits = at-deep .before in
@@ -684,20 +349,7 @@ walk-add-t24 t c =
     let a = at-null .before .before .before .args in
     omega (arith, walk-blacks (now (a .names)) (now (a .cells)) (a .i) (a .last) (at-left .get .result) (a .depth - 1) (a .visits - 1) (ap partOf (sym (at-lefts .lefts .given .1)) ∙ at-walk .walk .ensures), at-deep .if4 .left, at-null .before .before .before .fits .depth)
 
-walk-returns-12 : (t : ℕ) → walk-lts.Need-returns-12 (
-  stand-reads.Asked,
-  stand-reads.Learnt,
-  quiet-reads.Asked,
-  quiet-reads.Learnt,
-  get-reads.Asked,
-  get-reads.Learnt,
-  walk-below t,
-  walk.Post,
-  follow-reads.Asked,
-  follow-reads.Learnt,
-  is-red-reads.Asked,
-  is-red-reads.Learnt,
-) (walk-at t) walk.Post
+walk-returns-12 : (t : ℕ) → walk-lts.Need-returns-12 (walk-calls t) (walk-at t) walk.Post
 walk-returns-12 t c =
     let at-is-red = c .before in
     let at-even = at-is-red .before in
@@ -714,8 +366,8 @@ walk-returns-12 t c =
     let at-walk = at-match .before in
     let at-left = at-walk .before in
     let at-calm = at-left .before in
-    let at-quiet = at-calm .before in
-    let at-upright = at-quiet .before in
+    let at-asked = at-calm .before in
+    let at-upright = at-asked .before in
     let at-stand = at-upright .before in
     let at-deep = at-stand .before in
     let at-visits = at-deep .before in
@@ -725,7 +377,7 @@ walk-returns-12 t c =
     walk-black (now (a .names)) (now (a .cells)) (a .q) (a .last) (a .i) (a .depth) (a .visits)
     (at-null .if1 .left) (at-range .if2 .left) (at-visits .if3 .left) (at-deep .if4 .left)
     (at-stand .stand .ensures) (not-false (at-stand .stand .result) (at-upright .if5 .left))
-    (at-quiet .quiet .ensures) (not-false (at-quiet .quiet .result) (at-calm .if6 .left))
+    (at-asked .is-calm .ensures) (not-false (at-asked .is-calm .result) (at-calm .if6 .left))
     (at-left .get .ensures)
     (ap partOf (sym (at-lefts .lefts .given .1)) ∙ at-walk .walk .ensures)
     (at-follow .follow .ensures)
@@ -737,20 +389,7 @@ walk-returns-12 t c =
     (c .if9 .left)
 
 pub +walk-spec : {M : Type 1} → statement M
-+walk-spec = close μ-walk λ t. walk-lts.spec (
-  stand-reads.Asked,
-  stand-reads.Learnt,
-  quiet-reads.Asked,
-  quiet-reads.Learnt,
-  get-reads.Asked,
-  get-reads.Learnt,
-  walk-below t,
-  walk.Post,
-  follow-reads.Asked,
-  follow-reads.Learnt,
-  is-red-reads.Asked,
-  is-red-reads.Learnt,
-)
++walk-spec = close μ-walk λ t. walk-lts.spec (walk-calls t)
     (walk-at t)
     walk.Post
     (walk-returns t)
@@ -759,7 +398,7 @@ pub +walk-spec : {M : Type 1} → statement M
     (walk-returns-4 t)
     (walk-stand-requires t)
     (walk-returns-5 t)
-    (walk-quiet-requires t)
+    (walk-is-calm-requires t)
     (walk-returns-6 t)
     (walk-get-requires t)
     (walk-sub-walk t)

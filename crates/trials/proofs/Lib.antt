@@ -1,0 +1,5 @@
+pub mod Agreeing
+pub mod Whole
+pub mod Comparing
+pub mod Claims
+pub mod Steps

@@ -1,0 +1,3 @@
+pub mod Playing
+pub mod Comparing
+pub mod Claims
