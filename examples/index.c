@@ -2,7 +2,7 @@
  *   rt staticlib exports
  *   cc -Iinclude examples/index.c target/staticlib/libexports.a -o target/index-c && target/index-c
  * It prints
- *   slot 0, mark 1, slot 1, found at 1, back 1, found nowhere */
+ *   slot 0, mark 1, slot 1, found at 1 in 2 looks, back 1, found nowhere */
 #include "oz.h"
 #include <stdio.h>
 #include <stdlib.h>
@@ -31,7 +31,8 @@ int main(void) {
     uint32_t mark = (uint32_t)lines[0];
     printf("mark %u, ", (unsigned)mark);
     printf("slot %u, ", (unsigned)value(oz_insert(INDEX, 42, 2, 20)));
-    printf("found at %u, ", (unsigned)value(oz_find(TREE, 42, 2)));
+    uint64_t found = oz_find(TREE, 42, 2);
+    printf("found at %u in %u looks, ", (unsigned)value(found), (unsigned)oz_looks(found));
     printf("back %u, ", (unsigned)value(oz_rollback(INDEX, mark)));
     puts(value(oz_find(TREE, 42, 2)) == OZ_NULL ? "found nowhere" : "still there");
     return 0;

@@ -2,7 +2,7 @@
 //!   rt staticlib exports
 //!   rustc -O -L native=target/staticlib -l static=exports -o target/index-rs examples/index.rs && target/index-rs
 //! It prints
-//!   slot 0, mark 1, slot 1, found at 1, back 1, found nowhere
+//!   slot 0, mark 1, slot 1, found at 1 in 2 looks, back 1, found nowhere
 
 extern "C" {
     // As in include/oz.h: a slice is a pointer and a number of words.
@@ -14,23 +14,26 @@ extern "C" {
     fn oz_find(n: *const u64, _: usize, c: *const u32, _: usize, h: *const u32, _: usize, hash: u64, key: u64) -> u64;
 }
 
-/// Calls a routine on the slices named; the value of its answer. A refusal ends the program.
+/// Calls a routine on the slices named: the value of its answer, and how many slots a find looked at. A refusal ends the
+/// program.
 macro_rules! call {
     ($routine:ident [$($slice:ident),*] $($number:expr),*) => {{
         let answer = unsafe { $routine($($slice.as_mut_ptr(), $slice.len(),)* $($number),*) };
-        assert!(answer >> 32 == 0, "refused with {}", answer >> 32);
-        answer as u32
+        let (value, number, looks) = (answer as u32, (answer >> 32) as u16, answer >> 48);
+        assert!(number == 0, "refused with {}", number);
+        (value, looks)
     }};
 }
 
 fn main() {
     let (mut names, mut cells, mut head, mut lines) = ([0u64; 128], [0u32; 448], [0u32; 3], [0u64; 65]);
     call!(oz_fresh [names, cells, head, lines]);
-    print!("slot {}, ", call!(oz_insert [names, cells, head, lines] 17, 1, 10));
+    print!("slot {}, ", call!(oz_insert [names, cells, head, lines] 17, 1, 10).0);
     let mark = lines[0] as u32;
     print!("mark {mark}, ");
-    print!("slot {}, ", call!(oz_insert [names, cells, head, lines] 42, 2, 20));
-    print!("found at {}, ", call!(oz_find [names, cells, head] 42, 2));
-    print!("back {}, ", call!(oz_rollback [names, cells, head, lines] mark));
-    println!("found {}", if call!(oz_find [names, cells, head] 42, 2) == u32::MAX { "nowhere" } else { "still" });
+    print!("slot {}, ", call!(oz_insert [names, cells, head, lines] 42, 2, 20).0);
+    let (slot, looks) = call!(oz_find [names, cells, head] 42, 2);
+    print!("found at {slot} in {looks} looks, ");
+    print!("back {}, ", call!(oz_rollback [names, cells, head, lines] mark).0);
+    println!("found {}", if call!(oz_find [names, cells, head] 42, 2).0 == u32::MAX { "nowhere" } else { "still" });
 }

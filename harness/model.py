@@ -1,5 +1,6 @@
 #!/usr/bin/env python3
-"""A model of the script program on plain dictionaries and lists, written from docs/RULES.md and apart from the Rattle code.
+"""A model of the script program on plain dictionaries and lists, written from docs/RULES.md and apart from the Rattle code. How many
+nodes a find looks at is the one thing that they do not tell: a plain red-black tree stands beside them for it.
 
     model.py draw                            writes the longest call script, drawn from a fixed seed
     model.py answer [SLOTS LINES] <script    writes the answers that the rules give to a script, byte for byte
@@ -18,11 +19,128 @@ class Refused(Exception):
     """A refusal, by its number."""
 
 
+class Node:
+    """A node of the tree, red while it is new, with its children left and right."""
+
+    def __init__(self, pair):
+        self.pair, self.red, self.parent, self.kids = pair, True, None, [None, None]
+
+
+def red(node):
+    return node is not None and node.red
+
+
+def side_of(node):
+    """The side of its parent that a node hangs on: 0 is left, 1 is right; 0 at the root."""
+    return int(node.parent is not None and node.parent.kids[1] is node)
+
+
+class Tree:
+    """The pairs in a red-black tree, balanced as the source does it; used for the nodes that a find looks at, and for nothing else."""
+
+    def __init__(self):
+        self.root = None
+
+    def hang(self, node, parent, side):
+        if parent is None:
+            self.root = node
+        else:
+            parent.kids[side] = node
+        if node is not None:
+            node.parent = parent
+
+    def rotate(self, p, side):
+        """p goes down on this side, and its child on the other comes up."""
+        up = p.kids[1 - side]
+        self.hang(up, p.parent, side_of(p))
+        self.hang(up.kids[side], p, 1 - side)
+        self.hang(p, up, side)
+
+    def insert(self, pair):
+        parent, side, below = None, 0, self.root
+        while below is not None:
+            parent, side = below, int(below.pair < pair)
+            below = parent.kids[side]
+        x = Node(pair)
+        self.hang(x, parent, side)
+        self.balance_insertion(x)
+
+    def balance_insertion(self, x):
+        while red(x.parent):
+            p, above = x.parent, x.parent.parent
+            side = side_of(p)
+            uncle = above.kids[1 - side]
+            if red(uncle):
+                p.red, uncle.red, above.red = False, False, True
+                x = above
+                continue
+            if side_of(x) != side:
+                self.rotate(p, side)
+                x, p = p, x
+            p.red, above.red = False, True
+            self.rotate(above, 1 - side)
+        self.root.red = False
+
+    def remove(self, pair):
+        x = self.search(pair)[-1]
+        if None not in x.kids:
+            # The successor's pair comes here, and the successor's node goes: positions and colours are traded.
+            successor = x.kids[1]
+            while successor.kids[0] is not None:
+                successor = successor.kids[0]
+            x.pair = successor.pair
+            x = successor
+        child = x.kids[0] or x.kids[1]
+        if child is not None:
+            self.hang(child, x.parent, side_of(x))
+        if not x.red:
+            self.balance_deletion(child or x)
+        if child is None:
+            self.hang(None, x.parent, side_of(x))
+
+    def balance_deletion(self, x):
+        while x is not self.root and not x.red:
+            p, side = x.parent, side_of(x)
+            sibling = p.kids[1 - side]
+            if sibling.red:
+                sibling.red, p.red = False, True
+                self.rotate(p, side)
+                sibling = p.kids[1 - side]
+            near, far = sibling.kids[side], sibling.kids[1 - side]
+            if not red(near) and not red(far):
+                sibling.red = True
+                x = p
+                continue
+            if not red(far):
+                near.red, sibling.red = False, True
+                self.rotate(sibling, 1 - side)
+                sibling, far = near, sibling
+            sibling.red, p.red, far.red = p.red, False, False
+            self.rotate(p, side)
+            x = self.root
+        x.red = False
+
+    def search(self, pair):
+        """The nodes whose hash find_tree_node reads, in order: on an equal hash it goes where there is a child, before it compares keys."""
+        looks, p = [], self.root
+        while p is not None:
+            looks.append(p)
+            left, right = p.kids
+            if p.pair == pair:
+                break
+            if p.pair[0] == pair[0] and None in p.kids:
+                p = left or right
+            else:
+                p = left if p.pair > pair else right
+        return looks
+
+
 class Index:
-    """What the index holds, with nothing of how it holds it: no tree, no link and no colour."""
+    """What the index holds, and the tree beside it."""
 
     def __init__(self, slots, lines):
         self.slots, self.lines = slots, lines
+        self.tree = Tree()
         self.held = {}  # (hash, key) -> [slot, place]
         self.chain = []  # pairs, the first one first
         self.journal = []  # (kind, pair, place), kind 1 an insert and 2 a remove
@@ -35,11 +153,13 @@ class Index:
         slot = self.lowest_free()
         self.held[pair] = [slot, place]
         self.chain.insert(0, pair)
+        self.tree.insert(pair)
         return slot
 
     def take(self, pair):
         slot, _ = self.held.pop(pair)
         self.chain.remove(pair)
+        self.tree.remove(pair)
         return slot
 
     def insert(self, pair, place):
@@ -117,7 +237,8 @@ def answer(index, line):
         return ["no %d" % refused.args[0]]
     if command == b"?":
         pair = (numbers[0], numbers[1])
-        return ["at %d" % index.held[pair][0] if pair in index.held else "none"]
+        looks = len(index.tree.search(pair))
+        return ["at %d %d" % (index.held[pair][0], looks) if pair in index.held else "none %d" % looks]
     if command == b"m":
         return ["mark %d" % len(index.journal)]
     rows = ["%d %d %d" % (*pair, index.held[pair][1]) for pair in index.chain]

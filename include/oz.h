@@ -22,9 +22,10 @@
  * An empty index: names all 0; each slot's seven cells 0, 0, OZ_NULL, OZ_NULL, OZ_NULL, OZ_NULL, OZ_NULL; head OZ_NULL,
  * OZ_NULL, 0; lines all 0. oz_fresh writes it.
  *
- * Answers. An answer is value + 2^32 * number; oz_number and oz_value take it apart. Number 0 is no refusal. 1 to 11
- * are refusals: the value is 0, with 3 a slot, and nothing was written. Where several hold, the one that stands first
- * in a routine's list below is given. A number above 100 is a failing test of oz_check.
+ * Answers. An answer is value + 2^32 * number + 2^48 * looks; oz_value, oz_number and oz_looks take it apart. Number 0
+ * is no refusal. 1 to 11 are refusals: the value is 0, with 3 a slot, and nothing was written. Where several hold, the
+ * one that stands first in a routine's list below is given. A number above 100 is a failing test of oz_check. Looks are
+ * how many slots oz_find or oz_lookup read the hash of, on a hit, on OZ_NULL and on 9; every other answer has 0.
  *
  * Stack, as measured with a tree of 4,096 slots in one line: oz_check 644 KiB, since it follows the links as deep as
  * they go; oz_rollback 208 KiB, since it keeps the tree's words aside; the others under 64 KiB.
@@ -52,8 +53,9 @@ enum {
     OZ_TEST = 100          /* 100 + t: test t of 1 to 8 of oz_check fails; the value is the slot */
 };
 
-static inline uint32_t oz_number(uint64_t answer) { return (uint32_t)(answer >> 32); }
 static inline uint32_t oz_value(uint64_t answer) { return (uint32_t)answer; }
+static inline uint32_t oz_number(uint64_t answer) { return (uint16_t)(answer >> 32); }
+static inline uint32_t oz_looks(uint64_t answer) { return (uint32_t)(answer >> 48); }
 
 #ifdef __cplusplus
 extern "C" {
@@ -64,7 +66,8 @@ extern "C" {
 uint64_t oz_fresh(uint64_t *names, size_t names_len, uint32_t *cells, size_t cells_len, uint32_t *head,
                   size_t head_len, uint64_t *lines, size_t lines_len);
 
-/* The slot that has the pair, or OZ_NULL where none has. Refusals 1, 9; never 9 on a sound tree. */
+/* The slot that has the pair, or OZ_NULL where none has, with the looks: at most n, with 1 none. Refusals 1, 9; never 9
+ * on a sound tree. */
 uint64_t oz_find(const uint64_t *names, size_t names_len, const uint32_t *cells, size_t cells_len,
                  const uint32_t *head, size_t head_len, uint64_t hash, uint64_t key);
 
@@ -96,8 +99,8 @@ uint64_t oz_accept(const uint32_t *lengths, size_t lengths_len, const uint32_t *
                    const uint32_t *heads, size_t heads_len, const uint64_t *names, size_t names_len,
                    const uint32_t *cells, size_t cells_len);
 
-/* The slot that has the pair, sought from this table on, or OZ_NULL where none has. Refusals 1, 10, 9; on an accepted
- * set 10 alone. */
+/* The slot that has the pair, sought from this table on, or OZ_NULL where none has, with the looks, in a list those at
+ * its slots: at most n, with 1 and 10 none. Refusals 1, 10, 9; on an accepted set 10 alone. */
 uint64_t oz_lookup(const uint32_t *lengths, size_t lengths_len, const uint32_t *bins, size_t bins_len,
                    const uint32_t *heads, size_t heads_len, const uint64_t *names, size_t names_len,
                    const uint32_t *cells, size_t cells_len, uint32_t table, uint64_t hash, uint64_t key);

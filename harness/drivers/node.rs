@@ -80,6 +80,25 @@ pub mod driver {
         )
     }
 
+    fn find_from(root: P, hash: u64, key: u64) -> u32 {
+        slot(Tn::find_tree_node(root, hash, &Name { key, slot: 0 }, guard()))
+    }
+
+    /// Runs a search of the source that may load so many links: the slot that it answers, none where it loads more, and at how many nodes it
+    /// has read the hash. At the node that has the pair it loads no link, at any other one link, or the left and then the right one; `own`
+    /// says which links are a node's.
+    #[cfg(feature = "trace")]
+    pub(crate) fn searched(limit: usize, own: impl Fn(&usize) -> bool, search: impl FnOnce() -> u32) -> (Option<u32>, usize) {
+        seize::trace::start(limit);
+        let found = std::panic::catch_unwind(std::panic::AssertUnwindSafe(search)).ok();
+        let mut loads = seize::trace::stop();
+        loads.retain(own);
+        let apart = std::mem::offset_of!(Tn, right).wrapping_sub(std::mem::offset_of!(Tn, left));
+        let both = loads.windows(2).filter(|w| w[1].wrapping_sub(w[0]) == apart).count();
+        let hit = found.is_some_and(|at| at != oz::NULL);
+        (found, loads.len() - both + hit as usize)
+    }
+
     fn free(p: P) {
         unsafe {
             drop(node(p).node.value.clone().into_box());
@@ -165,7 +184,14 @@ pub mod driver {
 
         /// The source's find from the root.
         pub fn find(&self, hash: u64, key: u64) -> u32 {
-            slot(Tn::find_tree_node(self.root(), hash, &Name { key, slot: 0 }, guard()))
+            find_from(self.root(), hash, key)
+        }
+
+        /// The same with its looks, where it may load so many links.
+        #[cfg(feature = "trace")]
+        pub fn search(&self, hash: u64, key: u64, limit: usize) -> (Option<u32>, usize) {
+            let root = self.root();
+            searched(limit, |_| true, || find_from(root, hash, key))
         }
 
         /// The slot that the source's insert answers where the pair is there, null where it puts it in.

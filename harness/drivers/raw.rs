@@ -4,16 +4,19 @@ pub mod driver {
     use crate::iter::traverser::NodeIter;
     use crate::node::driver::{guard, new_node, node, null, set_links, Entry, Name, COLLECTOR, P};
     use crate::oz::{self, Set, NULL};
+    use std::collections::HashSet;
     use std::sync::atomic::AtomicI64;
 
     type T = Shared<'static, Table<Name, u32>>;
     const O: Ordering = Ordering::Relaxed;
 
-    /// The source's tables, with the node of each slot that a list or tree holds.
+    /// The source's tables, with the node of each slot that a list or tree holds, and the addresses of the links by which a search leaves a
+    /// node: a list's next, a tree's left and right.
     pub struct Tables {
         tables: Vec<T>,
         nodes: Vec<P>,
         trees: Vec<P>,
+        links: HashSet<usize>,
     }
 
     #[derive(Clone, Copy, PartialEq)]
@@ -87,6 +90,8 @@ pub mod driver {
                 })
                 .collect();
             let at = |l: u32| if l == NULL { null() } else { nodes[l as usize] };
+            let mut links = HashSet::new();
+            let mut leaves_by = |link: &Atomic<Entry>| links.insert(link as *const _ as usize);
             for i in 0..n {
                 let c = &s.cells[7 * i..7 * i + 7];
                 match kinds[i] {
@@ -94,8 +99,14 @@ pub mod driver {
                     Kind::List => {
                         let Some(d) = unsafe { nodes[i].deref() }.as_node() else { unreachable!() };
                         d.next.store(at(c[oz::NEXT]), O);
+                        leaves_by(&d.next);
                     }
-                    Kind::Tree => set_links(node(nodes[i]), c, at),
+                    Kind::Tree => {
+                        let d = node(nodes[i]);
+                        set_links(d, c, at);
+                        leaves_by(&d.left);
+                        leaves_by(&d.right);
+                    }
                 }
             }
             let trees: Vec<P> = (0..s.heads.len() / 3)
@@ -127,7 +138,7 @@ pub mod driver {
                     table.store_bin(i, bin);
                 }
             }
-            Some(Tables { tables, nodes, trees })
+            Some(Tables { tables, nodes, trees, links })
         }
 
         /// The source's lookup in table t.
@@ -138,6 +149,12 @@ pub mod driver {
                 return NULL;
             }
             slot(table.find(unsafe { bin.deref() }, hash, &Name { key, slot: 0 }, guard()))
+        }
+
+        /// The same with its looks, where it may load so many links.
+        #[cfg(feature = "trace")]
+        pub fn search(&self, t: usize, hash: u64, key: u64, limit: usize) -> (Option<u32>, usize) {
+            crate::node::driver::searched(limit, |at| self.links.contains(at), || self.lookup(t, hash, key))
         }
 
         pub(crate) fn walk(&self, t: usize) -> NodeIter<'static, Name, u32> {

@@ -17,6 +17,7 @@ enum Op {
 
 #[derive(Default)]
 struct Counts {
+    finds: u64,
     inserts: u64,
     removes: u64,
     present: u64,
@@ -37,13 +38,26 @@ impl Pair {
         Pair { ours: Index::new(slots, 1), theirs: Tree::new(slots, by) }
     }
 
+    /// Find of the call's pair, slot and looks, before the call is made: the slot.
+    fn find(&self, hash: u64, key: u64) -> Result<u32, String> {
+        let ours = self.ours.find(hash, key);
+        let slots = self.ours.slots();
+        let theirs = self.theirs.search(hash, key, 3 * slots + 3);
+        match same_search(ours, theirs, slots) {
+            true => Ok(ours.value),
+            false => Err(format!("find {hash} {key}: ours {ours:?}, source {theirs:?}")),
+        }
+    }
+
     fn step(&mut self, op: Op, counts: &mut Counts) -> Result<(), String> {
         self.ours.forget();
         let slots = self.ours.slots();
+        let (Op::Insert(hash, key, _) | Op::Remove(hash, key)) = op;
+        let there = self.find(hash, key)?;
+        counts.finds += 1;
         match op {
             Op::Insert(hash, key, place) => {
                 let lowest = (0..slots as u32).find(|&i| self.ours.cell(i, oz::STATE) == 0);
-                let there = self.theirs.find(hash, key);
                 let answer = self.ours.insert(hash, key, place);
                 let wanted = match (there, lowest) {
                     (NULL, Some(at)) => (0, at),
@@ -82,6 +96,15 @@ impl Pair {
             Some(what) => Err(what),
             None => Ok(()),
         }
+    }
+}
+
+/// Whether a find or lookup of ours in so many slots has the slot and the looks of the source's; where the source would not end, 9 and as
+/// many looks as there are slots.
+fn same_search(ours: oz::Answer, (found, looks): (Option<u32>, usize), slots: usize) -> bool {
+    match found {
+        Some(at) => ours == (oz::Answer { number: 0, value: at, looks: looks as u32 }),
+        None => looks > slots && ours == (oz::Answer { number: 9, value: 0, looks: slots as u32 }),
     }
 }
 
@@ -261,13 +284,6 @@ fn source_check(tree: &Tree, limit: usize) -> (Verdict, usize) {
     (verdict, visits.len())
 }
 
-fn source_find(tree: &Tree, hash: u64, key: u64, limit: usize) -> Option<u32> {
-    trace::start(limit);
-    let outcome = catch_unwind(AssertUnwindSafe(|| tree.find(hash, key)));
-    trace::stop();
-    outcome.ok()
-}
-
 #[derive(Default)]
 struct Damage {
     trees: u64,
@@ -337,14 +353,14 @@ fn damaged(rng: &mut Rng, trees: usize, report: &mut Report) -> Damage {
         for _ in 0..2 {
             let (hash, key) = (rng.below(hashes * 2 + 1), rng.below(pairs * 2 + 1));
             let ours = ix.find(hash, key);
-            let theirs = source_find(&tree, hash, key, 3 * slots + 3);
+            let theirs = tree.search(hash, key, 3 * slots + 3);
             d.finds += 1;
-            match (ours.number, theirs) {
-                (0, Some(s)) if s == ours.value => {
+            match (same_search(ours, theirs, slots), theirs.0) {
+                (true, Some(s)) => {
                     d.hits += (s != NULL) as u64;
                     d.nothings += (s == NULL) as u64;
                 }
-                (9, None) => d.find_nines += 1,
+                (true, None) => d.find_nines += 1,
                 _ => report.differs("find in damaged trees", slots, say(format!("find {hash} {key}: ours {ours:?}, source {theirs:?}"))),
             }
         }
@@ -361,6 +377,7 @@ struct Frozen {
     hits: u64,
     lookup_nines: u64,
     null_first: u64,
+    null_first_slots: u64,
     walks: u64,
     steps: u64,
     entries: u64,
@@ -403,13 +420,13 @@ fn whole_walk(s: &oz::Set, t: usize) -> Result<u64, String> {
     let mut times = vec![0u32; n];
     let mut cursor = [0u32; 11];
     let start = s.start(t as u32, &mut cursor);
-    if start != (oz::Answer { number: 0, value: 1 }) {
+    if start != oz::Answer::plain(0, 1) {
         return Err(format!("start {start:?}"));
     }
     let mut given = 0;
     loop {
         let step = s.walk(&mut cursor);
-        if step == (oz::Answer { number: 0, value: NULL }) {
+        if step == oz::Answer::plain(0, NULL) {
             break;
         }
         if step.number != 0 || step.value as usize >= n || given > n as u64 {
@@ -420,7 +437,8 @@ fn whole_walk(s: &oz::Set, t: usize) -> Result<u64, String> {
     }
     for (x, times) in times.iter().enumerate() {
         let used = s.cells[7 * x + oz::STATE] != 0;
-        let answered = used && s.lookup(t as u32, s.names[2 * x], s.names[2 * x + 1]) == oz::Answer { number: 0, value: x as u32 };
+        let looked = s.lookup(t as u32, s.names[2 * x], s.names[2 * x + 1]);
+        let answered = used && (looked.number, looked.value) == (0, x as u32);
         if *times != answered as u32 || (t == 0 && used != answered) {
             return Err(format!("slot {x}, used {used}, answered by lookup {answered}, is given {times} times"));
         }
@@ -442,7 +460,7 @@ fn frozen(rng: &mut Rng, count: usize, damage: bool, report: &mut Report) -> Fro
             continue;
         };
         f.sets += 1;
-        f.accepted += (accepted == oz::Answer { number: 0, value: 1 }) as u64;
+        f.accepted += (accepted == oz::Answer::plain(0, 1)) as u64;
         let n = s.names.len() / 2;
         let size = s.bins.len() + n;
         if !damage && accepted.value != 1 {
@@ -473,19 +491,18 @@ fn frozen(rng: &mut Rng, count: usize, damage: bool, report: &mut Report) -> Fro
                     (rng.below(20), rng.below(20))
                 };
                 let ours = s.lookup(t as u32, hash, key);
-                trace::start(64 * (n + 1) + 64);
-                let theirs = catch_unwind(AssertUnwindSafe(|| tables.lookup(t, hash, key))).ok();
-                trace::stop();
+                let theirs = tables.search(t, hash, key, 64 * (n + 1) + 64);
                 f.lookups += 1;
-                match (ours.number, theirs) {
-                    (0, Some(at)) if at == ours.value => f.hits += (at != NULL) as u64,
-                    (9, None) => f.lookup_nines += 1,
+                match (same_search(ours, theirs, n), theirs) {
+                    (true, (Some(at), _)) => f.hits += (at != NULL) as u64,
+                    (true, (None, _)) => f.lookup_nines += 1,
                     // The source asks the header's first, we its root alone.
-                    (_, Some(NULL)) if first_null(ends_in(t, hash)) => {
+                    (_, (Some(NULL), 0)) if first_null(ends_in(t, hash)) => {
                         f.null_first += 1;
+                        f.null_first_slots += ((ours.number, ours.value) != (0, NULL)) as u64;
                         let entry = report.smallest.entry("known: lookup in a tree whose first is null".into()).or_insert((usize::MAX, String::new()));
                         if size < entry.0 {
-                            *entry = (size, format!("{s:?} lookup from {t} of {hash} {key}: ours {ours:?}, source null"));
+                            *entry = (size, format!("{s:?} lookup from {t} of {hash} {key}: ours {ours:?}, source Nothing without a look"));
                         }
                     }
                     _ => report.differs("lookup", size, format!("{s:?} lookup from {t} of {hash} {key}: ours {ours:?}, source {theirs:?}")),
@@ -499,7 +516,7 @@ fn frozen(rng: &mut Rng, count: usize, damage: bool, report: &mut Report) -> Fro
             let mut cursor = [7u32; 11];
             let start = s.start(t as u32, &mut cursor);
             let mut walk = Walk::new(&tables, t);
-            let mut what = (start != oz::Answer { number: 0, value: 1 }).then(|| format!("start {start:?}"));
+            let mut what = (start != oz::Answer::plain(0, 1)).then(|| format!("start {start:?}"));
             let mut past = 0;
             for step in 0..2 * n + 4 {
                 if cursor[0] != t as u32 || cursor[1..] != walk.state() {
@@ -531,20 +548,23 @@ fn main() {
     let scale: usize = std::env::args().nth(1).map_or(100, |s| s.parse().expect("a scale in hundredths"));
     let many = |n: usize| (n * scale / 100).max(1);
     let mut report = Report { differences: 0, smallest: BTreeMap::new() };
+    let (mut finds, mut lookups) = (0, 0);
     for by in [By::Drivers, By::Bin] {
         let mut counts = Counts::default();
         let n = if scale < 20 { 5 } else { 7 };
         let (orders, trees) = exhaustive(n, by, &mut counts, &mut report);
+        finds += counts.finds;
         println!("{by:?}: {orders} insert orders of {n} pairs, {trees} distinct trees, all removal orders of each");
-        println!("  inserts {}, removes {}, of these by remove_tree_node whole {}", counts.inserts, counts.removes, counts.whole);
+        println!("  finds with looks {}, inserts {}, removes {}, of these by remove_tree_node whole {}", counts.finds, counts.inserts, counts.removes, counts.whole);
         let mut rng = Rng::new(1);
         for (name, scripts, pairs, length) in [("up to 60 pairs", many(4000), 60, 250), ("several hundred pairs", many(300), 700, 3000)] {
             let mut counts = Counts::default();
             random(&mut rng, by, scripts, pairs, length, &mut counts, &mut report);
+            finds += counts.finds;
             println!("{by:?}: {scripts} random scripts over {name}");
             println!(
-                "  inserts {} (present {}, full {}), removes {} (absent {}), of these by remove_tree_node whole {}, by the driver {}{}",
-                counts.inserts, counts.present, counts.full, counts.removes, counts.absent, counts.whole, counts.early,
+                "  finds with looks {}, inserts {} (present {}, full {}), removes {} (absent {}), of these by remove_tree_node whole {}, by the driver {}{}",
+                counts.finds, counts.inserts, counts.present, counts.full, counts.removes, counts.absent, counts.whole, counts.early,
                 if by == By::Bin { " after remove_tree_node returned early" } else { "" }
             );
         }
@@ -552,17 +572,20 @@ fn main() {
     let d = damaged(&mut Rng::new(2), many(200_000), &mut report);
     println!("damaged trees {} (sound still {})", d.trees, d.sound);
     println!("  check: passes {}, fails by test {:?}, 9 in ours {} (the source runs on {}, ends after more visits than slots {})", d.passes, d.fails, d.nines, d.nines - d.nines_ending, d.nines_ending);
-    println!("  finds {}: slots {}, Nothing {}, 9 in ours where the source runs on {}", d.finds, d.hits, d.nothings, d.find_nines);
+    println!("  finds with looks {}: slots {}, Nothing {}, 9 in ours where the source runs on {}", d.finds, d.hits, d.nothings, d.find_nines);
     for (name, damage) in [("sets", false), ("damaged sets", true)] {
         let f = frozen(&mut Rng::new(4), many(20_000), damage, &mut report);
+        lookups += f.lookups - f.null_first;
         println!("{name} {} (accepted {}; {} more that the source's types cannot hold)", f.sets, f.accepted, f.unbuilt);
-        println!("  lookups {}: slots {}, 9 in ours where the source runs on {}, of trees with null first {}", f.lookups, f.hits, f.lookup_nines, f.null_first);
+        println!("  lookups with looks {}: slots {}, 9 in ours where the source runs on {}", f.lookups - f.null_first, f.hits, f.lookup_nines);
+        println!("  beside these, where ours looks into a tree with null first {}, of these with another answer {}", f.null_first, f.null_first_slots);
         println!("  walks {} ({} to the end), steps {}, entries {}", f.walks, f.dones, f.steps, f.entries);
         println!("  whole walks of the {} accepted {}, from every table, {} slots given, each entry once", f.accepted, f.wholes, f.given);
     }
     for (class, (_, what)) in &report.smallest {
         println!("smallest, {class}: {what}");
     }
+    println!("compared with their looks: finds {}, lookups {lookups}", finds + d.finds);
     println!("differences {}", report.differences);
     std::process::exit((report.differences != 0) as i32);
 }

@@ -1,4 +1,4 @@
-//! The exports, behind slices. Each answers value + 2^32 * number.
+//! The exports, behind slices. Each answers value + 2^32 * number + 2^48 * looks; only find and lookup have looks.
 pub const NULL: u32 = u32::MAX;
 
 mod c {
@@ -17,15 +17,23 @@ mod c {
     }
 }
 
-/// An exported routine's word, taken apart.
+/// An exported routine's word, taken apart. Looks are how many slots a find or a lookup has read the hash of.
 #[derive(Clone, Copy, PartialEq, Eq, Debug)]
 pub struct Answer {
     pub number: u32,
     pub value: u32,
+    pub looks: u32,
+}
+
+impl Answer {
+    /// An answer of a routine that does not search.
+    pub const fn plain(number: u32, value: u32) -> Self {
+        Answer { number, value, looks: 0 }
+    }
 }
 
 fn answer(word: u64) -> Answer {
-    Answer { number: (word >> 32) as u32, value: word as u32 }
+    Answer { number: (word >> 32) as u16 as u32, value: word as u32, looks: (word >> 48) as u32 }
 }
 
 pub fn find(names: &[u64], cells: &[u32], head: &[u32], hash: u64, key: u64) -> Answer {
@@ -109,7 +117,7 @@ impl Index {
         let mut ix = Index { names: vec![7; 2 * slots], cells: vec![7; 7 * slots], head: vec![7; 3], lines: vec![7; 1 + 4 * lines] };
         let made = fresh(&mut ix.names, &mut ix.cells, &mut ix.head, &mut ix.lines);
         let fits = (1..=4096).contains(&slots) && lines <= 1024;
-        assert_eq!(made, if fits { Answer { number: 0, value: 1 } } else { Answer { number: 1, value: 0 } }, "fresh of {slots} slots, {lines} lines");
+        assert_eq!(made, if fits { Answer::plain(0, 1) } else { Answer::plain(1, 0) }, "fresh of {slots} slots, {lines} lines");
         if !fits {
             let cells = (0..slots).flat_map(|_| [0, 0, NULL, NULL, NULL, NULL, NULL]).collect();
             ix = Index { names: vec![0; 2 * slots], cells, head: vec![NULL, NULL, 0], lines: vec![0; 1 + 4 * lines] };

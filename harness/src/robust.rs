@@ -163,16 +163,28 @@ fn live(rng: &mut Rng) -> Live {
 struct Tally {
     calls: u64,
     touched: u64,
+    searches: u64,
+    strange: u64,
     by: BTreeMap<(&'static str, u32), u64>,
 }
 
 impl Tally {
-    fn note(&mut self, name: &'static str, number: u32, fine: bool) {
+    /// A call's answer on so many slots, and whether it has touched nothing that it should not. Looks are at most the slots, on a hit at
+    /// least one; 1, 10 and the routines that do not search have none.
+    fn note(&mut self, name: &'static str, answer: oz::Answer, slots: usize, fine: bool) {
         self.calls += 1;
-        *self.by.entry((name, number)).or_default() += 1;
+        *self.by.entry((name, answer.number)).or_default() += 1;
         if !fine {
             self.touched += 1;
-            println!("touched: {name} answered {number}");
+            println!("touched: {name} answered {answer:?}");
+        }
+        let searched = matches!(name, "find" | "lookup") && !matches!(answer.number, 1 | 10);
+        self.searches += searched as u64;
+        let hit = searched && answer.number == 0 && answer.value != NULL;
+        let most = if searched { slots as u32 } else { 0 };
+        if !(hit as u32..=most).contains(&answer.looks) {
+            self.strange += 1;
+            println!("looks: {name} on {slots} slots answered {answer:?}");
         }
     }
 }
@@ -196,7 +208,7 @@ fn live_calls(rng: &mut Rng, tally: &mut Tally) {
         };
         let writes = matches!(name, "fresh" | "insert" | "remove" | "rollback") && answer.number == 0;
         let fine = if writes { l.guarded() } else { l == before };
-        tally.note(name, answer.number, fine);
+        tally.note(name, answer, l.names.len / 2, fine);
         if writes {
             before = l.clone();
         }
@@ -256,17 +268,17 @@ fn near_calls(rng: &mut Rng, tally: &mut Tally) {
 }
 
 fn calls_on(rng: &mut Rng, tally: &mut Tally, lengths: &[u32], bins: &[u32], heads: &[u32], names: &[u64], cells: &[u32]) {
-    let tables = lengths.len() as u64;
+    let (tables, slots) = (lengths.len() as u64, names.len() / 2);
     let set = (Lent::new(lengths, G32), Lent::new(bins, G32), Lent::new(heads, G32), Lent::new(names, G64), Lent::new(cells, G32));
     let before = set.clone();
     let answer = oz::accept(set.0.get(), set.1.get(), set.2.get(), set.3.get(), set.4.get());
-    tally.note(if answer.value == 1 { "accept, yes," } else { "accept" }, answer.number, set == before);
+    tally.note(if answer.value == 1 { "accept, yes," } else { "accept" }, answer, slots, set == before);
     let table = |rng: &mut Rng| if rng.below(8) == 0 { word32(rng, 9) } else { rng.below(tables + 1) as u32 };
     for _ in 0..4 {
-        let i = rng.below(names.len() as u64 / 2 + 1) as usize;
+        let i = rng.below(slots as u64 + 1) as usize;
         let (h, k) = if 2 * i + 1 < names.len() { (names[2 * i], names[2 * i + 1]) } else { (word64(rng, 9), word64(rng, 9)) };
         let answer = oz::lookup(set.0.get(), set.1.get(), set.2.get(), set.3.get(), set.4.get(), table(rng), h, k);
-        tally.note("lookup", answer.number, set == before);
+        tally.note("lookup", answer, slots, set == before);
     }
     let words: Vec<u32> = (0..length(rng, 11)).map(|_| word32(rng, 4)).collect();
     let mut cursor = Lent::new(&words, G32);
@@ -274,7 +286,7 @@ fn calls_on(rng: &mut Rng, tally: &mut Tally, lengths: &[u32], bins: &[u32], hea
     if rng.below(3) != 0 {
         let answer = oz::start(set.0.get(), set.1.get(), set.2.get(), set.3.get(), set.4.get(), table(rng), cursor.lend());
         let fine = cursor.guarded(G32) && (answer.number == 0 || cursor == was);
-        tally.note("start", answer.number, fine && set == before);
+        tally.note("start", answer, slots, fine && set == before);
     }
     for _ in 0..6 {
         if cursor.len == 11 && rng.below(6) == 0 {
@@ -285,7 +297,7 @@ fn calls_on(rng: &mut Rng, tally: &mut Tally, lengths: &[u32], bins: &[u32], hea
         let answer = oz::walk(set.0.get(), set.1.get(), set.2.get(), set.3.get(), set.4.get(), cursor.lend());
         let fine = cursor.guarded(G32) && (answer.number == 0 || cursor == was);
         let name = if answer.number == 0 && answer.value != NULL { "walk, an entry," } else { "walk" };
-        tally.note(name, answer.number, fine && set == before);
+        tally.note(name, answer, slots, fine && set == before);
     }
 }
 
@@ -374,6 +386,7 @@ fn main() {
         println!("  {name} answered {number}: {count}");
     }
     println!("words touched outside or by a refused call: {}", tally.touched);
+    println!("finds and lookups with looks {}; more looks than slots, none on a hit, or some where there are none: {}", tally.searches, tally.strange);
     let runs = calls / 100;
     let (mut made, mut undone, mut wrong) = (0, 0, 0);
     for _ in 0..runs {
@@ -388,5 +401,5 @@ fn main() {
         }
     }
     println!("demand 3: {runs} runs, {made} calls after the mark, {undone} lines undone by the last rollback, wrong {wrong}");
-    std::process::exit((tally.touched + wrong != 0) as i32);
+    std::process::exit((tally.touched + tally.strange + wrong != 0) as i32);
 }

@@ -9,7 +9,8 @@
 //! 5 NUMBER VALUE                   the source's check
 //! 6 as 4, but the words are to be taken over: a damaged tree
 //!
-//! sample FOLDER writes into it, instead, call scripts with the answers that the source gives, for crate `replay`: NN.in and NN.out.
+//! sample FOLDER writes into it, instead, call scripts with the answers that the source gives, for crate `try_scripts`: NN.in and
+//! NN.out.
 use harness::oz::{self, Index, NULL};
 use harness::rng::Rng;
 use harness::source::{By, Tree};
@@ -134,10 +135,7 @@ fn damaged(rng: &mut Rng, tests: &mut [u32; 9]) {
     say(5, &[number, value]);
     for _ in 0..4 {
         let (hash, key) = (rng.below(4), rng.below(10));
-        trace::start(3 * slots + 3);
-        let found = catch_unwind(AssertUnwindSafe(|| tree.find(hash, key)));
-        trace::stop();
-        if let Ok(found) = found {
+        if let (Some(found), _) = tree.search(hash, key, 3 * slots + 3) {
             say(3, &[hash, key, 0, link(found, slots)]);
         }
     }
@@ -170,9 +168,10 @@ fn calls(rng: &mut Rng, pairs: u64, hashes: u64) -> (String, String) {
             }
             50..=58 => {
                 asked += &format!("? {hash} {key}\n");
-                answers += &match tree.find(hash, key) {
-                    NULL => "none\n".to_string(),
-                    at => format!("at {at}\n"),
+                let (found, looks) = tree.search(hash, key, 3 * ROOM);
+                answers += &match found.expect("a sound tree") {
+                    NULL => format!("none {looks}\n"),
+                    at => format!("at {at} {looks}\n"),
                 };
             }
             _ => {

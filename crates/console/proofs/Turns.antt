@@ -1,13 +1,14 @@
 -- A call and the answer that is printed for it, on plain values, come to what the model says of the command.
 use mathlib.Core.Path.{_≡_, ap}
 use mathlib.Core.Logic.{_≢_}
-use mathlib.Core.List.{List}
+use mathlib.Core.List.{List, [], _∷_, _++_}
 use Prim.Native.Nat.{ℕ}
 use borrow.Author.Tests.{eq-eqb, ne-eqb}
 use Rattle.slots.specs.Answers.{Answer}
+use Rattle.tree_rules.specs.Find.{Counted}
 use Rattle.index_rules.specs.Index.{Index, Outcome, outcome}
-use Rattle.script_rules.specs.Text.{noText}
-use Rattle.script_rules.specs.Answers.{counted, valued, told}
+use Rattle.script_rules.specs.Text.{space, noText}
+use Rattle.script_rules.specs.Answers.{numbered, numberLine, valueLine, told, foundValue, foundText, searchLine}
 use Rattle.script_rules.specs.Commands.{Command}
 use Rattle.script_rules.specs.Feeding.{Paper, Turn, typed, performed}
 use Rattle.script_rules.proofs.Feeding.{Within, typed-within}
@@ -16,13 +17,30 @@ abbrev turn : Index → Paper → Turn
 turn ix p = record { index = ix; paper = p }
 
 -- A refusal is printed with its number, any other answer by its value.
-pub told-refused : (word : List ℕ) (a : Answer) → a .number ≢ 0 → counted noText (a .number) ≡ told word a
+pub told-refused : (word : List ℕ) (a : Answer) → a .number ≢ 0 → numberLine noText (a .number) ≡ told word a
 unfolding told
 told-refused word a h = rw (ne-eqb _ _ h)
 
-pub told-value : (word : List ℕ) (a : Answer) → a .number ≡ 0 → valued word (a .value) ≡ told word a
+pub told-value : (word : List ℕ) (a : Answer) → a .number ≡ 0 → valueLine word (a .value) ≡ told word a
 unfolding told
 told-value word a e = rw (eq-eqb _ _ e)
+
+-- So is what a search came to, and its looks stand behind it, but for a refusal before the search.
+pub found-refused : (a : Answer) → a .number ≢ 0 → numbered noText (a .number) ≡ foundText a
+unfolding foundText
+found-refused a h = rw (ne-eqb _ _ h)
+
+pub found-value : (a : Answer) → a .number ≡ 0 → foundValue (a .value) ≡ foundText a
+unfolding foundText
+found-value a e = rw (eq-eqb _ _ e)
+
+pub search-refused : (c : Counted) → c .answer .number ≡ 1 → numberLine noText 1 ≡ searchLine c
+unfolding searchLine
+search-refused c e = rw (eq-eqb _ _ e)
+
+pub search-told : (c : Counted) → c .answer .number ≢ 1 → foundText (c .answer) ++ numberLine (space ∷ []) (c .looks) ≡ searchLine c
+unfolding searchLine
+search-told c h = rw (ne-eqb _ _ h)
 
 -- The answer is printed after its word, and the call has left what it left.
 pub said : (word : List ℕ) (p : Paper) (o : Outcome) {a b : Answer} {l : Index} {q : Paper}

@@ -21,13 +21,15 @@ use slots::answer::Value;
 use slots::get;
 use slots::name;
 use slots::word;
+use tree::find::Counted;
 ghost use mathlib.Core.Path.{_≡_};
 ghost use Rattle.index_rules.specs.Live.{lentTree};
 ghost use Rattle.index_rules.specs.Find.{finds};
 ghost use Rattle.index_rules.specs.Index.{lent};
-ghost use Rattle.script_rules.specs.Text.{atText};
 ghost use Rattle.slots.specs.Coded.{answerOf};
-ghost use Rattle.script_rules.specs.Answers.{counted, told, met, entryLine, entryLines, listing, marking};
+ghost use Rattle.tree_rules.specs.Find.{counted as countedLooks};
+ghost use Rattle.tree.specs.Find.{countedOf};
+ghost use Rattle.script_rules.specs.Answers.{numbered, numberLine, told, foundText, searchLine, met, entryLine, entryLines, listing, marking};
 ghost use Rattle.script_rules.specs.Commands.{insert as inserting, remove as removing, rollback as rolling};
 ghost use Rattle.script_rules.specs.Feeding.{typed, performed, lentPaper, lentTurn};
 ghost use Rattle.console.specs.Phrases.{commandOf};
@@ -35,7 +37,7 @@ ghost use Rattle.console.specs.Meanings.{metOf};
 
 // A word and a number, and the line ends.
 fn tell(out: &mut [u8], at: usize, word: &[u8], v: u64) -> usize
-    ensures { λ r. ⌜ lentPaper (now (out .exit)) r ≡ typed (lentPaper (now (out .entry)) at) (counted (now (word .entry)) v) ⌝ }
+    ensures { λ r. ⌜ lentPaper (now (out .exit)) r ≡ typed (lentPaper (now (out .entry)) at) (numberLine (now (word .entry)) v) ⌝ }
 {
     let number = put_word(out, at, word);
     let end = put_number(out, number, v);
@@ -213,6 +215,42 @@ fn obey_rollback(
     tell_answer(out, at, b"back ", done.answer())
 }
 
+// A word and a number.
+fn put_numbered(out: &mut [u8], at: usize, word: &[u8], v: u64) -> usize
+    ensures { λ r. ⌜ lentPaper (now (out .exit)) r ≡ typed (lentPaper (now (out .entry)) at) (numbered (now (word .entry)) v) ⌝ }
+{
+    let end = put_word(out, at, word);
+    put_number(out, end, v)
+}
+
+// What a search came to, before its looks.
+fn put_found(out: &mut [u8], at: usize, answer: Answer) -> usize
+    ensures { λ r. ⌜ lentPaper (now (out .exit)) r ≡ typed (lentPaper (now (out .entry)) at) (foundText (answerOf answer)) ⌝ }
+{
+    let number = answer.number;
+    if number != 0 {
+        return put_numbered(out, at, b"no ", number as u64);
+    }
+    let value = answer.value;
+    match value {
+        Value::Some(v) => return put_numbered(out, at, b"at ", v as u64),
+        Value::None => return put_word(out, at, b"none"),
+    }
+}
+
+// What a search came to, and last on the line how many slots were looked at; a refusal before the search has none.
+fn tell_search(out: &mut [u8], at: usize, counted: Counted) -> usize
+    ensures { λ r. ⌜ lentPaper (now (out .exit)) r ≡ typed (lentPaper (now (out .entry)) at) (searchLine (countedOf counted)) ⌝ }
+{
+    let looks = counted.looks;
+    let answer = counted.answer;
+    if answer.number == 1 {
+        return tell(out, at, b"no ", 1);
+    }
+    let end = put_found(out, at, answer);
+    tell(out, end, b" ", looks as u64)
+}
+
 // `?`: only reads.
 fn tell_find(
     out: &mut [u8],
@@ -225,10 +263,10 @@ fn tell_find(
 ) -> usize
     ensures { λ r. ⌜ lentPaper (now (out .exit)) r
         ≡ typed (lentPaper (now (out .entry)) at)
-        (told atText (finds (lentTree (now (names .entry)) (now (cells .entry)) (now (head .entry))) hash key)) ⌝ }
+        (searchLine (countedLooks (finds (lentTree (now (names .entry)) (now (cells .entry)) (now (head .entry))) hash key))) ⌝ }
 {
     let found = find(names, cells, head, hash, key);
-    tell_answer(out, at, b"at ", found.answer())
+    tell_search(out, at, found.counted())
 }
 
 // Does what a command asks, and writes its answer.

@@ -93,7 +93,7 @@ fn is_held(
     let hash = name(names, i, HASH);
     let key = name(names, i, KEY);
     match find(other_names, other_cells, other_head, hash, key) {
-        Found::At(slot) => get(other_cells, slot, PLACE) == get(cells, i, PLACE),
+        Found::At(slot, _) => get(other_cells, slot, PLACE) == get(cells, i, PLACE),
         _ => false,
     }
 }

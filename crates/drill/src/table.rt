@@ -14,7 +14,7 @@ const LINE_WORDS: u32 = 2048;
 // The place of a key and one more; 0 where it is not there.
 fn held(names: &[u64], cells: &[u32], head: &[u32], key: u32) -> u32 {
     match find(names, cells, head, (key / 4) as u64, key as u64) {
-        Found::At(slot) => std::num::wrapping_add_u32(get(cells, slot, PLACE), 1),
+        Found::At(slot, _) => std::num::wrapping_add_u32(get(cells, slot, PLACE), 1),
         _ => 0,
     }
 }

@@ -7,7 +7,7 @@ use lib.ListN.{length, getD, set}
 use borrow.Author.Tests.{le-ltb}
 use Rattle.slots.specs.Words.{cell, write, nameOf, rename, roomy}
 use Rattle.slots.specs.Answers.{given, nothing}
-use Rattle.tree_rules.specs.Find.{slotsOf, Search, found, decided, looked, searched}
+use Rattle.tree_rules.specs.Find.{slotsOf, Search, ends, found, decided, looked, searched}
 use Rattle.tree_rules.proofs.Searching.{at-null}
 use Rattle.tree_rules.specs.Chain.{chained, tally}
 use Rattle.tree_rules.specs.Check.{linksIn}
@@ -39,9 +39,9 @@ use Rattle.examples.specs.Claims.{Claims}
 use Rattle.examples.specs.Worked.{empty, zeros, freeSlots, drawn, drawnFrom, chainOf, chainFrom, listSlots, tables, bin}
 use Rattle.examples.specs.Worked.{entriesGiven as walks}
 
-empty-find : (t : Live) → Fit t → Sound t → countOf t ≡ 0 → (hash key : ℕ) → finds t hash key ≡ nothing
+empty-find : (t : Live) → Fit t → Sound t → countOf t ≡ 0 → (hash key : ℕ) → finds t hash key ≡ ends nothing
 unfolding finds found
-empty-find t fit h e hash key = rw (fit-fits t fit) (ap (λ (s : Search). s .answer) (at-null (t .names) (t .cells) hash key (slotsOf (t .names)) (rootOf t) (h .t2 .root .1 e)))
+empty-find t fit h e hash key = rw (fit-fits t fit) (at-null (t .names) (t .cells) hash key (slotsOf (t .names)) (rootOf t) (h .t2 .root .1 e))
 
 -- A word written with what it was.
 set-same : (l : List ℕ) → 0 < length l → set l 0 (getD l 0 0) ≡ l
@@ -75,7 +75,7 @@ claims =
     record {
       empty-find = empty-find;
       empty-remove = λ ix fit h e hash key.
-          demanded .remove ix hash key .four .1 (fit, (h, demanded .find-sound (ix .live) (fit .tree) h hash key .none .0 (empty-find (ix .live) (fit .tree) h e hash key)));
+          demanded .remove ix hash key .four .1 (fit, (h, demanded .find-sound (ix .live) (fit .tree) h hash key .none .0 (ap (λ (s : Search). s .answer) (empty-find (ix .live) (fit .tree) h e hash key))));
       three-tree = refl;
       three-chain = refl;
       four-tree = refl;

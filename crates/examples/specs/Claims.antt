@@ -4,7 +4,7 @@ use mathlib.Core.List.{[], _∷_}
 use Prim.Native.Nat.{ℕ, _+_}
 use lib.ListN.{length}
 use Rattle.slots.specs.Answers.{some, given, nothing, refused}
-use Rattle.tree_rules.specs.Find.{found}
+use Rattle.tree_rules.specs.Find.{ends, found}
 use Rattle.redblack.specs.Holding.{Has}
 use Rattle.index_rules.specs.Live.{Live, Fit, rootOf, countOf}
 use Rattle.index_rules.specs.Sound.{Sound}
@@ -32,8 +32,8 @@ abbrev pub withoutOne : Index
 withoutOne = after (take 1 ∷ []) four
 
 pub record Claims : Type 0 where
-  -- "Empty: find is Nothing; remove is 4": any empty tree, any pair
-  pub empty-find : (t : Live) → Fit t → Sound t → countOf t ≡ 0 → (hash key : ℕ) → finds t hash key ≡ nothing
+  -- "Empty: find is Nothing; remove is 4": any empty tree, any pair, with no look
+  pub empty-find : (t : Live) → Fit t → Sound t → countOf t ≡ 0 → (hash key : ℕ) → finds t hash key ≡ ends nothing
   pub empty-remove : (ix : Index) → FitIndex ix → Sound (ix .live) → countOf (ix .live) ≡ 0 → (hash key : ℕ) → removes ix hash key .answer ≡ refused 4
   -- "Insert 1, 2, 3: root 2 black, 1 and 3 red; chain 3, 2, 1."
   pub three-tree : drawn (three .live) ≡ black (red none 1 none) 2 (red none 3 none)

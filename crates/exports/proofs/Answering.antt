@@ -1,7 +1,7 @@
 -- What find, lookup and the walk answer is one of at most 4,096 slots, Nothing or a refusal without a value; so its word tells which.
-use mathlib.Core.Path.{_≡_, refl, ap, sym}
+use mathlib.Core.Path.{_≡_, refl, ap, sym, _∙_}
 use mathlib.Core.Logic.{_↔_}
-use mathlib.Core.Bool.{Bool, true, false}
+use mathlib.Core.Bool.{Bool, true, false, false≢true}
 use mathlib.Core.List.{List}
 use Prim.Native.Nat.{ℕ, zero, suc, _+_, _-_, _<_, _≤_}
 use native.Mathlib.Decide.{ℕ-discrete}
@@ -15,32 +15,34 @@ use Rattle.slots.proofs.Laws.{number, given-is, nothing-given}
 use Rattle.tree_rules.specs.Find.{Look, here, on, Search, lookedThen, slotsOf, looked, searched, found}
 use Rattle.index_rules.specs.Live.{Live, rootOf, fits}
 use Rattle.index_rules.specs.Find.{finds}
-use Rattle.index_rules.proofs.Fit.{fits-fit, half}
+use Rattle.index_rules.proofs.Fit.{fits-fit, half, unfit}
+use Rattle.index_rules.proofs.Reading.{find-claims}
 use Rattle.set_rules.specs.Words.{Set, tablesOf, lengthAt, headersIn, rootAt, firstAt, Bin, empty, moved, bad, list, tree}
 use Rattle.set_rules.specs.Words.{fits as setFits}
-use Rattle.set_rules.proofs.Fit.{fits-fit as set-fit, slots-are}
+use Rattle.set_rules.proofs.Fit.{fits-fit as set-fit, fit-fits as set-fits, slots-are}
+use Rattle.set_rules.proofs.Gates.{lookups-claims}
 use Rattle.set_rules.proofs.Naming.{ranges}
-use Rattle.set_rules.specs.Lookup.{hasPair, listed, homeBin, asked, forwarded, lookups}
+use Rattle.set_rules.specs.Lookup.{listLook, listed, homeBin, asked, forwarded, lookups}
 use Rattle.set_rules.specs.Cursor.{Cursor, Step, fineCursor}
 use Rattle.set_rules.specs.Walk.{Place, deepest, binHere, Sought, entered, sought, turnsIn, stepped, standing, stepsOn, nexts}
-use Rattle.exports.specs.Words.{answerWord}
+use Rattle.exports.specs.Words.{answerWord, searchWord}
 use Rattle.exports.specs.Cursors.{cursorIn}
 use Rattle.exports.specs.Cursors.{walkedInto as walkedWords}
-use Rattle.exports.specs.Claims.{Tells}
+use Rattle.exports.specs.Claims.{Tells, TellsLooks}
 
 -- The three kinds of answer, where there are n slots.
 pub data Plain (n : ℕ) : Answer → Type 0 where
   slot : {x : ℕ} → x < n → Plain n (given x)
   none : Plain n nothing
-  refuses : {m : ℕ} → 1 ≤ m → Plain n (refused m)
+  refuses : {m : ℕ} → 1 ≤ m → m ≤ 11 → Plain n (refused m)
 
 more : {m n : ℕ} {a : Answer} → m ≤ n → Plain m a → Plain n a
 more l (slot {x = x} b) = slot {x = x} (omega arith)
 more l none = none
-more l (refuses b) = refuses b
+more l (refuses b c) = refuses b c
 
 nine : {n : ℕ} → Plain n (refused 9)
-nine = refuses {m = 9} (omega arith)
+nine = refuses {m = 9} (omega arith) (omega arith)
 
 -- What holds of both ways of a test holds of the test.
 picked : {A : Type 0} (P : A → Type 0) (b : Bool) {x y : A} → (b ≡ true → P x) → (b ≡ false → P y) → P (pick b x y)
@@ -52,8 +54,9 @@ module _ (names cells : List ℕ) (hash key : ℕ) where
   abbrev Found : Search → Type 0
   Found r = Plain (slotsOf names) (r .answer)
 
-  abbrev Kind : Answer → Type 0
-  Kind = Plain (slotsOf names)
+  after-plain : (p : ℕ) → p < slotsOf names → (rest : ℕ → Search) (l : Look) → ((q : ℕ) → Found (rest q)) → Found (lookedThen l p rest)
+  after-plain p b rest here again = slot b
+  after-plain p b rest (on q) again = again q
 
   searched-plain : (v p : ℕ) → Found (searched names cells v p hash key)
   unfolding searched
@@ -61,41 +64,40 @@ module _ (names cells : List ℕ) (hash key : ℕ) where
   searched-plain (suc v) p =
       picked Found (eqb p null) (λ e. none)
       (λ e. picked Found (leb (slotsOf names) p) (λ f. nine)
-      (λ f. go (looked names cells p hash key) (leb-false _ _ f) (λ q. searched-plain v q)))
-    where
-      go : (l : Look) → p < slotsOf names → ((q : ℕ) → Found (searched names cells v q hash key))
-          → Found (lookedThen l p (λ q. searched names cells v q hash key))
-      go here b again = slot b
-      go (on q) b again = again q
+      (λ f. after-plain p (leb-false _ _ f) (λ q. searched names cells v q hash key) (looked names cells p hash key) (λ q. searched-plain v q)))
 
   found-plain : (root : ℕ) → Found (found names cells root hash key)
   unfolding found
   found-plain root = searched-plain (slotsOf names) root
 
-  listed-plain : (v p : ℕ) → Kind (listed names cells v p hash key)
+  listed-plain : (v p : ℕ) → Found (listed names cells v p hash key)
   unfolding listed
-  listed-plain zero p = picked Kind (eqb p null) (λ e. none) (λ e. nine)
+  listed-plain zero p = picked Found (eqb p null) (λ e. none) (λ e. nine)
   listed-plain (suc v) p =
-      picked Kind (eqb p null) (λ e. none)
-      (λ e. picked Kind (leb (slotsOf names) p) (λ f. nine)
-      (λ f. picked Kind (hasPair names p hash key) (λ g. slot (leb-false _ _ f)) (λ g. listed-plain v (cell cells p next))))
+      picked Found (eqb p null) (λ e. none)
+      (λ e. picked Found (leb (slotsOf names) p) (λ f. nine)
+      (λ f. after-plain p (leb-false _ _ f) (λ q. listed names cells v q hash key) (listLook names cells p hash key) (λ q. listed-plain v q)))
 
-pub finds-plain : (t : Live) (hash key : ℕ) → Plain 4096 (finds t hash key)
+-- An answer with whatever looks.
+abbrev Told : Search → Type 0
+Told s = Plain 4096 (s .answer)
+
+pub finds-plain : (t : Live) (hash key : ℕ) → Plain 4096 (finds t hash key .answer)
 unfolding finds
 finds-plain t hash key =
-    picked (Plain 4096) (fits t)
+    picked Told (fits t)
     (λ e. (let fit = fits-fit t e in more (omega (arith, half fit, fit .most)) (found-plain (t .names) (t .cells) hash key (rootOf t))))
-    (λ e. refuses {m = 1} (omega arith))
+    (λ e. refuses {m = 1} (omega arith) (omega arith))
 
 -- The loop over the tables.
 module _ (s : Set) (hash key : ℕ) where
-  forwarded-plain : (tables k : ℕ) → Plain (slotsOf (s .names)) (forwarded tables s k hash key)
+  forwarded-plain : (tables k : ℕ) → Plain (slotsOf (s .names)) (forwarded tables s k hash key .answer)
   unfolding forwarded
   forwarded-plain zero k = nine
   forwarded-plain (suc tables) k = go (homeBin s k hash) (forwarded-plain tables (suc k))
     where
-      go : (b : Bin) → Plain (slotsOf (s .names)) (forwarded tables s (suc k) hash key)
-          → Plain (slotsOf (s .names)) (asked s b hash key (forwarded tables s (suc k) hash key))
+      go : (b : Bin) → Plain (slotsOf (s .names)) (forwarded tables s (suc k) hash key .answer)
+          → Plain (slotsOf (s .names)) (asked s b hash key (forwarded tables s (suc k) hash key) .answer)
       go empty rest = none
       go moved rest = rest
       go bad rest = nine
@@ -105,13 +107,13 @@ module _ (s : Set) (hash key : ℕ) where
 few : (s : Set) → setFits s ≡ true → slotsOf (s .names) ≤ 4096
 few s e = let fit = set-fit s e in omega (arith, slots-are fit, fit .slots-most)
 
-pub lookups-plain : (s : Set) (t hash key : ℕ) → Plain 4096 (lookups s t hash key)
+pub lookups-plain : (s : Set) (t hash key : ℕ) → Plain 4096 (lookups s t hash key .answer)
 unfolding lookups
 lookups-plain s t hash key =
-    picked (Plain 4096) (setFits s)
-    (λ e. picked (Plain 4096) (ltb t (tablesOf s)) (λ f. more (few s e) (forwarded-plain s hash key (tablesOf s - t) t))
-    (λ f. refuses {m = 10} (omega arith)))
-    (λ e. refuses {m = 1} (omega arith))
+    picked Told (setFits s)
+    (λ e. picked Told (ltb t (tablesOf s)) (λ f. more (few s e) (forwarded-plain s hash key (tablesOf s - t) t))
+    (λ f. refuses {m = 10} (omega arith) (omega arith)))
+    (λ e. refuses {m = 1} (omega arith) (omega arith))
 
 -- A step of the walk.
 module _ (s : Set) (c : Cursor) where
@@ -147,8 +149,8 @@ module _ (s : Set) (c : Cursor) where
   nexts-plain =
       picked (λ (r : Step). Plain 4096 (r .answer)) (setFits s)
       (λ e. picked (λ (r : Step). Plain 4096 (r .answer)) (fineCursor s c) (λ f. more (few s e) walked-plain)
-      (λ f. refuses {m = 11} (omega arith)))
-      (λ e. refuses {m = 1} (omega arith))
+      (λ f. refuses {m = 11} (omega arith) (omega arith)))
+      (λ e. refuses {m = 1} (omega arith) (omega arith))
 
 -- The word of each kind tells it from the others.
 pub tells : {a : Answer} → Plain 4096 a → Tells a
@@ -167,13 +169,44 @@ tells none =
       none = (λ e. refl, λ e. refl);
       refuses = λ n b. (λ e. absurd (omega arith), λ e. absurd (omega (arith, number e)));
     }
-tells (refuses {m = m} l) =
+tells (refuses {m = m} l k) =
     let z : pick (eqb m 0) null 0 ≡ 0 = rw (ne-eqb m 0 (omega arith)) in
     record {
       below = λ i e. absurd (omega (arith, number e));
       at = λ i b. (λ e. absurd (omega (arith, z)), λ e. absurd (omega (arith, number e)));
       none = (λ e. absurd (omega (arith, z)), λ e. absurd (omega (arith, number e)));
       refuses = λ n b. (λ e. ap refused (omega (arith, z)), λ e. omega (arith, z, number e));
+    }
+
+-- Its word has 48 bits, so that looks stand above it.
+pub answer-below : {a : Answer} → Plain 4096 a → answerWord a < 281474976710656
+unfolding answerWord
+answer-below (slot l) = omega arith
+answer-below none = omega arith
+answer-below (refuses {m = m} l k) = let z : pick (eqb m 0) null 0 ≡ 0 = rw (ne-eqb m 0 (omega arith)) in omega (arith, z)
+
+pub finds-looks : (t : Live) (hash key : ℕ) → length (finds t hash key .looks) ≤ 4096
+finds-looks t hash key = go (fits t) refl
+  where
+    go : (b : Bool) → fits t ≡ b → length (finds t hash key .looks) ≤ 4096
+    go true e = let fit = fits-fit t e in omega (arith, half fit, fit .most, find-claims t hash key .looks fit .most)
+    go false e = rw (find-claims t hash key .unfit-looks (unfit t e)) (omega arith)
+
+pub lookups-looks : (s : Set) (t hash key : ℕ) → length (lookups s t hash key .looks) ≤ 4096
+lookups-looks s t hash key = go (setFits s) refl
+  where
+    go : (b : Bool) → setFits s ≡ b → length (lookups s t hash key .looks) ≤ 4096
+    go true e = omega (arith, few s e, lookups-claims s t hash key .most)
+    go false e = rw (lookups-claims s t hash key .one-looks (λ fit. false≢true (sym e ∙ set-fits fit))) (omega arith)
+
+pub tells-looks : (s : Search) → Plain 4096 (s .answer) → length (s .looks) ≤ 4096 → TellsLooks s
+unfolding searchWord
+tells-looks s p l =
+    record {
+      tells = tells p;
+      low = omega (arith, answer-below p);
+      high = omega (arith, answer-below p);
+      within = l;
     }
 
 -- Of the exported walk: a cursor of another length is 1, and else the word is the step's.

@@ -2,15 +2,15 @@
 use mathlib.Core.Path.{sym, _∙_}
 use native.Mathlib.Omega.{arith}
 use Rattle.exports.specs.Claims.{Claims}
-use Rattle.exports.proofs.Answering.{finds-plain, lookups-plain, nexts-plain, tells, walk-done}
+use Rattle.exports.proofs.Answering.{finds-plain, lookups-plain, nexts-plain, finds-looks, lookups-looks, tells, tells-looks, walk-done}
 
 pub claims : Claims
 claims =
     record {
       numbers-apart = λ m n v w a b e. omega arith;
       values-apart = λ m n v w a b e. omega arith;
-      find-tells = λ t hash key. tells (finds-plain t hash key);
-      lookup-tells = λ s table hash key. tells (lookups-plain s table hash key);
+      find-tells = λ t hash key. tells-looks _ (finds-plain t hash key) (finds-looks t hash key);
+      lookup-tells = λ s table hash key. tells-looks _ (lookups-plain s table hash key) (lookups-looks s table hash key);
       walk-tells = λ s c. tells (nexts-plain s c);
       walk-done = walk-done;
       find-one = λ t hash key a b p q. p ∙ sym q;

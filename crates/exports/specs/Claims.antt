@@ -3,10 +3,11 @@
 use mathlib.Core.Path.{_≡_}
 use mathlib.Core.Logic.{_↔_}
 use mathlib.Core.List.{List}
-use Prim.Native.Nat.{ℕ, _+_, _*_, _<_, _≤_}
+use Prim.Native.Nat.{ℕ, _+_, _*_, _/_, _%_, _<_, _≤_}
 use lib.ListN.{length}
 use Rattle.slots.specs.Words.{null, mostSlots}
 use Rattle.slots.specs.Answers.{Answer, given, nothing, refused, OneAnswer}
+use Rattle.tree_rules.specs.Find.{Search, counted}
 use Rattle.index_rules.specs.Live.{Live}
 use Rattle.index_rules.specs.Index.{Index}
 use Rattle.index_rules.specs.Find.{finds}
@@ -21,7 +22,7 @@ use Rattle.set_rules.specs.Accepting.{accepts}
 use Rattle.set_rules.specs.Lookup.{lookups}
 use Rattle.set_rules.specs.Cursor.{Cursor}
 use Rattle.set_rules.specs.Walk.{nexts}
-use Rattle.exports.specs.Words.{answerWord, checkWord, Worded, worded}
+use Rattle.exports.specs.Words.{answerWord, searchWord, checkWord, Worded, worded}
 use Rattle.exports.specs.Cursors.{cursorIn, Kept, startedInto, walkedInto}
 
 -- The word of an answer tells which it is: a slot given is below 4,096, so that null is Nothing or Done alone.
@@ -31,17 +32,25 @@ pub record Tells (a : Answer) : Type 0 where
   pub none : (answerWord a ≡ null) ↔ (a ≡ nothing)
   pub refuses : (n : ℕ) → 1 ≤ n → (answerWord a ≡ 4294967296 * n) ↔ (a ≡ refused n)
 
+-- The word of a search tells its answer and its looks: the low 48 bits are the answer's word, the 16 above them how many slots were
+-- looked at.
+pub record TellsLooks (s : Search) : Type 0 where
+  pub tells : Tells (s .answer)
+  pub low : searchWord (counted s) % 281474976710656 ≡ answerWord (s .answer)
+  pub high : searchWord (counted s) / 281474976710656 ≡ length (s .looks)
+  pub within : length (s .looks) ≤ mostSlots
+
 pub record Claims : Type 0 where
   -- "The answer is value + 2^32 * number."
   pub numbers-apart : (m n v w : ℕ) → v < 4294967296 → w < 4294967296 → v + 4294967296 * m ≡ w + 4294967296 * n → m ≡ n
   pub values-apart : (m n v w : ℕ) → v < 4294967296 → w < 4294967296 → v + 4294967296 * m ≡ w + 4294967296 * n → v ≡ w
-  pub find-tells : (t : Live) (hash key : ℕ) → Tells (finds t hash key)
-  pub lookup-tells : (s : Set) (table hash key : ℕ) → Tells (lookups s table hash key)
+  pub find-tells : (t : Live) (hash key : ℕ) → TellsLooks (finds t hash key)
+  pub lookup-tells : (s : Set) (table hash key : ℕ) → TellsLooks (lookups s table hash key)
   pub walk-tells : (s : Set) (c : Cursor) → Tells (nexts s c .answer)
   -- null in the walk's word is Done, with a cursor of eleven words
   pub walk-done : (s : Set) (cursor : List ℕ)
       → (walkedInto s cursor .word ≡ null) ↔ ((length cursor ≡ 11) × (nexts s (cursorIn cursor) .answer ≡ nothing))
-  pub find-one : (t : Live) (hash key : ℕ) → OneAnswer (λ (r : ℕ). r ≡ answerWord (finds t hash key))
+  pub find-one : (t : Live) (hash key : ℕ) → OneAnswer (λ (r : ℕ). r ≡ searchWord (counted (finds t hash key)))
   pub check-one : (t : Live) → OneAnswer (λ (r : ℕ). r ≡ checkWord (checks t))
   pub sound-one : (t : Live) → OneAnswer (λ (r : ℕ). r ≡ answerWord (sounds t))
   pub insert-one : (ix : Index) (hash key place : ℕ) → OneAnswer (λ (r : Worded). r ≡ worded (inserts ix hash key place))
@@ -49,6 +58,6 @@ pub record Claims : Type 0 where
   pub fresh-one : (ix : Index) → OneAnswer (λ (r : Worded). r ≡ worded (freshes ix))
   pub rollback-one : (ix : Index) (mark : ℕ) → OneAnswer (λ (r : Worded). r ≡ worded (rolls ix mark))
   pub accept-one : (s : Set) → OneAnswer (λ (r : ℕ). r ≡ answerWord (accepts s))
-  pub lookup-one : (s : Set) (table hash key : ℕ) → OneAnswer (λ (r : ℕ). r ≡ answerWord (lookups s table hash key))
+  pub lookup-one : (s : Set) (table hash key : ℕ) → OneAnswer (λ (r : ℕ). r ≡ searchWord (counted (lookups s table hash key)))
   pub start-one : (s : Set) (table : ℕ) (cursor : List ℕ) → OneAnswer (λ (r : Kept). r ≡ startedInto s table cursor)
   pub walk-one : (s : Set) (cursor : List ℕ) → OneAnswer (λ (r : Kept). r ≡ walkedInto s cursor)

@@ -2,15 +2,17 @@
 use crate::cursor::keep;
 use crate::cursor::read;
 use crate::words::packed;
+use crate::words::search_word;
 use crate::words::word;
 use sets::accept::accept;
 use sets::lookup::lookup;
 use sets::walk::Cursor;
 ghost use mathlib.Core.Path.{_≡_};
+ghost use Rattle.tree_rules.specs.Find.{counted};
 ghost use Rattle.set_rules.specs.Words.{lentSet};
 ghost use Rattle.set_rules.specs.Accepting.{accepts};
 ghost use Rattle.set_rules.specs.Lookup.{lookups};
-ghost use Rattle.exports.specs.Words.{answerWord};
+ghost use Rattle.exports.specs.Words.{answerWord, searchWord};
 ghost use Rattle.exports.specs.Cursors.{Kept, startedInto, walkedInto};
 
 // Whether a frozen set is accepted.
@@ -30,7 +32,7 @@ pub extern "C" fn oz_accept(
     word(acceptance.answer())
 }
 
-// The slot of a frozen set that has a pair, from a table on.
+// The slot of a frozen set that has a pair, from a table on, and how many slots were looked at.
 #[no_mangle]
 pub extern "C" fn oz_lookup(
     lengths: &[u32],
@@ -43,12 +45,12 @@ pub extern "C" fn oz_lookup(
     key: u64,
 ) -> u64
     ensures { λ r. ⌜ r
-        ≡ answerWord (lookups
+        ≡ searchWord (counted (lookups
         (lentSet (now (lengths .entry)) (now (bins .entry)) (now (heads .entry)) (now (names .entry))
-        (now (cells .entry))) table hash key) ⌝ }
+        (now (cells .entry))) table hash key)) ⌝ }
 {
     let looked = lookup(lengths, bins, heads, names, cells, table, hash, key);
-    word(looked.answer())
+    search_word(looked.counted())
 }
 
 // A cursor at the first bin of a table, written into eleven words; a refused call leaves them as they were.

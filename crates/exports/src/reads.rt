@@ -1,23 +1,25 @@
 // The live tree's entry points that only read.
+use crate::words::search_word;
 use crate::words::word;
 use crate::words::word_with;
 use index::check::check;
 use index::find::find;
 use index::sound::sound;
 ghost use mathlib.Core.Path.{_≡_};
+ghost use Rattle.tree_rules.specs.Find.{counted};
 ghost use Rattle.index_rules.specs.Live.{lentTree};
 ghost use Rattle.index_rules.specs.Find.{finds};
 ghost use Rattle.index_rules.specs.Check.{checks};
 ghost use Rattle.index_rules.specs.Sound.{sounds};
-ghost use Rattle.exports.specs.Words.{answerWord, checkWord};
+ghost use Rattle.exports.specs.Words.{answerWord, searchWord, checkWord};
 
-// The slot of a live tree that has a pair.
+// The slot of a live tree that has a pair, and how many slots were looked at.
 #[no_mangle]
 pub extern "C" fn oz_find(names: &[u64], cells: &[u32], head: &[u32], hash: u64, key: u64) -> u64
-    ensures { λ r. ⌜ r ≡ answerWord (finds (lentTree (now (names .entry)) (now (cells .entry)) (now (head .entry))) hash key) ⌝ }
+    ensures { λ r. ⌜ r ≡ searchWord (counted (finds (lentTree (now (names .entry)) (now (cells .entry)) (now (head .entry))) hash key)) ⌝ }
 {
     let found = find(names, cells, head, hash, key);
-    word(found.answer())
+    search_word(found.counted())
 }
 
 // The source's own check of a live tree.

@@ -2,10 +2,12 @@
 use slots::NULL;
 use slots::answer::Answer;
 use slots::answer::Value;
+use tree::find::Counted;
 ghost use mathlib.Core.Path.{_≡_};
-ghost use Prim.Native.Nat.{_+_, _*_};
+ghost use Prim.Native.Nat.{_+_, _*_, _<_};
 ghost use Rattle.slots.specs.Coded.{answerOf};
-ghost use Rattle.exports.specs.Words.{wordOf, answerWord};
+ghost use Rattle.tree.specs.Find.{countedOf};
+ghost use Rattle.exports.specs.Words.{wordOf, answerWord, searchWord};
 
 pub(crate) fn packed(number: u32, value: u32) -> u64
     ensures { λ r. ⌜ r ≡ value + 4294967296 * number ⌝ }
@@ -36,4 +38,15 @@ pub(crate) fn word(answer: Answer) -> u64
     ensures { λ r. ⌜ r ≡ answerWord (answerOf answer) ⌝ }
 {
     word_with(NULL, answer)
+}
+
+// The word of a search: its answer's, and above it how many slots it looked at.
+pub(crate) fn search_word(counted: Counted) -> u64
+    requires { ⌜ answerWord (countedOf counted .answer) < 281474976710656 ⌝ }
+    requires { ⌜ countedOf counted .looks < 65536 ⌝ }
+    ensures { λ r. ⌜ r ≡ searchWord (countedOf counted) ⌝ }
+{
+    let looks = counted.looks;
+    let low = word(counted.answer);
+    low + 281474976710656 * (looks as u64)
 }

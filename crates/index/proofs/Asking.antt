@@ -11,7 +11,7 @@ use denote.Enum.Declared.{tagOf}
 use Rattle.slots.specs.Words.{null, pick}
 use Rattle.slots.specs.Answers.{Answer, Value, some, none, given}
 use Rattle.slots.proofs.Laws.{given-is, number, value}
-use Rattle.tree_rules.specs.Find.{slotsOf, found}
+use Rattle.tree_rules.specs.Find.{slotsOf, Counted, counted, found}
 use Rattle.tree_rules.specs.Chain.{tally}
 use Rattle.index_rules.specs.Live.{Live, Fit, rootOf, countOf, fits}
 use Rattle.index_rules.specs.Sound.{Sound, used, sound, sounds}
@@ -28,7 +28,7 @@ use Rattle.index.proofs.Slots.{used-one}
 use Rattle.index.specs.Calls.{fitnessOf}
 use Rattle.index.specs.declared.fit_index.Fitness.{Fitness}
 use Rattle.index.specs.declared.fit_index.Fitness.the-variants.{Fit as WordsFit, Unfit as WordsUnfit}
-use Rattle.tree.specs.Find.{answerOf}
+use Rattle.tree.specs.Find.{searchedOf}
 use Rattle.tree.specs.declared.find.Found.{Found}
 use Rattle.tree.specs.declared.find.Found.the-variants.{At, Nothing, Lost}
 use Rattle.tree.proofs.find.Found.{the-type as searched}
@@ -87,22 +87,22 @@ module _ (t : Live) (f : fits t ≡ true) (r : Soundness) (e : soundOf r ≡ sou
       go Unfit z = refl
 
 -- The search names a slot, or it does not.
-module _ (t : Live) (hash key : ℕ) {root : ℕ} (e : root ≡ rootOf t) (r : Found) (s : answerOf r ≡ found (t .names) (t .cells) root hash key .answer) where
-  sought : soughtIn t hash key ≡ answerOf r .value
+module _ (t : Live) (hash key : ℕ) {root : ℕ} (e : root ≡ rootOf t) (r : Found) (s : searchedOf r ≡ counted (found (t .names) (t .cells) root hash key)) where
+  sought : soughtIn t hash key ≡ searchedOf r .answer .value
   unfolding soughtIn
-  sought = let z : found (t .names) (t .cells) (rootOf t) hash key .answer .value ≡ answerOf r .value = rw (← e) (sym (value s)) in z
+  sought = let z : found (t .names) (t .cells) (rootOf t) hash key .answer .value ≡ searchedOf r .answer .value = rw (← e) (sym (value (ap (λ (c : Counted). c .answer) s))) in z
 
-  pub sought-at : {slot : ℕ} → r ≡ At slot → soughtIn t hash key ≡ some slot
-  sought-at y = sought ∙ ap (λ (q : Found). answerOf q .value) y
+  pub sought-at : {slot looks : ℕ} → r ≡ At slot looks → soughtIn t hash key ≡ some slot
+  sought-at y = sought ∙ ap (λ (q : Found). searchedOf q .answer .value) y
 
   pub sought-not : OneOf (1 ∷ 2 ∷ []) (tagOf searched r) → soughtIn t hash key ≡ none
   sought-not k = sought ∙ go r k
     where
-      go : (r : Found) → OneOf (1 ∷ 2 ∷ []) (tagOf searched r) → answerOf r .value ≡ none
-      go (At slot) (inl z) = absurd (omega arith)
-      go (At slot) (inr z) = absurd (omega arith)
-      go Nothing z = refl
-      go Lost z = refl
+      go : (r : Found) → OneOf (1 ∷ 2 ∷ []) (tagOf searched r) → searchedOf r .answer .value ≡ none
+      go (At slot looks) (inl z) = absurd (omega arith)
+      go (At slot looks) (inr z) = absurd (omega arith)
+      go (Nothing looks) z = refl
+      go (Lost looks) z = refl
 
 -- A sound tree counts no more slots than it has.
 tally-most : (n : ℕ) (f : ℕ → ℕ) → ((k : ℕ) → f k ≤ 1) → tally n f ≤ n

@@ -7,6 +7,7 @@ use Rattle.slots.specs.Words.{pick}
 use Rattle.slots.specs.Answers.{Value, some, none}
 use Rattle.slots.proofs.Laws.{told-apart}
 use Rattle.slots.proofs.Claims.{answer-one-to-one}
+use Rattle.tree.proofs.Claims.{counted-one-to-one}
 use Rattle.index.specs.Reads.{foundOf, checkedOf, soundOf}
 use Rattle.index.specs.Reading.{Reading}
 use Rattle.index.specs.declared.find.Found.{Found}
@@ -16,18 +17,18 @@ use Rattle.index.specs.declared.check.Checked.the-variants.{Passes, Fail
 use Rattle.index.specs.declared.sound.Soundness.{Soundness}
 use Rattle.index.specs.declared.sound.Soundness.the-variants.{Yes, No, Unfit as SoundUnfit}
 
-abbrev foundBack : ℕ → Value → Found
-foundBack number (some slot) = At slot
-foundBack number none = pick (eqb number 0) Nothing (pick (eqb number 1) Unfit Lost)
+abbrev foundBack : ℕ → ℕ → Value → Found
+foundBack looks number (some slot) = At slot looks
+foundBack looks number none = pick (eqb number 0) (Nothing looks) (pick (eqb number 1) Unfit (Lost looks))
 
-found-back : (r : Found) → foundBack (foundOf r .number) (foundOf r .value) ≡ r
-found-back (At slot) = refl
-found-back Nothing = refl
+found-back : (r : Found) → foundBack (foundOf r .looks) (foundOf r .answer .number) (foundOf r .answer .value) ≡ r
+found-back (At slot looks) = refl
+found-back (Nothing looks) = refl
 found-back Unfit = refl
-found-back Lost = refl
+found-back (Lost looks) = refl
 
 found-one-to-one : (a b : Found) → foundOf a ≡ foundOf b → a ≡ b
-found-one-to-one = told-apart foundOf (λ a. foundBack (a .number) (a .value)) found-back
+found-one-to-one = told-apart foundOf (λ a. foundBack (a .looks) (a .answer .number) (a .answer .value)) found-back
 
 abbrev checkedBack : ℕ → Value → Checked
 checkedBack number (some slot) = Fails (number - 100) slot
@@ -64,6 +65,7 @@ reading =
       soundness-one-to-one = soundness-one-to-one;
       sound-one = λ t a b p q. soundness-one-to-one a b (p ∙ sym q);
       fit-one = λ t a b p q. p ∙ sym q;
+      counted-one = λ _ a b p q. counted-one-to-one a b (p ∙ sym q);
       answer-one = λ _ a b p q. answer-one-to-one a b (p ∙ sym q);
       slots-fine-one = λ t n a b p q. p ∙ sym q;
       used-slots-one = λ cells n a b p q. p ∙ sym q;

@@ -1,6 +1,7 @@
--- The number and value of each answer of find, the source's check and the full check.
+-- The number and value of each answer of find, with its looks, of the source's check and of the full check.
 use Prim.Native.Nat.{_+_}
 use Rattle.slots.specs.Answers.{Answer, some, given, nothing, refused}
+use Rattle.tree_rules.specs.Find.{Counted, withLooks}
 use Rattle.index.specs.declared.find.Found.{Found}
 use Rattle.index.specs.declared.find.Found.the-variants.{At, Nothing, Unfit, Lost}
 use Rattle.index.specs.declared.check.Checked.{Checked}
@@ -8,11 +9,11 @@ use Rattle.index.specs.declared.check.Checked.the-variants.{Passes, Fail
 use Rattle.index.specs.declared.sound.Soundness.{Soundness}
 use Rattle.index.specs.declared.sound.Soundness.the-variants.{Yes, No, Unfit as SoundUnfit}
 
-abbrev pub foundOf : Found → Answer
-foundOf (At slot) = given slot
-foundOf Nothing = nothing
-foundOf Unfit = refused 1
-foundOf Lost = refused 9
+abbrev pub foundOf : Found → Counted
+foundOf (At slot looks) = withLooks looks (given slot)
+foundOf (Nothing looks) = withLooks looks nothing
+foundOf Unfit = withLooks 0 (refused 1)
+foundOf (Lost looks) = withLooks looks (refused 9)
 
 -- The number of a failing test stands above 100.
 abbrev pub checkedOf : Checked → Answer

@@ -69,7 +69,7 @@ fn ask(names: &[u64], cells: &[u32], head: &[u32], lines: &[u64], hash: u64, key
     };
     let root = word(head, ROOT, NULL);
     let found = find_tree_node(names, cells, root, hash, key);
-    let Found::At(slot) = found else {
+    let Found::At(slot, _) = found else {
         let free = lowest_free(cells, (names.len() / 2) as u32);
         let Free::At(x) = free else {
             return Inserted::Full;

@@ -48,7 +48,7 @@ fn take_back(
 {
     let root = word(head, ROOT, NULL);
     let found = find_tree_node(names, cells, root, hash, key);
-    let Found::At(x) = found else {
+    let Found::At(x, _) = found else {
         return Undoing::Misfit;
     };
     let own = get(cells, x, PLACE);
@@ -77,7 +77,7 @@ fn put_back(
 {
     let root = word(head, ROOT, NULL);
     let found = find_tree_node(names, cells, root, hash, key);
-    let Found::At(_) = found else {
+    let Found::At(_, _) = found else {
         let free = lowest_free(cells, (names.len() / 2) as u32);
         let Free::At(x) = free else {
             return Undoing::Misfit;

@@ -62,7 +62,7 @@ fn ask(names: &[u64], cells: &[u32], head: &[u32], lines: &[u64], hash: u64, key
     };
     let root = word(head, ROOT, NULL);
     let found = find_tree_node(names, cells, root, hash, key);
-    let Found::At(x) = found else {
+    let Found::At(x, _) = found else {
         return Removed::Absent;
     };
     let full = is_full(lines);

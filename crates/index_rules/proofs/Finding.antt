@@ -1,19 +1,19 @@
 -- find on a sound tree, from the law of the search there; and that the contents of a sound tree are one list.
-use mathlib.Core.Path.{_≡_, refl, sym, _∙_, subst}
+use mathlib.Core.Path.{_≡_, refl, ap, sym, _∙_, subst}
 use mathlib.Core.List.{List}
 use Prim.Native.Nat.{ℕ}
 use native.Mathlib.Omega.{arith}
 use Rattle.slots.specs.Pairs.{pair, pairOf}
 use Rattle.slots.specs.Answers.{none, given, nothing, refused}
 use Rattle.slots.proofs.Laws.{number, none-some, value}
-use Rattle.tree_rules.specs.Find.{found}
+use Rattle.tree_rules.specs.Find.{Search, found}
 use Rattle.redblack.specs.Holding.{Has, Stands}
 use Rattle.index_rules.specs.Live.{Live, Fit, rootOf}
 use Rattle.index_rules.specs.Sound.{Sound}
 use Rattle.index_rules.specs.Find.{finds}
 use Rattle.index_rules.specs.Contents.{Entry, entry, entryOf, contents, HasAt, HoldSame, In}
 use Rattle.index_rules.specs.Claims.{FindsSound, Contained}
-use Rattle.index_rules.proofs.Reading.{on-fit}
+use Rattle.index_rules.proofs.Reading.{find-fit, find-claims}
 use Rattle.index_rules.proofs.Seeking.{found-at, found-none}
 use Rattle.index_rules.proofs.Deciding.{Seen, there, absent, seen}
 use Rattle.index_rules.proofs.Holding.{contents-length, stands-in, in-stands}
@@ -22,20 +22,25 @@ use Rattle.index_rules.proofs.Unrolling.{contents-one}
 use Rattle.index_rules.proofs.Inserting.{value-inj}
 
 module _ {t : Live} (fit : Fit t) (h : Sound t) (hash key : ℕ) where
-  is : finds t hash key ≡ found (t .names) (t .cells) (rootOf t) hash key .answer
-  unfolding finds
-  is = on-fit t (found (t .names) (t .cells) (rootOf t) hash key .answer) fit
+  is : finds t hash key .answer ≡ found (t .names) (t .cells) (rootOf t) hash key .answer
+  is = ap (λ (s : Search). s .answer) (find-fit t hash key fit)
 
-  at-slot : (x : ℕ) → Stands x (h .tree) → pairOf (t .names) x ≡ pair hash key → finds t hash key ≡ given x
+  at-slot : (x : ℕ) → Stands x (h .tree) → pairOf (t .names) x ≡ pair hash key → finds t hash key .answer ≡ given x
   at-slot x z n = is ∙ found-at fit h hash key x z n
 
-  at-none : (Has (t .names) (h .tree) hash key → ⊥) → finds t hash key ≡ nothing
+  at-none : (Has (t .names) (h .tree) hash key → ⊥) → finds t hash key .answer ≡ nothing
   at-none n = is ∙ found-none fit h hash key n
 
   pub find-sound-claims : FindsSound t fit h hash key
-  find-sound-claims = record { at = λ slot. (to slot, λ r. at-slot slot (r .0) (r .1)); none = (lacks, at-none); never-nine = λ e. nine e (seen fit h hash key) }
+  find-sound-claims =
+      record {
+        at = λ slot. (to slot, λ r. at-slot slot (r .0) (r .1));
+        none = (lacks, at-none);
+        never-nine = λ e. nine e (seen fit h hash key);
+        once = find-claims t hash key .looks fit .once (λ e. nine e (seen fit h hash key));
+      }
     where
-      to : (slot : ℕ) → finds t hash key ≡ given slot → Stands slot (h .tree) × (pairOf (t .names) slot ≡ pair hash key)
+      to : (slot : ℕ) → finds t hash key .answer ≡ given slot → Stands slot (h .tree) × (pairOf (t .names) slot ≡ pair hash key)
       to slot e = go (seen fit h hash key)
         where
           go : Seen h hash key → Stands slot (h .tree) × (pairOf (t .names) slot ≡ pair hash key)
@@ -44,10 +49,10 @@ module _ {t : Live} (fit : Fit t) (h : Sound t) (hash key : ℕ) where
               (subst (λ (k : ℕ). Stands k (h .tree)) y z, subst (λ (k : ℕ). pairOf (t .names) k ≡ pair hash key) y n)
           go (absent n s) = absurd (none-some (value (sym (at-none n) ∙ e)))
 
-      lacks : finds t hash key ≡ nothing → Has (t .names) (h .tree) hash key → ⊥
+      lacks : finds t hash key .answer ≡ nothing → Has (t .names) (h .tree) hash key → ⊥
       lacks e a = none-some (value (sym e ∙ at-slot (a .slot) (a .stands) (a .named)))
 
-      nine : finds t hash key ≡ refused 9 → Seen h hash key → ⊥
+      nine : finds t hash key .answer ≡ refused 9 → Seen h hash key → ⊥
       nine e (there x z n s) = omega (arith, number (sym (at-slot x z n) ∙ e))
       nine e (absent n s) = omega (arith, number (sym (at-none n) ∙ e))
 

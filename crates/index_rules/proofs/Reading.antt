@@ -1,5 +1,5 @@
 -- find and check answer 1 exactly where the words are not fit; on fit words they are the search and the walk, whose answers are none of them 1.
-use mathlib.Core.Path.{_≡_, refl, sym, _∙_}
+use mathlib.Core.Path.{_≡_, refl, ap, sym, _∙_}
 use mathlib.Core.Logic.{_↔_}
 use mathlib.Core.Bool.{Bool, true, false}
 use mathlib.Core.List.{List}
@@ -8,7 +8,7 @@ use native.Mathlib.Omega.{arith}
 use Rattle.slots.specs.Words.{pick}
 use Rattle.slots.specs.Answers.{Answer, none, refused}
 use Rattle.slots.proofs.Laws.{number}
-use Rattle.tree_rules.specs.Find.{found, slotsOf}
+use Rattle.tree_rules.specs.Find.{Search, ends, found, slotsOf}
 use Rattle.tree_rules.specs.Check.{checked, walked, Walk, walkAnswer, passed, failed, strayed}
 use Rattle.tree_rules.specs.Claims.{Finds as Searches, Checks as Walkings}
 use Rattle.tree_rules.proofs.Claims.{claims}
@@ -47,15 +47,36 @@ module _ (t : Live) (hash key : ℕ) where
   at-root : Searches (t .names) (t .cells) (rootOf t) hash key
   at-root = claims .finds (t .names) (t .cells) (rootOf t) hash key
 
-  pub find-claims : Finds t hash key
+  pub find-fit : Fit t → finds t hash key ≡ found (t .names) (t .cells) (rootOf t) hash key
   unfolding finds
+  find-fit h = simp (fit-fits t h)
+
+  pub find-unfit : (Fit t → ⊥) → finds t hash key ≡ ends (refused 1)
+  unfolding finds
+  find-unfit n = go (fits t) refl
+    where
+      go : (b : Bool) → fits t ≡ b → pick (fits t) (found (t .names) (t .cells) (rootOf t) hash key) (ends (refused 1)) ≡ ends (refused 1)
+      go true z = absurd (n (fits-fit t z))
+      go false z = simp z
+
+  find-gated : finds t hash key .answer ≡ gated t (found (t .names) (t .cells) (rootOf t) hash key .answer)
+  unfolding finds
+  find-gated = go (fits t) (found (t .names) (t .cells) (rootOf t) hash key)
+    where
+      go : (b : Bool) (s : Search) → pick b s (ends (refused 1)) .answer ≡ pick b (s .answer) (refused 1)
+      go true s = refl
+      go false s = refl
+
+  pub find-claims : Finds t hash key
   find-claims =
       let a = found (t .names) (t .cells) (rootOf t) hash key .answer in
       record {
-        one = one-only t a (λ e. omega (arith, at-root .only-nine 1 (omega arith) e));
-        nine = others t a (λ e. omega (arith, number e)) (at-root .nine);
-        at = λ slot. others t a (λ e. omega (arith, number e)) (at-root .at slot);
-        none = others t a (λ e. omega (arith, number e)) (at-root .none);
+        one = rw find-gated (one-only t a (λ e. omega (arith, at-root .only-nine 1 (omega arith) e)));
+        nine = rw find-gated (others t a (λ e. omega (arith, number e)) (at-root .nine));
+        at = λ slot. rw find-gated (others t a (λ e. omega (arith, number e)) (at-root .at slot));
+        none = rw find-gated (others t a (λ e. omega (arith, number e)) (at-root .none));
+        unfit-looks = λ n. ap (λ (s : Search). s .looks) (find-unfit n);
+        looks = λ h. rw (find-fit h) (at-root .looks);
       }
 
 -- The walk's answer is never 1.

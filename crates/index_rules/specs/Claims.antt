@@ -8,13 +8,14 @@ use lib.ListN.{length, getD}
 use Rattle.slots.specs.Words.{place, cell}
 use Rattle.slots.specs.Pairs.{pair, pairOf}
 use Rattle.slots.specs.Answers.{some, given, nothing, refused}
-use Rattle.tree_rules.specs.Find.{slotsOf, Lost, Here, Missed}
+use Rattle.tree_rules.specs.Find.{slotsOf, Follows, Lost, Here, Missed}
+use Rattle.tree_rules.specs.Looks.{LooksAt}
 use Rattle.tree_rules.specs.Check.{passed, failed, strayed, Walks}
 use Rattle.index_rules.specs.Live.{Live, Fit, rootOf, countOf}
 use Rattle.index_rules.specs.Find.{finds}
 use Rattle.index_rules.specs.Check.{checks}
 use Rattle.index_rules.specs.Sound.{Sound, T1, T2, T3, T4, T5, T6, T7, rule1, rule2, rule3, rule4, rule5, rule6, rule7, sounds}
-use Rattle.tree_rules.specs.Tree.{Tree, slots, Rising}
+use Rattle.tree_rules.specs.Tree.{Tree, slots, times, Rising}
 use Rattle.redblack.specs.Balance.{OneFewer}
 use Rattle.redblack.specs.Holding.{Stands, Has}
 use Rattle.index_rules.specs.Index.{Index, FitIndex, lengthOf, linesOf, at}
@@ -29,12 +30,15 @@ use Rattle.index_rules.specs.Calls.{Call, after, Allowed, Places, Lowest
 -- find on any words, for any pair.
 pub record Finds (t : Live) (hash key : ℕ) : Type 0 where
   -- 1 Unfit, "slice lengths disagree, a capacity .. breaks its rule": exactly then
-  pub one : (finds t hash key ≡ refused 1) ↔ (Fit t → ⊥)
+  pub one : (finds t hash key .answer ≡ refused 1) ↔ (Fit t → ⊥)
   -- 9 Lost: exactly where the words are fit and the search is lost
-  pub nine : (finds t hash key ≡ refused 9) ↔ (Fit t × Lost (t .names) (t .cells) (rootOf t) hash key)
+  pub nine : (finds t hash key .answer ≡ refused 9) ↔ (Fit t × Lost (t .names) (t .cells) (rootOf t) hash key)
   -- the slot, and Nothing, exactly where the words are fit and the search comes to them
-  pub at : (slot : ℕ) → (finds t hash key ≡ given slot) ↔ (Fit t × Here (t .names) (t .cells) (rootOf t) hash key slot)
-  pub none : (finds t hash key ≡ nothing) ↔ (Fit t × Missed (t .names) (t .cells) (rootOf t) hash key)
+  pub at : (slot : ℕ) → (finds t hash key .answer ≡ given slot) ↔ (Fit t × Here (t .names) (t .cells) (rootOf t) hash key slot)
+  pub none : (finds t hash key .answer ≡ nothing) ↔ (Fit t × Missed (t .names) (t .cells) (rootOf t) hash key)
+  -- 1 has no looks; on fit words they are the slots that the search follows from the root, in order
+  pub unfit-looks : (Fit t → ⊥) → finds t hash key .looks ≡ []
+  pub looks : Fit t → LooksAt (t .names) hash key (Follows (t .names) (t .cells) (rootOf t) hash key) (finds t hash key)
 
 -- check, the source's own, on any words.
 pub record Checks (t : Live) : Type 0 where
@@ -60,11 +64,12 @@ pub record Sounds (t : Live) : Type 0 where
   pub rule-six : Fit t → T1 t → {tree : Tree} → T3 t tree → (rule6 t ≡ true) ↔ T6 tree
   pub rule-seven : Fit t → T1 t → (rule7 t ≡ true) ↔ ((chain : List ℕ) × T7 t chain)
 
--- find on a sound tree: the slot exactly where the pair is, Nothing exactly where it is not, never 9.
+-- find on a sound tree: the slot exactly where the pair is, Nothing exactly where it is not, never 9; and no slot is looked at twice.
 pub record FindsSound (t : Live) (fit : Fit t) (h : Sound t) (hash key : ℕ) : Type 0 where
-  pub at : (slot : ℕ) → (finds t hash key ≡ given slot) ↔ (Stands slot (h .tree) × (pairOf (t .names) slot ≡ pair hash key))
-  pub none : (finds t hash key ≡ nothing) ↔ (Has (t .names) (h .tree) hash key → ⊥)
-  pub never-nine : finds t hash key ≡ refused 9 → ⊥
+  pub at : (slot : ℕ) → (finds t hash key .answer ≡ given slot) ↔ (Stands slot (h .tree) × (pairOf (t .names) slot ≡ pair hash key))
+  pub none : (finds t hash key .answer ≡ nothing) ↔ (Has (t .names) (h .tree) hash key → ⊥)
+  pub never-nine : finds t hash key .answer ≡ refused 9 → ⊥
+  pub once : (x : ℕ) → times x (finds t hash key .looks) ≤ 1
 
 -- The contents of a sound tree are one list, and it strictly rises: two trees have equal contents exactly if they hold the same.
 pub record Contained (t : Live) (fit : Fit t) : Type 0 where

@@ -1,9 +1,9 @@
--- find: 1 where the words are not fit, else what find_tree_node answers from the header's root.
+-- find: 1 where the words are not fit, else what find_tree_node gives from the header's root.
 use Prim.Native.Nat.{ℕ}
 use Rattle.slots.specs.Words.{pick}
-use Rattle.slots.specs.Answers.{Answer, refused}
-use Rattle.tree_rules.specs.Find.{found}
+use Rattle.slots.specs.Answers.{refused}
+use Rattle.tree_rules.specs.Find.{Search, ends, found}
 use Rattle.index_rules.specs.Live.{Live, rootOf, fits}
 
-unfoldable pub finds : Live → ℕ → ℕ → Answer
-finds t hash key = pick (fits t) (found (t .names) (t .cells) (rootOf t) hash key .answer) (refused 1)
+unfoldable pub finds : Live → ℕ → ℕ → Search
+finds t hash key = pick (fits t) (found (t .names) (t .cells) (rootOf t) hash key) (ends (refused 1))

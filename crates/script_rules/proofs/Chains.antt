@@ -13,7 +13,7 @@ use Rattle.index_rules.specs.Live.{Live, Fit, firstOf, countOf}
 use Rattle.index_rules.specs.Sound.{Sound, used}
 use Rattle.index_rules.proofs.Fit.{fit-fits, half}
 use Rattle.script_rules.specs.Text.{entriesText}
-use Rattle.script_rules.specs.Answers.{counted, more, met, entryLine, entryLines, linesOf, listing}
+use Rattle.script_rules.specs.Answers.{numberLine, more, met, entryLine, entryLines, entryLinesOf, listing}
 use Rattle.script_rules.proofs.Listing.{met-null, met-on}
 use Rattle.tree_rules.specs.Find.{slotsOf}
 
@@ -23,12 +23,12 @@ met-chain v n cells s (ended e) h = met-null v n cells _ e
 met-chain zero n cells s (linked w p c) h = absurd (omega arith)
 met-chain (suc v) n cells {q} {i} s (linked w p c) h = met-on v n cells i (omega arith) w ∙ ap more (met-chain v n cells s c (omega arith))
 
-lines-chain : (n : ℕ) (names cells : List ℕ) {q i : ℕ} {l : List ℕ} → Chain n cells q i l → entryLines (length l) names cells i ≡ linesOf names cells l
-unfolding entryLines linesOf
+lines-chain : (n : ℕ) (names cells : List ℕ) {q i : ℕ} {l : List ℕ} → Chain n cells q i l → entryLines (length l) names cells i ≡ entryLinesOf names cells l
+unfolding entryLines entryLinesOf
 lines-chain n names cells (ended e) = refl
 lines-chain n names cells {q} {i} (linked w p c) = ap (λ (m : List ℕ). entryLine names cells i ++ m) (lines-chain n names cells c)
 
-pub listed : (t : Live) → Fit t → (h : Sound t) → listing t ≡ counted entriesText (countOf t) ++ linesOf (t .names) (t .cells) (h .chain)
+pub listed : (t : Live) → Fit t → (h : Sound t) → listing t ≡ numberLine entriesText (countOf t) ++ entryLinesOf (t .names) (t .cells) (h .chain)
 unfolding listing
 listed t fit h =
     let n = slotsOf (t .names) in

@@ -12,6 +12,7 @@ use Rattle.script_rules.specs.Commands.{Command, insert, remove, find, r
 use Rattle.script_rules.specs.Feeding.{Line, longest, Desk, Fed, feeds, deskOf}
 use Rattle.script_rules.specs.Claims.{Means, Calls, Claims}
 use Rattle.script_rules.proofs.Numbers.{decimal-claims}
+use Rattle.script_rules.proofs.Asking.{asks}
 use Rattle.script_rules.proofs.Meaning.{meant-told, text-meant}
 use Rattle.script_rules.proofs.Feeding.{feeds-short, feeds-long}
 use Rattle.script_rules.proofs.Room.{digits-short, answer-short, typed-whole}
@@ -96,4 +97,5 @@ claims = record {
   last-line = last-heard;
   no-line = none-heard;
   lists = listed;
+  asks = asks;
 }

@@ -8,4 +8,5 @@ pub mod Room
 pub mod Cutting
 pub mod Lines
 pub mod Chains
+pub mod Asking
 pub mod Claims

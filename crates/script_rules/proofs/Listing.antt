@@ -11,7 +11,7 @@ use Rattle.slots.specs.Answers.{Value, none, some}
 use Rattle.index_rules.specs.Live.{Live, fits, firstOf}
 use Rattle.index_rules.specs.Index.{Index, fitsIndex, fitsJournal, lengthOf}
 use Rattle.script_rules.specs.Text.{newline, space, decimal, entriesText, noText, markText}
-use Rattle.script_rules.specs.Answers.{counted, more, met, entryLine, entryLines, listing, marking}
+use Rattle.script_rules.specs.Answers.{numberLine, more, met, entryLine, entryLines, listing, marking}
 use Rattle.script_rules.specs.Feeding.{Paper, typedOne, typed}
 use Rattle.script_rules.proofs.Typing.{typed-append}
 use Rattle.tree_rules.specs.Find.{slotsOf}
@@ -99,32 +99,32 @@ entries-on p names cells (suc left) i h e f =
 
 -- A list is refused, lost, or printed whole.
 module _ (p : Paper) (t : Live) {b : Bool} (f : b ≡ fits t) where
-  pub list-unfit : {q : Paper} → b ≡ false → q ≡ typed p (counted noText 1) → q ≡ typed p (listing t)
+  pub list-unfit : {q : Paper} → b ≡ false → q ≡ typed p (numberLine noText 1) → q ≡ typed p (listing t)
   unfolding listing
   list-unfit n e = rw (← f, n) e
 
   module _ (y : b ≡ true) {first : ℕ} (at : first ≡ firstOf t) where
-    pub list-lost : {q : Paper} → none ≡ met (slotsOf (t .names)) (slotsOf (t .names)) (t .cells) first → q ≡ typed p (counted noText 9) → q ≡ typed p (listing t)
+    pub list-lost : {q : Paper} → none ≡ met (slotsOf (t .names)) (slotsOf (t .names)) (t .cells) first → q ≡ typed p (numberLine noText 9) → q ≡ typed p (listing t)
     unfolding listing
     list-lost m e = rw (← f, y, ← at, ← m) e
 
-    pub list-all : {c : ℕ} {q r : Paper} → some c ≡ met (slotsOf (t .names)) (slotsOf (t .names)) (t .cells) first → q ≡ typed p (counted entriesText c)
+    pub list-all : {c : ℕ} {q r : Paper} → some c ≡ met (slotsOf (t .names)) (slotsOf (t .names)) (t .cells) first → q ≡ typed p (numberLine entriesText c)
         → r ≡ typed q (entryLines c (t .names) (t .cells) first) → r ≡ typed p (listing t)
     unfolding listing
     list-all {c} m e g =
         rw (← f, y, ← at, ← m, ← at)
-        (g ∙ ap (λ (x : Paper). typed x (entryLines c (t .names) (t .cells) first)) e ∙ sym (typed-append p (counted entriesText c) _))
+        (g ∙ ap (λ (x : Paper). typed x (entryLines c (t .names) (t .cells) first)) e ∙ sym (typed-append p (numberLine entriesText c) _))
 
 module _ (p : Paper) (ix : Index) {b : Bool} (f : b ≡ fits (ix .live)) where
-  pub mark-unfit : {q : Paper} → b ≡ false → q ≡ typed p (counted noText 1) → q ≡ typed p (marking ix)
+  pub mark-unfit : {q : Paper} → b ≡ false → q ≡ typed p (numberLine noText 1) → q ≡ typed p (marking ix)
   unfolding marking fitsIndex
   mark-unfit n e = rw (← f, n) e
 
   module _ (y : b ≡ true) {j : Bool} (g : j ≡ fitsJournal (ix .lines)) where
-    pub mark-journal : {q : Paper} → j ≡ false → q ≡ typed p (counted noText 1) → q ≡ typed p (marking ix)
+    pub mark-journal : {q : Paper} → j ≡ false → q ≡ typed p (numberLine noText 1) → q ≡ typed p (marking ix)
     unfolding marking fitsIndex
     mark-journal n e = rw (← f, y, ← g, n) e
 
-    pub mark-all : {q : Paper} {m : ℕ} → j ≡ true → m ≡ lengthOf (ix .lines) → q ≡ typed p (counted markText m) → q ≡ typed p (marking ix)
+    pub mark-all : {q : Paper} {m : ℕ} → j ≡ true → m ≡ lengthOf (ix .lines) → q ≡ typed p (numberLine markText m) → q ≡ typed p (marking ix)
     unfolding marking fitsIndex
     mark-all n l e = rw (← f, y, ← g, n, ← l) e

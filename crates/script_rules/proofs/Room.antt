@@ -18,11 +18,11 @@ use Rattle.index_rules.specs.Insert.{inserts}
 use Rattle.index_rules.specs.Remove.{removes}
 use Rattle.index_rules.specs.Rollback.{rolls}
 use Rattle.index_rules.proofs.Fit.{fits-fit, half}
-use Rattle.script_rules.specs.Text.{digits, noText, markText, slotText, goneText, atText, backText}
+use Rattle.script_rules.specs.Text.{digits, space, noText, markText, slotText, goneText, atText, backText}
 use Rattle.script_rules.specs.Commands.{Command, insert, remove, find, rollback, mark, list, bad}
-use Rattle.script_rules.specs.Answers.{counted, valued, told, more, met, entryLine, entryLines, counting, listing, marking, obeyed}
+use Rattle.script_rules.specs.Answers.{numbered, numberLine, valueLine, told, foundValue, foundText, searchLine, more, met, entryLine, entryLines, counting, listing, marking, obeyed}
 use Rattle.script_rules.specs.Feeding.{Paper, typedOne, typed, longest}
-use Rattle.tree_rules.specs.Find.{slotsOf}
+use Rattle.tree_rules.specs.Find.{Counted, counted, slotsOf}
 
 pub digits-short : (k x : ℕ) → length (digits k x) ≤ k
 unfolding digits
@@ -33,17 +33,37 @@ digits-short (suc k) x = go (digits-short k (x / 10)) (ltb x 10)
     go h true = omega arith
     go h false = simp length-append (omega arith)
 
-counted-short : (word : List ℕ) (v : ℕ) → length (counted word v) ≤ length word + 21
-counted-short word v = simp length-append (omega (arith, digits-short 20 v))
+line-short : (word : List ℕ) (v : ℕ) → length (numberLine word v) ≤ length word + 21
+line-short word v = simp length-append (omega (arith, digits-short 20 v))
 
 told-short : (word : List ℕ) (a : Answer) → length word ≤ 8 → length (told word a) ≤ 29
 unfolding told
 told-short word a h = go (eqb (a .number) 0) (a .value)
   where
-    go : (t : Bool) (v : Value) → length (pick t (valued word v) (counted noText (a .number))) ≤ 29
-    go true (some v) = omega (arith, counted-short word v)
+    go : (t : Bool) (v : Value) → length (pick t (valueLine word v) (numberLine noText (a .number))) ≤ 29
+    go true (some v) = omega (arith, line-short word v)
     go true none = omega arith
-    go false v = omega (arith, counted-short noText (a .number))
+    go false v = omega (arith, line-short noText (a .number))
+
+search-short : (c : Counted) → length (searchLine c) ≤ 50
+unfolding searchLine foundText
+search-short c = go (eqb (c .answer .number) 1) (eqb (c .answer .number) 0) (c .answer .value)
+  where
+    front : (t : Bool) (v : Value) → length (pick t (foundValue v) (numbered noText (c .answer .number))) ≤ 23
+    front true (some v) = simp length-append (omega (arith, digits-short 20 v))
+    front true none = omega arith
+    front false v = simp length-append (omega (arith, digits-short 20 (c .answer .number)))
+
+    go : (u t : Bool) (v : Value)
+        → length (pick u (numberLine noText 1) (pick t (foundValue v) (numbered noText (c .answer .number)) ++ numberLine (space ∷ []) (c .looks))) ≤ 50
+    go true t v = omega (arith, line-short noText 1)
+    go false t v =
+        omega (
+          arith,
+          front t v,
+          line-short (space ∷ []) (c .looks),
+          length-append (pick t (foundValue v) (numbered noText (c .answer .number))) (numberLine (space ∷ []) (c .looks)),
+        )
 
 entry-short : (names cells : List ℕ) (i : ℕ) → length (entryLine names cells i) ≤ 63
 unfolding entryLine
@@ -77,28 +97,28 @@ unfolding listing
 listing-short t = go (fits t) refl (met (slotsOf (t .names)) (slotsOf (t .names)) (t .cells) (firstOf t)) refl
   where
     go : (b : Bool) → fits t ≡ b → (r : Value) → met (slotsOf (t .names)) (slotsOf (t .names)) (t .cells) (firstOf t) ≡ r
-        → length (pick b (counting t r) (counted noText 1)) ≤ longest
+        → length (pick b (counting t r) (numberLine noText 1)) ≤ longest
     go true f (some c) q =
         let fit = fits-fit t f in
         simp length-append
         (omega (arith, digits-short 20 c, entries-short c (t .names) (t .cells) (firstOf t), met-few (slotsOf (t .names)) (slotsOf (t .names)) (t .cells) (firstOf t) q, half fit, fit .most))
-    go true f none q = omega (arith, counted-short noText 9)
-    go false f r q = omega (arith, counted-short noText 1)
+    go true f none q = omega (arith, line-short noText 9)
+    go false f r q = omega (arith, line-short noText 1)
 
 marking-short : (ix : Index) → length (marking ix) ≤ longest
 unfolding marking
 marking-short ix = go (fitsIndex ix)
   where
-    go : (b : Bool) → length (pick b (counted markText (lengthOf (ix .lines))) (counted noText 1)) ≤ longest
-    go true = omega (arith, counted-short markText (lengthOf (ix .lines)))
-    go false = omega (arith, counted-short noText 1)
+    go : (b : Bool) → length (pick b (numberLine markText (lengthOf (ix .lines))) (numberLine noText 1)) ≤ longest
+    go true = omega (arith, line-short markText (lengthOf (ix .lines)))
+    go false = omega (arith, line-short noText 1)
 
 -- No answer is longer than `longest`.
 pub answer-short : (ix : Index) (c : Command) → length (obeyed ix c .text) ≤ longest
 unfolding obeyed
 answer-short ix (insert h k p) = omega (arith, told-short slotText (inserts ix h k p .answer) (omega arith))
 answer-short ix (remove h k) = omega (arith, told-short goneText (removes ix h k .answer) (omega arith))
-answer-short ix (find h k) = omega (arith, told-short atText (finds (ix .live) h k) (omega arith))
+answer-short ix (find h k) = omega (arith, search-short (counted (finds (ix .live) h k)))
 answer-short ix (rollback m) = omega (arith, told-short backText (rolls ix m .answer) (omega arith))
 answer-short ix mark = marking-short ix
 answer-short ix list = listing-short (ix .live)

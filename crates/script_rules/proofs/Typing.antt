@@ -9,7 +9,7 @@ use lib.ListN.{length, drop, getD}
 use lib.Seq.{drop-cons}
 use borrow.Author.Tests.{lt-ltb, le-ltb}
 use Rattle.script_rules.specs.Text.{newline, digits, decimal}
-use Rattle.script_rules.specs.Answers.{counted}
+use Rattle.script_rules.specs.Answers.{numberLine}
 use Rattle.script_rules.specs.Feeding.{Paper, typedOne, typed}
 
 -- Bytes after bytes.
@@ -58,7 +58,7 @@ digits-more p q r (suc k) x n h e f =
 
 -- A word, a number and the end of the line, one after another.
 pub word-number-end : (p : Paper) (word : List ℕ) (v : ℕ) {q r s : Paper} → q ≡ typed p word → r ≡ typed q (decimal v) → s ≡ typedOne r newline
-    → s ≡ typed p (counted word v)
+    → s ≡ typed p (numberLine word v)
 word-number-end p word v e f g =
     g ∙ sym (typed-one _ newline) ∙ ap (λ (x : Paper). typed x (newline ∷ [])) (f ∙ ap (λ (x : Paper). typed x (decimal v)) e)
     ∙ sym (typed-append _ (decimal v) (newline ∷ [])) ∙ sym (typed-append p word _)

@@ -12,19 +12,35 @@ use Rattle.index_rules.specs.Remove.{removes}
 use Rattle.index_rules.specs.Rollback.{rolls}
 use Rattle.script_rules.specs.Text.{newline, space, decimal, slotText, goneText, atText, noneText, markText, backText, entriesText, noText, badText}
 use Rattle.script_rules.specs.Commands.{Command, insert, remove, find, rollback, mark, list, bad}
-use Rattle.tree_rules.specs.Find.{slotsOf}
+use Rattle.tree_rules.specs.Find.{Counted, counted, slotsOf}
+
+-- A word and a number.
+abbrev pub numbered : List ℕ → ℕ → List ℕ
+numbered word v = word ++ decimal v
 
 -- A word and a number, and the line ends.
-abbrev pub counted : List ℕ → ℕ → List ℕ
-counted word v = word ++ (decimal v ++ (newline ∷ []))
+abbrev pub numberLine : List ℕ → ℕ → List ℕ
+numberLine word v = word ++ (decimal v ++ (newline ∷ []))
 
-abbrev pub valued : List ℕ → Value → List ℕ
-valued word (some v) = counted word v
-valued word none = noneText ++ (newline ∷ [])
+abbrev pub valueLine : List ℕ → Value → List ℕ
+valueLine word (some v) = numberLine word v
+valueLine word none = noneText ++ (newline ∷ [])
 
 -- "A refusal prints `no` and its number."
 unfoldable pub told : List ℕ → Answer → List ℕ
-told word a = pick (eqb (a .number) 0) (valued word (a .value)) (counted noText (a .number))
+told word a = pick (eqb (a .number) 0) (valueLine word (a .value)) (numberLine noText (a .number))
+
+-- What a search came to, before its looks: the slot, that there is none, or a refusal.
+abbrev pub foundValue : Value → List ℕ
+foundValue (some v) = numbered atText v
+foundValue none = noneText
+
+unfoldable pub foundText : Answer → List ℕ
+foundText a = pick (eqb (a .number) 0) (foundValue (a .value)) (numbered noText (a .number))
+
+-- "The script program's `?` prints the number last on its line": how many slots were looked at. A refusal before the search has none.
+unfoldable pub searchLine : Counted → List ℕ
+searchLine c = pick (eqb (c .answer .number) 1) (numberLine noText 1) (foundText (c .answer) ++ numberLine (space ∷ []) (c .looks))
 
 -- One more, where there is a number.
 abbrev pub more : Value → Value
@@ -48,21 +64,21 @@ entryLines zero names cells i = []
 entryLines (suc c) names cells i = entryLine names cells i ++ entryLines c names cells (cell cells i next)
 
 -- The lines of these slots.
-unfoldable pub linesOf : List ℕ → List ℕ → List ℕ → List ℕ
-linesOf names cells [] = []
-linesOf names cells (i ∷ l) = entryLine names cells i ++ linesOf names cells l
+unfoldable pub entryLinesOf : List ℕ → List ℕ → List ℕ → List ℕ
+entryLinesOf names cells [] = []
+entryLinesOf names cells (i ∷ l) = entryLine names cells i ++ entryLinesOf names cells l
 
 abbrev pub counting : Live → Value → List ℕ
-counting t (some c) = counted entriesText c ++ entryLines c (t .names) (t .cells) (firstOf t)
-counting t none = counted noText 9
+counting t (some c) = numberLine entriesText c ++ entryLines c (t .names) (t .cells) (firstOf t)
+counting t none = numberLine noText 9
 
 -- "`l` lists hash, key, place by the chain from first."
 unfoldable pub listing : Live → List ℕ
-listing t = pick (fits t) (counting t (met (slotsOf (t .names)) (slotsOf (t .names)) (t .cells) (firstOf t))) (counted noText 1)
+listing t = pick (fits t) (counting t (met (slotsOf (t .names)) (slotsOf (t .names)) (t .cells) (firstOf t))) (numberLine noText 1)
 
 -- "The mark is the length."
 unfoldable pub marking : Index → List ℕ
-marking ix = pick (fitsIndex ix) (counted markText (lengthOf (ix .lines))) (counted noText 1)
+marking ix = pick (fitsIndex ix) (numberLine markText (lengthOf (ix .lines))) (numberLine noText 1)
 
 -- What a command comes to: what is printed, and what is left.
 pub record Said : Type 0 where
@@ -75,7 +91,7 @@ saying word o = record { text = told word (o .answer); left = o .left }
 unfoldable pub obeyed : Index → Command → Said
 obeyed ix (insert h k p) = saying slotText (inserts ix h k p)
 obeyed ix (remove h k) = saying goneText (removes ix h k)
-obeyed ix (find h k) = record { text = told atText (finds (ix .live) h k); left = ix }
+obeyed ix (find h k) = record { text = searchLine (counted (finds (ix .live) h k)); left = ix }
 obeyed ix (rollback m) = saying backText (rolls ix m)
 obeyed ix mark = record { text = marking ix; left = ix }
 obeyed ix list = record { text = listing (ix .live); left = ix }

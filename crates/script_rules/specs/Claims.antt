@@ -7,9 +7,11 @@ use lib.ListN.{length, take}
 use Rattle.index_rules.specs.Live.{Live, Fit, countOf}
 use Rattle.index_rules.specs.Index.{Index}
 use Rattle.index_rules.specs.Sound.{Sound}
-use Rattle.script_rules.specs.Text.{newline, decimal, worth, Digits, entriesText}
-use Rattle.script_rules.specs.Commands.{Command, bad, spoken, textOf, Fits}
-use Rattle.script_rules.specs.Answers.{counted, linesOf, listing, obeyed}
+use Rattle.slots.specs.Answers.{given, nothing, refused}
+use Rattle.index_rules.specs.Find.{finds}
+use Rattle.script_rules.specs.Text.{newline, space, decimal, worth, Digits, atText, noneText, noText, entriesText}
+use Rattle.script_rules.specs.Commands.{Command, find, bad, spoken, textOf, Fits}
+use Rattle.script_rules.specs.Answers.{numberLine, entryLinesOf, listing, obeyed}
 use Rattle.script_rules.specs.Feeding.{Line, blank, Paper, typed, longest, feeds, ends, Heard, prefixed, heard, deskOf, printed, Run, NoNewline}
 
 -- "decimal numbers", "with no leading zero".
@@ -37,6 +39,18 @@ pub record Calls (chunk : List ℕ) (line : Line) (ix : Index) (buffer : List �
   pub most : feeds chunk (deskOf line ix buffer) .taken ≤ length chunk
   pub some : longest ≤ length buffer → 0 < length chunk → 0 < feeds chunk (deskOf line ix buffer) .taken
 
+-- "The script program's `?` prints the number last on its line": the slot and the looks, that there is none and the looks, 9 and the looks;
+-- 1 is answered before anything is looked at.
+pub record Asks (ix : Index) (h k : ℕ) : Type 0 where
+  pub at : (slot : ℕ) → finds (ix .live) h k .answer ≡ given slot
+      → obeyed ix (find h k) .text ≡ atText ++ (decimal slot ++ (space ∷ (decimal (length (finds (ix .live) h k .looks)) ++ (newline ∷ []))))
+  pub none : finds (ix .live) h k .answer ≡ nothing
+      → obeyed ix (find h k) .text ≡ noneText ++ (space ∷ (decimal (length (finds (ix .live) h k .looks)) ++ (newline ∷ [])))
+  pub nine : finds (ix .live) h k .answer ≡ refused 9
+      → obeyed ix (find h k) .text ≡ noText ++ (decimal 9 ++ (space ∷ (decimal (length (finds (ix .live) h k .looks)) ++ (newline ∷ []))))
+  pub one : finds (ix .live) h k .answer ≡ refused 1 → obeyed ix (find h k) .text ≡ noText ++ (decimal 1 ++ (newline ∷ []))
+  pub left : obeyed ix (find h k) .left ≡ ix
+
 pub record Claims : Type 0 where
   pub decimals : (x : ℕ) → Decimals x
   pub means : (l : List ℕ) → Means l
@@ -57,4 +71,5 @@ pub record Claims : Type 0 where
   pub no-line : (ix : Index) (buffer : List ℕ) → longest ≤ length buffer
       → (printed (ends (deskOf blank ix buffer)) ≡ []) × (ends (deskOf blank ix buffer) .desk .index ≡ ix)
   -- "`l` lists hash, key, place by the chain from first"
-  pub lists : (t : Live) → Fit t → (h : Sound t) → listing t ≡ counted entriesText (countOf t) ++ linesOf (t .names) (t .cells) (h .chain)
+  pub lists : (t : Live) → Fit t → (h : Sound t) → listing t ≡ numberLine entriesText (countOf t) ++ entryLinesOf (t .names) (t .cells) (h .chain)
+  pub asks : (ix : Index) (h k : ℕ) → Asks ix h k

@@ -3,6 +3,7 @@ use mathlib.Core.Path.{_≡_}
 use Prim.Native.Nat.{ℕ, suc, _-_, _<_, _≤_}
 use native.Mathlib.Omega.{arith}
 use Rattle.slots.specs.Answers.{refused}
+use Rattle.tree_rules.specs.Find.{ends}
 use Rattle.set_rules.specs.Words.{Set, tablesOf, Bin}
 use Rattle.set_rules.specs.Lookup.{homeBin, asked, forwarded}
 
@@ -15,7 +16,7 @@ module _ (s : Set) (hash key : ℕ) where
       rw (z, e)
 
   -- Moved in the last table.
-  pub past-last : (k : ℕ) → tablesOf s ≤ k → forwarded (tablesOf s - k) s k hash key ≡ refused 9
+  pub past-last : (k : ℕ) → tablesOf s ≤ k → forwarded (tablesOf s - k) s k hash key ≡ ends (refused 9)
   unfolding forwarded
   past-last k l =
       let z : tablesOf s - k ≡ 0 = omega arith in

@@ -8,6 +8,7 @@ use borrow.Author.Tests.{lt-ltb, le-ltb}
 use Rattle.slots.specs.Words.{null}
 use Rattle.slots.specs.Answers.{Answer, given, nothing, refused}
 use Rattle.slots.proofs.Laws.{number, given-is, nothing-given}
+use Rattle.tree_rules.proofs.Trail.{answers, looks}
 use Rattle.set_rules.specs.Words.{Set, tablesOf, Fit, fits}
 use Rattle.set_rules.proofs.Fit.{fits-fit, fit-fits}
 use Rattle.set_rules.specs.Lookup.{lookups, Astray, Hit, Miss}
@@ -15,6 +16,7 @@ use Rattle.set_rules.specs.Cursor.{Cursor, Step, lone, blank, starts, Ba
 use Rattle.set_rules.specs.Walk.{InTables, standing, stepsOn, nexts}
 use Rattle.set_rules.specs.Ways.{Steps}
 use Rattle.set_rules.specs.Walked.{Lookups, Starts}
+use Rattle.set_rules.proofs.Looks.{lookup-most}
 use Rattle.set_rules.proofs.Looking.{Outcome, outcome, astray-nine, hit-given, miss-nothing, unfit-one, unknown-ten, known-loop, fitted}
 use Rattle.set_rules.proofs.Cursors.{Right, fine-right, right-stands, right-not-bad, wrong-bad}
 use Rattle.set_rules.proofs.Stepping.{steps-walked}
@@ -26,10 +28,10 @@ data Gate (s : Set) (t hash key : ℕ) : Answer → Type 0 where
   second : Fit s → tablesOf s ≤ t → Gate s t hash key (refused 10)
   through : Fit s → (l : t < tablesOf s) → {a : Answer} → Outcome s t hash key l a → Gate s t hash key a
 
-gate : (s : Set) (t hash key : ℕ) → Gate s t hash key (lookups s t hash key)
+gate : (s : Set) (t hash key : ℕ) → Gate s t hash key (lookups s t hash key .answer)
 gate s t hash key = go (fitted s t hash key) (decLt t (tablesOf s))
   where
-    go : Dec (Fit s) → Dec (t < tablesOf s) → Gate s t hash key (lookups s t hash key)
+    go : Dec (Fit s) → Dec (t < tablesOf s) → Gate s t hash key (lookups s t hash key .answer)
     go (no n) d = rw (unfit-one s t hash key n) (first n)
     go (yes fit) (no d) = rw (unknown-ten s t hash key fit (omega arith)) (second fit (omega arith))
     go (yes fit) (yes l) = rw (known-loop s t hash key fit l) (through fit l (outcome s t hash key l))
@@ -73,11 +75,14 @@ module _ (s : Set) (t hash key : ℕ) where
   pub lookups-claims : Lookups s t hash key
   lookups-claims =
       record {
-        one = (is-one (gate s t hash key), unfit-one s t hash key);
-        ten = (is-ten (gate s t hash key), λ h. unknown-ten s t hash key (h .0) (h .1));
-        nine = (is-nine (gate s t hash key), λ h. known-loop s t hash key (h .0) (h .1) ∙ astray-nine s t hash key (h .1) (h .2));
-        at = λ slot. (is-at slot (gate s t hash key), λ h. known-loop s t hash key (h .0) (h .1) ∙ hit-given s t hash key (h .1) (h .2));
-        none = (is-none (gate s t hash key), λ h. known-loop s t hash key (h .0) (h .1) ∙ miss-nothing s t hash key (h .1) (h .2));
+        one = (is-one (gate s t hash key), λ n. answers (unfit-one s t hash key n));
+        ten = (is-ten (gate s t hash key), λ h. answers (unknown-ten s t hash key (h .0) (h .1)));
+        nine = (is-nine (gate s t hash key), λ h. answers (known-loop s t hash key (h .0) (h .1)) ∙ astray-nine s t hash key (h .1) (h .2));
+        at = λ slot. (is-at slot (gate s t hash key), λ h. answers (known-loop s t hash key (h .0) (h .1)) ∙ hit-given s t hash key (h .1) (h .2));
+        none = (is-none (gate s t hash key), λ h. answers (known-loop s t hash key (h .0) (h .1)) ∙ miss-nothing s t hash key (h .1) (h .2));
+        one-looks = λ n. looks (unfit-one s t hash key n);
+        ten-looks = λ fit l. looks (unknown-ten s t hash key fit l);
+        most = lookup-most s t hash key;
       }
 
 -- Start.

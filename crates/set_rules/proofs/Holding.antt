@@ -20,11 +20,13 @@ use Rattle.set_rules.specs.Accepted.{Accepted, Place, Listed, HeldIn, Un
 use Rattle.set_rules.proofs.Fit.{small, ends, bini-less}
 use Rattle.set_rules.proofs.Lists.{apart-once, listed-inside, listed-unique}
 use Rattle.tree_rules.proofs.Claims.{claims as shape-claims}
-use Rattle.set_rules.specs.Lookup.{listed, homeBin, Reaches, Astray, Hit}
+use Rattle.tree_rules.proofs.Trail.{answers}
+use Rattle.set_rules.specs.Lookup.{listed, homeBin, lookups, Reaches, Astray, Hit, Miss}
 use Rattle.set_rules.specs.Held.{Reached}
 use Rattle.set_rules.specs.Walked.{LooksUp}
 use Rattle.set_rules.proofs.Reading.{at-null}
 use Rattle.set_rules.proofs.Listing.{decided, onward, stays, lost-nine, here-given}
+use Rattle.set_rules.proofs.Looks.{lookup-looks}
 use Rattle.set_rules.proofs.Looking.{known-loop, whole, comes-in, at-bin, Outcome, outcome}
 
 -- The answer a for the slots l: the slot that has the pair, or Nothing.
@@ -71,14 +73,14 @@ module _ (s : Set) (hash key : ℕ) where
   unlike x (Unlike.other {y = z} {l} d u) h = times-cases x z l h (λ e. rw e d) (λ k. unlike x u k)
 
   one-more : slotsOf (s .names) ≤ null → (v p : ℕ) (l : List ℕ) → p < slotsOf (s .names) → Unlike (s .names) p l
-      → Finds (s .names) hash key l (listed (s .names) (s .cells) v (cell (s .cells) p next) hash key)
-      → Finds (s .names) hash key (p ∷ l) (listed (s .names) (s .cells) (suc v) p hash key)
+      → Finds (s .names) hash key l (listed (s .names) (s .cells) v (cell (s .cells) p next) hash key .answer)
+      → Finds (s .names) hash key (p ∷ l) (listed (s .names) (s .cells) (suc v) p hash key .answer)
   one-more few v p l b u rest = go (decided (s .names) p hash key)
     where
       solid : p ≢ null
       solid = omega arith
 
-      go : Dec (pairOf (s .names) p ≡ pair hash key) → Finds (s .names) hash key (p ∷ l) (listed (s .names) (s .cells) (suc v) p hash key)
+      go : Dec (pairOf (s .names) p ≡ pair hash key) → Finds (s .names) hash key (p ∷ l) (listed (s .names) (s .cells) (suc v) p hash key .answer)
       go (yes e) =
           let z = stays (s .names) (s .cells) p hash key v solid b e in
           record {
@@ -93,10 +95,10 @@ module _ (s : Set) (hash key : ℕ) where
           }
 
   list-finds : slotsOf (s .names) ≤ null → {p : ℕ} {l : List ℕ} → Listed (slotsOf (s .names)) (s .cells) p l → Apart (s .names) l → (v : ℕ) → length l ≤ v
-      → Finds (s .names) hash key l (listed (s .names) (s .cells) v p hash key)
+      → Finds (s .names) hash key l (listed (s .names) (s .cells) v p hash key .answer)
   unfolding times
   list-finds few {p} (Listed.ended e) Apart.none v h =
-      record { at = λ x k f. absurd (omega arith); none = λ n. at-null (s .names) (s .cells) hash key v p e }
+      record { at = λ x k f. absurd (omega arith); none = λ n. answers (at-null (s .names) (s .cells) hash key v p e) }
   list-finds few (Listed.onward b t) (Apart.one u a) zero h = absurd (omega arith)
   list-finds few (Listed.onward {i = p} {l} b t) (Apart.one u a) (suc v) h = one-more few v p l b u (list-finds few t a v (omega arith))
 
@@ -106,7 +108,7 @@ module _ (s : Set) (fit : Fit s) (acc : Accepted s) (hash key : ℕ) where
   home-place k l = record { table = l; index = bini-less fit k l hash }
 
   list-held : (k p : ℕ) → k < tablesOf s → homeBin s k hash ≡ list p
-      → (l : List ℕ) × Listed (slotsOf (s .names)) (s .cells) p l × Finds (s .names) hash key l (listed (s .names) (s .cells) (slotsOf (s .names)) p hash key)
+      → (l : List ℕ) × Listed (slotsOf (s .names)) (s .cells) p l × Finds (s .names) hash key l (listed (s .names) (s .cells) (slotsOf (s .names)) p hash key .answer)
   list-held k p b e =
       let g = acc .lists k (bini (lengthAt s k) hash) p (home-place k b) e in
       let few = small fit in
@@ -124,15 +126,15 @@ module _ (s : Set) (fit : Fit s) (acc : Accepted s) (hash key : ℕ) where
 
   module _ (t : ℕ) (there : t < tablesOf s) where
     held-given : {k slot : ℕ} → Reaches s t hash k → (b : Bin) → homeBin s k hash ≡ b → {l : List ℕ} → HeldIn s b l → 1 ≤ times slot l → pairOf (s .names) slot ≡ pair hash key
-        → whole s t hash key there ≡ given slot
+        → whole s t hash key there .answer ≡ given slot
     held-given {k} {slot} c (list p) e (HeldIn.listed h) m f =
         let g = list-held k p (comes-in s t hash key there c) e in
-        at-bin s t hash key there c e ∙ g .2 .at slot (rw (listed-unique s (small fit) h (g .1)) at m) f
+        answers (at-bin s t hash key there c e) ∙ g .2 .at slot (rw (listed-unique s (small fit) h (g .1)) at m) f
     held-given {k} {slot} c (tree a) e (HeldIn.grown h) m f =
         let g = tree-held k a (comes-in s t hash key there c) e in
-        at-bin s t hash key there c e ∙ g .2 .at slot (rw (rooted-unique (slotsOf (s .names)) (s .cells) (small fit) (rootAt s a) h (g .1)) at m) f
+        answers (at-bin s t hash key there c e) ∙ g .2 .at slot (rw (rooted-unique (slotsOf (s .names)) (s .cells) (small fit) (rootAt s a) h (g .1)) at m) f
 
-    reached-given : {slot : ℕ} → Reached s t hash key slot → whole s t hash key there ≡ given slot
+    reached-given : {slot : ℕ} → Reached s t hash key slot → whole s t hash key there .answer ≡ given slot
     reached-given r = held-given (r .comes) (homeBin s (r .table) hash) refl (r .entry .holds) (r .entry .member) (r .has)
 
     hit-reached : {slot : ℕ} → Hit s t hash key slot → Reached s t hash key slot
@@ -172,12 +174,23 @@ module _ (s : Set) (fit : Fit s) (acc : Accepted s) (hash key : ℕ) where
     never-refused (Outcome.hit h) n l e = omega (arith, number e)
     never-refused (Outcome.miss h) n l e = omega (arith, number e)
 
+    -- A lookup that is not lost looks at no slot twice.
+    looked-once : {a : Answer} → Outcome s t hash key there a → lookups s t hash key .answer ≢ refused 9 → (x : ℕ) → times x (lookups s t hash key .looks) ≤ 1
+    unfolding times
+    looked-once (Outcome.lost h) n x = absurd (not-astray h)
+    looked-once (Outcome.hit (Hit.in-list c e h)) n x = lookup-looks s fit t hash key there .in-list c e .once n x
+    looked-once (Outcome.hit (Hit.in-tree c e h)) n x = lookup-looks s fit t hash key there .in-tree c e .once n x
+    looked-once (Outcome.miss (Miss.in-none c e)) n x = omega (arith, ap (times x) (lookup-looks s fit t hash key there .in-none c e))
+    looked-once (Outcome.miss (Miss.in-list c e h)) n x = lookup-looks s fit t hash key there .in-list c e .once n x
+    looked-once (Outcome.miss (Miss.in-tree c e h)) n x = lookup-looks s fit t hash key there .in-tree c e .once n x
+
     pub looks-up : LooksUp s t hash key
     looks-up =
-        let z = known-loop s t hash key fit there in
+        let z = answers (known-loop s t hash key fit there) in
         let o = outcome s t hash key there in
         record {
           at = λ slot. (λ e. at-reached o slot (sym z ∙ e), λ r. z ∙ reached-given r);
           none = (λ e slot r. nothing-given (sym e ∙ z ∙ reached-given r), λ n. z ∙ none-nothing o n);
           never = λ n l e. never-refused o n l (sym z ∙ e);
+          once = looked-once o (λ e. never-refused o 9 (omega arith) (sym z ∙ e));
         }

@@ -17,6 +17,7 @@ pub mod Cursors
 pub mod Beginning
 pub mod Listing
 pub mod Looking
+pub mod Looks
 pub mod Stepping
 pub mod Gates
 pub mod Nexting

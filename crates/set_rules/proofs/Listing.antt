@@ -13,6 +13,7 @@ use Rattle.slots.specs.Words.{null, next, cell, nameOf, hashPart, keyPart}
 use Rattle.slots.specs.Pairs.{Pair, pair, pairOf}
 use Rattle.slots.specs.Answers.{Answer, given, nothing, refused}
 use Rattle.tree_rules.specs.Find.{slotsOf}
+use Rattle.tree_rules.proofs.Trail.{answers}
 use Rattle.set_rules.specs.Lookup.{hasPair, listed, ListFollows, start, step, ListLost, ListHere, ListMissed}
 use Rattle.set_rules.proofs.Reading.{at-null, out-of-range, visits-spent, at-slot}
 use Rattle.set_rules.proofs.Cursors.{both}
@@ -38,7 +39,7 @@ decided names p hash key = go (hasPair names p hash key) refl
     go true e = yes (has-same names p hash key e)
     go false e = no (λ f. false≢true (sym e ∙ same-has names p hash key f))
 
-not-has : (names : List ℕ) (p hash key : ℕ) → pairOf names p ≢ pair hash key → hasPair names p hash key ≡ false
+pub not-has : (names : List ℕ) (p hash key : ℕ) → pairOf names p ≢ pair hash key → hasPair names p hash key ≡ false
 not-has names p hash key n = go (hasPair names p hash key) refl
   where
     go : (b : Bool) → hasPair names p hash key ≡ b → hasPair names p hash key ≡ false
@@ -47,29 +48,29 @@ not-has names p hash key n = go (hasPair names p hash key) refl
 
 module _ (names cells : List ℕ) (first hash key : ℕ) where
   abbrev pub whole : Answer
-  whole = listed names cells (slotsOf names) first hash key
+  whole = listed names cells (slotsOf names) first hash key .answer
 
   -- One more visit.
   pub onward : {p : ℕ} (v : ℕ) → p ≢ null → p < slotsOf names → pairOf names p ≢ pair hash key
-      → listed names cells (suc v) p hash key ≡ listed names cells v (cell cells p next) hash key
-  onward {p} v n l d = at-slot names cells hash key v p n l ∙ rw (not-has names p hash key d)
+      → listed names cells (suc v) p hash key .answer ≡ listed names cells v (cell cells p next) hash key .answer
+  onward {p} v n l d = answers (at-slot names cells hash key v p n l) ∙ rw (not-has names p hash key d)
 
-  pub stays : {p : ℕ} (v : ℕ) → p ≢ null → p < slotsOf names → pairOf names p ≡ pair hash key → listed names cells (suc v) p hash key ≡ given p
-  stays {p} v n l d = at-slot names cells hash key v p n l ∙ rw (same-has names p hash key d)
+  pub stays : {p : ℕ} (v : ℕ) → p ≢ null → p < slotsOf names → pairOf names p ≡ pair hash key → listed names cells (suc v) p hash key .answer ≡ given p
+  stays {p} v n l d = answers (at-slot names cells hash key v p n l) ∙ rw (same-has names p hash key d)
 
   fewer : (n k : ℕ) → suc k ≤ n → n - k ≡ suc (n - suc k)
   fewer n k h = omega arith
 
   -- The answer from a link followed in time is the answer.
-  trace : {k p : ℕ} → ListFollows names cells first hash key k p → k ≤ slotsOf names → whole ≡ listed names cells (slotsOf names - k) p hash key
-  trace start l = let z : slotsOf names ≡ slotsOf names - 0 = omega arith in ap (λ (v : ℕ). listed names cells v first hash key) z
+  trace : {k p : ℕ} → ListFollows names cells first hash key k p → k ≤ slotsOf names → whole ≡ listed names cells (slotsOf names - k) p hash key .answer
+  trace start l = let z : slotsOf names ≡ slotsOf names - 0 = omega arith in ap (λ (v : ℕ). listed names cells v first hash key .answer) z
   trace (step {k} {p} f n i e) l =
-      trace f (omega arith) ∙ ap (λ (v : ℕ). listed names cells v p hash key) (fewer (slotsOf names) k l) ∙ onward (slotsOf names - suc k) n i e
+      trace f (omega arith) ∙ ap (λ (v : ℕ). listed names cells v p hash key .answer) (fewer (slotsOf names) k l) ∙ onward (slotsOf names - suc k) n i e
 
   spent : {k p : ℕ} → ListFollows names cells first hash key k p → p ≢ null → k ≡ slotsOf names → whole ≡ refused 9
   spent {k} {p} f n e =
       let z : slotsOf names - k ≡ 0 = omega arith in
-      trace f (omega arith) ∙ ap (λ (v : ℕ). listed names cells v p hash key) z ∙ visits-spent names cells hash key p n
+      trace f (omega arith) ∙ ap (λ (v : ℕ). listed names cells v p hash key .answer) z ∙ answers (visits-spent names cells hash key p n)
 
   -- A link followed after more visits than there are slots.
   late : {k p : ℕ} → ListFollows names cells first hash key k p → slotsOf names < k → whole ≡ refused 9
@@ -85,16 +86,16 @@ module _ (names cells : List ℕ) (first hash key : ℕ) where
     where
       go : Dec (h .visited ≤ slotsOf names) → (slotsOf names ≤ h .link) ⊎ (slotsOf names ≤ h .visited) → whole ≡ refused 9
       go (no d) a = late (h .follows) (omega arith)
-      go (yes l) (inl a) = trace (h .follows) l ∙ out-of-range names cells hash key _ (h .link) (h .solid) a
+      go (yes l) (inl a) = trace (h .follows) l ∙ answers (out-of-range names cells hash key _ (h .link) (h .solid) a)
       go (yes l) (inr a) = spent (h .follows) (h .solid) (omega arith)
 
   pub here-given : {slot : ℕ} → ListHere names cells first hash key slot → whole ≡ given slot
   here-given {slot} h =
-      trace (h .follows) (omega (arith, h .timely)) ∙ ap (λ (v : ℕ). listed names cells v slot hash key) (fewer (slotsOf names) (h .visited) (h .timely))
+      trace (h .follows) (omega (arith, h .timely)) ∙ ap (λ (v : ℕ). listed names cells v slot hash key .answer) (fewer (slotsOf names) (h .visited) (h .timely))
       ∙ stays (slotsOf names - suc (h .visited)) (h .solid) (h .inside) (h .has)
 
   pub missed-nothing : ListMissed names cells first hash key → whole ≡ nothing
-  missed-nothing h = trace (h .follows) (h .timely) ∙ at-null names cells hash key _ null refl
+  missed-nothing h = trace (h .follows) (h .timely) ∙ answers (at-null names cells hash key _ null refl)
 
   -- Which of the three comes from a link followed.
   pub data Outcome : Answer → Type 0 where
@@ -102,17 +103,17 @@ module _ (names cells : List ℕ) (first hash key : ℕ) where
     hit : {slot : ℕ} → ListHere names cells first hash key slot → Outcome (given slot)
     miss : ListMissed names cells first hash key → Outcome nothing
 
-  from : (v k p : ℕ) → ListFollows names cells first hash key k p → k + v ≡ slotsOf names → Outcome (listed names cells v p hash key)
+  from : (v k p : ℕ) → ListFollows names cells first hash key k p → k + v ≡ slotsOf names → Outcome (listed names cells v p hash key .answer)
   from zero k p f e = go (ℕ-discrete p null)
     where
-      go : Dec (p ≡ null) → Outcome (listed names cells 0 p hash key)
+      go : Dec (p ≡ null) → Outcome (listed names cells 0 p hash key .answer)
       go (yes z) = rw (at-null names cells hash key 0 p z) (miss (record { visited = k; follows = rw z at f; timely = omega arith }))
       go (no n) = rw (visits-spent names cells hash key p n) (lost (record { visited = k; link = p; follows = f; solid = n; astray = inr (omega arith) }))
   from (suc v) k p f e = go (ℕ-discrete p null) (decLt p (slotsOf names)) (decided names p hash key) (λ g. from v (suc k) (cell cells p next) g (omega arith))
     where
       go : Dec (p ≡ null) → Dec (p < slotsOf names) → Dec (pairOf names p ≡ pair hash key)
-          → (ListFollows names cells first hash key (suc k) (cell cells p next) → Outcome (listed names cells v (cell cells p next) hash key))
-          → Outcome (listed names cells (suc v) p hash key)
+          → (ListFollows names cells first hash key (suc k) (cell cells p next) → Outcome (listed names cells v (cell cells p next) hash key .answer))
+          → Outcome (listed names cells (suc v) p hash key .answer)
       go (yes z) d h rest = rw (at-null names cells hash key (suc v) p z) (miss (record { visited = k; follows = rw z at f; timely = omega arith }))
       go (no n) (no d) h rest =
           rw (out-of-range names cells hash key (suc v) p n (omega arith)) (lost (record { visited = k; link = p; follows = f; solid = n; astray = inl (omega arith) }))

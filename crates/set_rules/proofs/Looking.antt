@@ -10,8 +10,9 @@ use native.Mathlib.Omega.{arith}
 use borrow.Author.Tests.{lt-ltb, le-ltb}
 use Rattle.slots.specs.Words.{null}
 use Rattle.slots.specs.Answers.{Answer, none, given, nothing, refused}
-use Rattle.tree_rules.specs.Find.{Look, here, on, looked, lookedThen, slotsOf, searched, found}
+use Rattle.tree_rules.specs.Find.{Look, here, on, looked, Search, ends, lookedThen, slotsOf, searched, found}
 use Rattle.tree_rules.proofs.Claims.{claims as shape-claims}
+use Rattle.tree_rules.proofs.Trail.{answers}
 use Rattle.tree_rules.proofs.Searching.{at-null, out-of-range, visits-spent, at-slot}
 use Rattle.set_rules.specs.Words.{Set, tablesOf, rootAt, Fit, fits, Bin, empty, moved, bad, list, tree}
 use Rattle.set_rules.proofs.Fit.{fits-fit, fit-fits}
@@ -43,7 +44,7 @@ kind names cells hash key (suc v) p = go (ℕ-discrete p null) (decLt p (slotsOf
     go (no n) (yes l) again = rw (at-slot names cells hash key v p n l) (visit (looked names cells p hash key) again)
 
 module _ (s : Set) (t hash key : ℕ) (there : t < tablesOf s) where
-  abbrev pub whole : Answer
+  abbrev pub whole : Search
   whole = forwarded (tablesOf s - t) s t hash key
 
   pub comes-in : {k : ℕ} → Reaches s t hash k → k < tablesOf s
@@ -57,20 +58,20 @@ module _ (s : Set) (t hash key : ℕ) (there : t < tablesOf s) where
   pub at-bin : {k : ℕ} → Reaches s t hash k → {b : Bin} → homeBin s k hash ≡ b → whole ≡ asked s b hash key (forwarded (tablesOf s - suc k) s (suc k) hash key)
   at-bin {k} c e = trace c ∙ turn s hash key k (comes-in c) (sym e)
 
-  pub astray-nine : Astray s t hash key → whole ≡ refused 9
-  astray-nine (Astray.bad-bin c e) = at-bin c e
-  astray-nine (Astray.moved-last {k} c e l) = at-bin c e ∙ past-last s hash key (suc k) l
-  astray-nine (Astray.in-list {k} {p} c e h) = at-bin c e ∙ listing.lost-nine (s .names) (s .cells) p hash key h
-  astray-nine (Astray.in-tree {k} {h} c e l) = at-bin c e ∙ shape-claims .finds (s .names) (s .cells) (rootAt s h) hash key .nine .1 l
+  pub astray-nine : Astray s t hash key → whole .answer ≡ refused 9
+  astray-nine (Astray.bad-bin c e) = answers (at-bin c e)
+  astray-nine (Astray.moved-last {k} c e l) = answers (at-bin c e ∙ past-last s hash key (suc k) l)
+  astray-nine (Astray.in-list {k} {p} c e h) = answers (at-bin c e) ∙ listing.lost-nine (s .names) (s .cells) p hash key h
+  astray-nine (Astray.in-tree {k} {h} c e l) = answers (at-bin c e) ∙ shape-claims .finds (s .names) (s .cells) (rootAt s h) hash key .nine .1 l
 
-  pub hit-given : {slot : ℕ} → Hit s t hash key slot → whole ≡ given slot
-  hit-given (Hit.in-list {k} {p} c e h) = at-bin c e ∙ listing.here-given (s .names) (s .cells) p hash key h
-  hit-given {slot} (Hit.in-tree {k} {h} c e l) = at-bin c e ∙ shape-claims .finds (s .names) (s .cells) (rootAt s h) hash key .at slot .1 l
+  pub hit-given : {slot : ℕ} → Hit s t hash key slot → whole .answer ≡ given slot
+  hit-given (Hit.in-list {k} {p} c e h) = answers (at-bin c e) ∙ listing.here-given (s .names) (s .cells) p hash key h
+  hit-given {slot} (Hit.in-tree {k} {h} c e l) = answers (at-bin c e) ∙ shape-claims .finds (s .names) (s .cells) (rootAt s h) hash key .at slot .1 l
 
-  pub miss-nothing : Miss s t hash key → whole ≡ nothing
-  miss-nothing (Miss.in-none c e) = at-bin c e
-  miss-nothing (Miss.in-list {k} {p} c e h) = at-bin c e ∙ listing.missed-nothing (s .names) (s .cells) p hash key h
-  miss-nothing (Miss.in-tree {k} {h} c e l) = at-bin c e ∙ shape-claims .finds (s .names) (s .cells) (rootAt s h) hash key .none .1 l
+  pub miss-nothing : Miss s t hash key → whole .answer ≡ nothing
+  miss-nothing (Miss.in-none c e) = answers (at-bin c e)
+  miss-nothing (Miss.in-list {k} {p} c e h) = answers (at-bin c e) ∙ listing.missed-nothing (s .names) (s .cells) p hash key h
+  miss-nothing (Miss.in-tree {k} {h} c e l) = answers (at-bin c e) ∙ shape-claims .finds (s .names) (s .cells) (rootAt s h) hash key .none .1 l
 
   pub data Outcome : Answer → Type 0 where
     lost : Astray s t hash key → Outcome (refused 9)
@@ -91,38 +92,38 @@ module _ (s : Set) (t hash key : ℕ) (there : t < tablesOf s) where
   unfolding found
   found-kind root = kind (s .names) (s .cells) hash key (slotsOf (s .names)) root
 
-  from : (f k : ℕ) → Reaches s t hash k → tablesOf s - k ≡ f → Outcome (forwarded f s k hash key)
+  from : (f k : ℕ) → Reaches s t hash k → tablesOf s - k ≡ f → Outcome (forwarded f s k hash key .answer)
   unfolding forwarded
   from zero k c e = absurd (omega (arith, comes-in c))
   from (suc f) k c e = go (homeBin s k hash) refl (λ m l. from f (suc k) (down c m l) (omega arith))
     where
       go : (b : Bin) → homeBin s k hash ≡ b
-          → (homeBin s k hash ≡ moved → suc k < tablesOf s → Outcome (forwarded f s (suc k) hash key))
-          → Outcome (asked s b hash key (forwarded f s (suc k) hash key))
+          → (homeBin s k hash ≡ moved → suc k < tablesOf s → Outcome (forwarded f s (suc k) hash key .answer))
+          → Outcome (asked s b hash key (forwarded f s (suc k) hash key) .answer)
       go empty m again = miss (Miss.in-none c m)
       go bad m again = lost (Astray.bad-bin c m)
       go (list p) m again = in-list c m (listing.outcome (s .names) (s .cells) p hash key)
       go (tree h) m again = in-tree c m (found-kind (rootAt s h)) refl
       go moved m again = below (decLt (suc k) (tablesOf s))
         where
-          below : Dec (suc k < tablesOf s) → Outcome (forwarded f s (suc k) hash key)
+          below : Dec (suc k < tablesOf s) → Outcome (forwarded f s (suc k) hash key .answer)
           below (yes l) = again m l
           below (no n) = let z : f ≡ 0 = omega arith in rw z (lost (Astray.moved-last c m (omega arith)))
 
-  pub outcome : Outcome whole
+  pub outcome : Outcome (whole .answer)
   outcome = from (tablesOf s - t) t start refl
 
 -- The gates: 1, then 10, then the loop.
 module _ (s : Set) (t hash key : ℕ) where
-  pub unfit-one : (Fit s → ⊥) → lookups s t hash key ≡ refused 1
+  pub unfit-one : (Fit s → ⊥) → lookups s t hash key ≡ ends (refused 1)
   unfolding lookups
   unfit-one n = go (fits s) refl
     where
-      go : (b : Bool) → fits s ≡ b → lookups s t hash key ≡ refused 1
+      go : (b : Bool) → fits s ≡ b → lookups s t hash key ≡ ends (refused 1)
       go true e = absurd (n (fits-fit s e))
       go false e = simp e
 
-  pub unknown-ten : Fit s → tablesOf s ≤ t → lookups s t hash key ≡ refused 10
+  pub unknown-ten : Fit s → tablesOf s ≤ t → lookups s t hash key ≡ ends (refused 10)
   unfolding lookups
   unknown-ten fit l = simp (fit-fits fit, le-ltb _ _ l)
 

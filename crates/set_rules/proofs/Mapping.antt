@@ -45,7 +45,7 @@ module _ (s : Set) (fit : Fit s) (acc : Accepted s) where
   reached-entry : {t x hash key : ℕ} → Reached s t hash key x → EntryFrom s t x × (pairOf (s .names) x ≡ pair hash key)
   reached-entry r = (record { table = r .table; index = _; later = comes-later (r .comes); entry = r .entry }, r .has)
 
-  maps : (t hash key x : ℕ) → t < tablesOf s → (lookups s t hash key ≡ given x) ↔ (EntryFrom s t x × (pairOf (s .names) x ≡ pair hash key))
+  maps : (t hash key x : ℕ) → t < tablesOf s → (lookups s t hash key .answer ≡ given x) ↔ (EntryFrom s t x × (pairOf (s .names) x ≡ pair hash key))
   maps t hash key x b =
       let u = looks-up s fit acc hash key t b in
       (λ e. reached-entry (u .at x .0 e), λ r. u .at x .1 (entry-reached t x hash key (r .0) (r .1)))

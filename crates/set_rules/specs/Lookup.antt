@@ -8,43 +8,47 @@ use Prim.Native.Nat.{ℕ, zero, suc, _-_, _<_, _≤_}
 use lib.Dec.{eqb, ltb, leb}
 use Rattle.slots.specs.Words.{null, pick, next, cell, nameOf, hashPart, keyPart, _and_}
 use Rattle.slots.specs.Pairs.{pair, pairOf}
-use Rattle.slots.specs.Answers.{Answer, given, nothing, refused}
-use Rattle.tree_rules.specs.Find.{slotsOf, found, Lost, Here, Missed}
+use Rattle.slots.specs.Answers.{nothing, refused}
+use Rattle.tree_rules.specs.Find.{Look, here, on, Search, ends, lookedThen, slotsOf, found, Lost, Here, Missed}
 use Rattle.set_rules.specs.Words.{Set, tablesOf, lengthAt, rootAt, fits, Bin, empty, moved, bad, list, tree, binAt, bini}
 
 -- Slot p has the pair (hash, key).
 unfoldable pub hasPair : List ℕ → ℕ → ℕ → ℕ → Bool
 hasPair names p hash key = eqb (nameOf names p hashPart) hash and eqb (nameOf names p keyPart) key
 
+-- What a look at a list's slot says: the pair is here, or the list goes on by next.
+abbrev pub listLook : List ℕ → List ℕ → ℕ → ℕ → ℕ → Look
+listLook names cells p hash key = pick (hasPair names p hash key) here (on (cell cells p next))
+
 -- The list from the link p read by next, with so many visits left.
-unfoldable pub listed : List ℕ → List ℕ → ℕ → ℕ → ℕ → ℕ → Answer
-listed names cells zero p hash key = pick (eqb p null) nothing (refused 9)
+unfoldable pub listed : List ℕ → List ℕ → ℕ → ℕ → ℕ → ℕ → Search
+listed names cells zero p hash key = pick (eqb p null) (ends nothing) (ends (refused 9))
 listed names cells (suc visits) p hash key =
-    pick (eqb p null) nothing
-    (pick (leb (slotsOf names) p) (refused 9)
-    (pick (hasPair names p hash key) (given p) (listed names cells visits (cell cells p next) hash key)))
+    pick (eqb p null) (ends nothing)
+    (pick (leb (slotsOf names) p) (ends (refused 9))
+    (lookedThen (listLook names cells p hash key) p (λ q. listed names cells visits q hash key)))
 
 -- The bin of table k for a hash.
 abbrev pub homeBin : Set → ℕ → ℕ → Bin
 homeBin s k hash = binAt s k (bini (lengthAt s k) hash)
 
--- What a bin answers; a Moved one asks on.
-abbrev pub asked : Set → Bin → ℕ → ℕ → Answer → Answer
-asked s empty hash key on = nothing
-asked s moved hash key on = on
-asked s bad hash key on = refused 9
-asked s (list p) hash key on = listed (s .names) (s .cells) (slotsOf (s .names)) p hash key
-asked s (tree h) hash key on = found (s .names) (s .cells) (rootAt s h) hash key .answer
+-- What a bin gives; a Moved one asks on.
+abbrev pub asked : Set → Bin → ℕ → ℕ → Search → Search
+asked s empty hash key below = ends nothing
+asked s moved hash key below = below
+asked s bad hash key below = ends (refused 9)
+asked s (list p) hash key below = listed (s .names) (s .cells) (slotsOf (s .names)) p hash key
+asked s (tree h) hash key below = found (s .names) (s .cells) (rootAt s h) hash key
 
 -- The loop from table k, with so many tables left. Moved in the last table is 9.
-unfoldable pub forwarded : ℕ → Set → ℕ → ℕ → ℕ → Answer
-forwarded zero s k hash key = refused 9
+unfoldable pub forwarded : ℕ → Set → ℕ → ℕ → ℕ → Search
+forwarded zero s k hash key = ends (refused 9)
 forwarded (suc tables) s k hash key = asked s (homeBin s k hash) hash key (forwarded tables s (suc k) hash key)
 
 -- "lookup and start 1, 10, then 9"
-unfoldable pub lookups : Set → ℕ → ℕ → ℕ → Answer
+unfoldable pub lookups : Set → ℕ → ℕ → ℕ → Search
 lookups s t hash key =
-    pick (fits s) (pick (ltb t (tablesOf s)) (forwarded (tablesOf s - t) s t hash key) (refused 10)) (refused 1)
+    pick (fits s) (pick (ltb t (tablesOf s)) (forwarded (tablesOf s - t) s t hash key) (ends (refused 10))) (ends (refused 1))
 
 -- A list from first is read up to the link p once k slots are visited, none of which has the pair.
 pub data ListFollows (names cells : List ℕ) (first hash key : ℕ) : ℕ → ℕ → Type 0 where

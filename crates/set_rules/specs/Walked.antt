@@ -1,39 +1,58 @@
 -- What is proved of lookup and the walk.
 use mathlib.Core.Path.{_≡_}
 use mathlib.Core.Logic.{_≢_, _↔_}
-use mathlib.Core.List.{List}
-use Prim.Native.Nat.{ℕ, _<_, _≤_}
+use mathlib.Core.List.{List, []}
+use Prim.Native.Nat.{ℕ, suc, _<_, _≤_}
 use lib.ListN.{length}
 use Rattle.slots.specs.Words.{null, nameOf, hashPart, keyPart}
 use Rattle.slots.specs.Pairs.{pair, pairOf}
 use Rattle.slots.specs.Answers.{given, nothing, refused}
+use Rattle.tree_rules.specs.Find.{slotsOf, Follows as Descends}
 use Rattle.tree_rules.specs.Tree.{times}
+use Rattle.tree_rules.specs.Looks.{LooksAt}
 use Rattle.tree_rules.specs.Chain.{tally}
 use Rattle.index_rules.specs.Sound.{used}
-use Rattle.set_rules.specs.Words.{Set, tablesOf, lengthAt, Fit}
+use Rattle.set_rules.specs.Words.{Set, tablesOf, lengthAt, rootAt, Fit, empty, moved, bad, list, tree}
 use Rattle.set_rules.specs.Accepted.{Accepted}
-use Rattle.set_rules.specs.Lookup.{lookups, Astray, Hit, Miss}
+use Rattle.set_rules.specs.Lookup.{homeBin, lookups, ListFollows, Reaches, Astray, Hit, Miss}
 use Rattle.set_rules.specs.Cursor.{Cursor, Step, indexAt, lone, blank, starts, BadCursor}
 use Rattle.set_rules.specs.Walk.{nexts}
 use Rattle.set_rules.specs.Ways.{Strays, Steps}
 use Rattle.set_rules.specs.NodeIter.{called, stateOf, IsCall}
 use Rattle.set_rules.specs.Held.{Reached, EntryFrom, Made, cursorAfter}
 use Rattle.set_rules.specs.Whole.{Onward, Listing}
-use Rattle.tree_rules.specs.Find.{slotsOf}
 
 -- Lookup on any words: "lookup and start 1, 10, then 9", each exactly when, and else what the bin says that the loop comes to.
 pub record Lookups (s : Set) (t hash key : ℕ) : Type 0 where
-  pub one : (lookups s t hash key ≡ refused 1) ↔ (Fit s → ⊥)
-  pub ten : (lookups s t hash key ≡ refused 10) ↔ (Fit s × (tablesOf s ≤ t))
-  pub nine : (lookups s t hash key ≡ refused 9) ↔ (Fit s × (t < tablesOf s) × Astray s t hash key)
-  pub at : (slot : ℕ) → (lookups s t hash key ≡ given slot) ↔ (Fit s × (t < tablesOf s) × Hit s t hash key slot)
-  pub none : (lookups s t hash key ≡ nothing) ↔ (Fit s × (t < tablesOf s) × Miss s t hash key)
+  pub one : (lookups s t hash key .answer ≡ refused 1) ↔ (Fit s → ⊥)
+  pub ten : (lookups s t hash key .answer ≡ refused 10) ↔ (Fit s × (tablesOf s ≤ t))
+  pub nine : (lookups s t hash key .answer ≡ refused 9) ↔ (Fit s × (t < tablesOf s) × Astray s t hash key)
+  pub at : (slot : ℕ) → (lookups s t hash key .answer ≡ given slot) ↔ (Fit s × (t < tablesOf s) × Hit s t hash key slot)
+  pub none : (lookups s t hash key .answer ≡ nothing) ↔ (Fit s × (t < tablesOf s) × Miss s t hash key)
+  -- 1 and 10 have no looks
+  pub one-looks : (Fit s → ⊥) → lookups s t hash key .looks ≡ []
+  pub ten-looks : Fit s → tablesOf s ≤ t → lookups s t hash key .looks ≡ []
+  -- there are never more than slots
+  pub most : length (lookups s t hash key .looks) ≤ slotsOf (s .names)
+
+-- What lookup looks at from a table of a fit set: what the bin has that the loop comes to.
+pub record LookupLooks (s : Set) (t hash key : ℕ) : Type 0 where
+  -- a list's slots by next, and a tree's as find_tree_node follows them
+  pub in-list : {k p : ℕ} → Reaches s t hash k → homeBin s k hash ≡ list p → LooksAt (s .names) hash key (ListFollows (s .names) (s .cells) p hash key) (lookups s t hash key)
+  pub in-tree : {k h : ℕ} → Reaches s t hash k → homeBin s k hash ≡ tree h
+      → LooksAt (s .names) hash key (Descends (s .names) (s .cells) (rootAt s h) hash key) (lookups s t hash key)
+  -- in any other bin there is nothing to look at
+  pub in-none : {k : ℕ} → Reaches s t hash k → homeBin s k hash ≡ empty → lookups s t hash key .looks ≡ []
+  pub bad-bin : {k : ℕ} → Reaches s t hash k → homeBin s k hash ≡ bad → lookups s t hash key .looks ≡ []
+  pub moved-last : {k : ℕ} → Reaches s t hash k → homeBin s k hash ≡ moved → tablesOf s ≤ suc k → lookups s t hash key .looks ≡ []
 
 -- Lookup on an accepted set: the slot exactly where an entry with that pair is reached from t's bin for the hash, Nothing where not.
 pub record LooksUp (s : Set) (t hash key : ℕ) : Type 0 where
-  pub at : (slot : ℕ) → (lookups s t hash key ≡ given slot) ↔ Reached s t hash key slot
-  pub none : (lookups s t hash key ≡ nothing) ↔ ((slot : ℕ) → Reached s t hash key slot → ⊥)
-  pub never : (n : ℕ) → 1 ≤ n → lookups s t hash key ≢ refused n
+  pub at : (slot : ℕ) → (lookups s t hash key .answer ≡ given slot) ↔ Reached s t hash key slot
+  pub none : (lookups s t hash key .answer ≡ nothing) ↔ ((slot : ℕ) → Reached s t hash key slot → ⊥)
+  pub never : (n : ℕ) → 1 ≤ n → lookups s t hash key .answer ≢ refused n
+  -- and no slot is looked at twice
+  pub once : (x : ℕ) → times x (lookups s t hash key .looks) ≤ 1
 
 -- Start: 1, then 10, with a cursor that is all zero; else a cursor at the first bin of the table.
 pub record Starts (s : Set) (t : ℕ) : Type 0 where
@@ -62,7 +81,7 @@ pub record Walks (s : Set) (c : Cursor) : Type 0 where
 -- Lookup on an accepted set is the set's map: from table t it answers x exactly if x is an entry of table t or of a later one and has the
 -- pair, so from table 0 exactly if x is an entry, in whatever bin; and no two entries have one pair.
 pub record Map (s : Set) : Type 0 where
-  pub at : (t hash key x : ℕ) → t < tablesOf s → (lookups s t hash key ≡ given x) ↔ (EntryFrom s t x × (pairOf (s .names) x ≡ pair hash key))
+  pub at : (t hash key x : ℕ) → t < tablesOf s → (lookups s t hash key .answer ≡ given x) ↔ (EntryFrom s t x × (pairOf (s .names) x ≡ pair hash key))
   pub apart : (x y : ℕ) → EntryFrom s 0 x → EntryFrom s 0 y → pairOf (s .names) x ≡ pairOf (s .names) y → x ≡ y
 
 -- A whole walk of an accepted set, from the start of table t until Done.
@@ -81,10 +100,11 @@ pub record WholeWalk (s : Set) (t : ℕ) : Type 0 where
   -- from table 0: every slot that is not free, once
   pub all : t ≡ 0 → (x : ℕ) → x < slotsOf (s .names) → used (s .cells) x ≡ times x given-slots
   -- lookup and walk agree: a slot is given exactly if lookup of its own pair answers it
-  pub agree : (x : ℕ) → (1 ≤ times x given-slots) ↔ (lookups s t (nameOf (s .names) x hashPart) (nameOf (s .names) x keyPart) ≡ given x)
+  pub agree : (x : ℕ) → (1 ≤ times x given-slots) ↔ (lookups s t (nameOf (s .names) x hashPart) (nameOf (s .names) x keyPart) .answer ≡ given x)
 
 pub record Walked : Type 0 where
   pub looking : (s : Set) (t hash key : ℕ) → Lookups s t hash key
+  pub looks : (s : Set) → Fit s → (t hash key : ℕ) → t < tablesOf s → LookupLooks s t hash key
   pub starting : (s : Set) (t : ℕ) → Starts s t
   pub stepping : (s : Set) (c : Cursor) → Nexts s c
   -- a step is a call of the source's next from the same state, and that call has ended within so many turns

@@ -2,6 +2,8 @@
 use mathlib.Core.Path.{_≡_}
 use Prim.Native.Nat.{ℕ}
 use Rattle.slots.specs.Answers.{OneAnswer}
+use Rattle.tree_rules.specs.Find.{Counted, counted}
+use Rattle.tree.specs.Find.{countedOf}
 use Rattle.set_rules.specs.Words.{Set}
 use Rattle.set_rules.specs.Lookup.{lookups}
 use Rattle.sets.specs.Lookups.{lookedOf}
@@ -9,4 +11,5 @@ use Rattle.sets.specs.declared.lookup.Looked.{Looked}
 
 pub record Looking : Type 0 where
   pub looked-one-to-one : (a b : Looked) → lookedOf a ≡ lookedOf b → a ≡ b
-  pub lookup-one : (s : Set) (t hash key : ℕ) → OneAnswer (λ r. lookedOf r ≡ lookups s t hash key)
+  pub lookup-one : (s : Set) (t hash key : ℕ) → OneAnswer (λ r. lookedOf r ≡ counted (lookups s t hash key))
+  pub counted-one : (c : Counted) → OneAnswer (λ r. countedOf r ≡ c)

@@ -11,23 +11,23 @@ use slots::KEY;
 use slots::NEXT;
 use slots::NULL;
 use slots::ROOT;
-use slots::answer::Answer;
 use slots::answer::given;
 use slots::answer::nothing;
 use slots::answer::refused;
 use slots::get;
 use slots::name;
+use tree::find::Counted;
 use tree::find::Found;
+use tree::find::count;
 use tree::find::find_tree_node;
 ghost use mathlib.Core.Path.{_≡_};
-ghost use Rattle.slots.specs.Coded.{answerOf};
 ghost use Prim.Native.Nat.{_+_, _-_, _<_, _≤_};
 ghost use lib.ListN.{length, getD};
-ghost use Rattle.tree_rules.specs.Find.{slotsOf};
+ghost use Rattle.tree_rules.specs.Find.{slotsOf, counted as countedLooks};
 ghost use Rattle.set_rules.specs.Words.{begins, binOf, lentSet};
 ghost use Rattle.set_rules.specs.Words.{bini as home};
 ghost use Rattle.sets.specs.Bins.{binAs};
-ghost use Rattle.tree.specs.Find.{answerOf as searchedOf};
+ghost use Rattle.tree.specs.Find.{searchedOf, countedOf};
 ghost use Rattle.set_rules.specs.Lookup.{hasPair, listed, forwarded, lookups};
 ghost use Rattle.sets.specs.Lookups.{lookedOf};
 
@@ -45,26 +45,30 @@ fn has_pair(names: &[u64], p: u32, hash: u64, key: u64) -> bool
 // The slot of the list from first that has the pair. Lost where a link followed is neither null nor a slot, and where one slot
 // more than there are would be visited.
 fn find_in_list(names: &[u64], cells: &[u32], first: u32, hash: u64, key: u64) -> Found
-    ensures { λ r. ⌜ searchedOf r ≡ listed (now (names .entry)) (now (cells .entry)) (slotsOf (now (names .entry))) first hash key ⌝ }
+    ensures { λ r. ⌜ searchedOf r
+        ≡ countedLooks (listed (now (names .entry)) (now (cells .entry)) (slotsOf (now (names .entry))) first hash key) ⌝ }
 {
     let slots = names.len() / 2;
     let mut p = first;
     let mut visits = slots;
     while p != NULL {
         if slots <= p as usize {
-            return Found::Lost;
+            let looks = slots - visits;
+            return Found::Lost(looks);
         }
         if visits == 0 {
-            return Found::Lost;
-        }
-        let has = has_pair(names, p, hash, key);
-        if has {
-            return Found::At(p);
+            return Found::Lost(slots);
         }
         visits -= 1;
+        let has = has_pair(names, p, hash, key);
+        if has {
+            let looks = slots - visits;
+            return Found::At(p, looks);
+        }
         p = get(cells, p, NEXT);
     }
-    Found::Nothing
+    let looks = slots - visits;
+    Found::Nothing(looks)
 }
 
 // The bin of table k for a hash, in a set of n slots and h headers.
@@ -90,9 +94,9 @@ fn search(
 ) -> Found
     requires { ⌜ (length (now lengths) ≤ 8) × (table < length (now lengths)) ⌝ }
     ensures { λ r. ⌜ searchedOf r
-        ≡ forwarded (length (now (lengths .entry)) - table)
+        ≡ countedLooks (forwarded (length (now (lengths .entry)) - table)
         (lentSet (now (lengths .entry)) (now (bins .entry)) (now (heads .entry)) (now (names .entry))
-        (now (cells .entry))) table hash key ⌝ }
+        (now (cells .entry))) table hash key) ⌝ }
 {
     let n = names.len() / 2;
     let h = heads.len() / 3;
@@ -100,10 +104,10 @@ fn search(
     loop {
         let bin = home_bin(lengths, bins, n, h, k, hash);
         match bin {
-            Bin::Empty => break Found::Nothing,
+            Bin::Empty => break Found::Nothing(0),
             Bin::Moved => {
                 if lengths.len() <= k as usize + 1 {
-                    break Found::Lost;
+                    break Found::Lost(0);
                 }
                 k += 1;
             }
@@ -112,31 +116,31 @@ fn search(
                 let root = header(heads, at, ROOT);
                 break find_tree_node(names, cells, root, hash, key);
             }
-            Bin::Bad => break Found::Lost,
+            Bin::Bad => break Found::Lost(0),
         }
     }
 }
 
-// What lookup answers, with the number of each refusal.
+// What lookup answers, with the number of each refusal, and last how many slots it looked at.
 pub enum Looked {
-    At(u32),
-    Nothing,
+    At(u32, u32),
+    Nothing(u32),
     Unfit, // 1
     Unknown, // 10
-    Lost, // 9
+    Lost(u32), // 9
 }
 
 impl Looked {
-    // The number and the value.
-    pub fn answer(self) -> Answer
-        ensures { λ r. ⌜ answerOf r ≡ (lookedOf self) ⌝ }
+    // The number, the value, and how many slots were looked at.
+    pub fn counted(self) -> Counted
+        ensures { λ r. ⌜ countedOf r ≡ (lookedOf self) ⌝ }
     {
         match self {
-            Looked::At(slot) => given(slot),
-            Looked::Nothing => nothing(),
-            Looked::Unfit => refused(1),
-            Looked::Unknown => refused(10),
-            Looked::Lost => refused(9),
+            Looked::At(slot, looks) => count(looks, given(slot)),
+            Looked::Nothing(looks) => count(looks, nothing()),
+            Looked::Unfit => count(0, refused(1)),
+            Looked::Unknown => count(0, refused(10)),
+            Looked::Lost(looks) => count(looks, refused(9)),
         }
     }
 }
@@ -153,8 +157,8 @@ pub fn lookup(
     key: u64,
 ) -> Looked
     ensures { λ r. ⌜ lookedOf r
-        ≡ lookups (lentSet (now (lengths .entry)) (now (bins .entry)) (now (heads .entry)) (now (names .entry))
-        (now (cells .entry))) table hash key ⌝ }
+        ≡ countedLooks (lookups (lentSet (now (lengths .entry)) (now (bins .entry)) (now (heads .entry)) (now (names .entry))
+        (now (cells .entry))) table hash key) ⌝ }
 {
     let fits = fit_set(lengths, bins, heads, names, cells);
     if !fits {
@@ -165,8 +169,17 @@ pub fn lookup(
     }
     let found = search(lengths, bins, heads, names, cells, table, hash, key);
     match found {
-        Found::At(slot) => Looked::At(slot),
-        Found::Nothing => Looked::Nothing,
-        Found::Lost => Looked::Lost,
+        Found::At(slot, looks) => {
+            let count = looks as u32;
+            Looked::At(slot, count)
+        }
+        Found::Nothing(looks) => {
+            let count = looks as u32;
+            Looked::Nothing(count)
+        }
+        Found::Lost(looks) => {
+            let count = looks as u32;
+            Looked::Lost(count)
+        }
     }
 }

@@ -1,12 +1,14 @@
 -- Every claim of the crate holds: an answer is read back off its number and value.
-use mathlib.Core.Path.{_≡_, refl, sym, _∙_}
+use mathlib.Core.Path.{_≡_, refl, ap, sym, _∙_}
 use Prim.Native.Nat.{ℕ, _+_, _-_}
 use native.Mathlib.Omega.{arith}
 use lib.Dec.{eqb}
 use Rattle.slots.specs.Words.{pick}
 use Rattle.slots.specs.Answers.{Value, some, none}
 use Rattle.slots.proofs.Laws.{told-apart}
-use Rattle.tree.specs.Find.{answerOf}
+use Rattle.slots.proofs.Claims.{answer-one-to-one}
+use Rattle.tree_rules.specs.Find.{Counted}
+use Rattle.tree.specs.Find.{searchedOf, countedOf}
 use Rattle.tree.specs.Check.{checkedOf}
 use Rattle.tree.specs.Rules.{restOf, sizeOf}
 use Rattle.tree.specs.declared.rules.Rest.{Rest}
@@ -16,20 +18,27 @@ use Rattle.tree.specs.declared.rules.Size.the-variants.{Slots, Broken}
 use Rattle.tree.specs.Claims.{Claims}
 use Rattle.tree.specs.declared.check.Checked.{Checked}
 use Rattle.tree.specs.declared.check.Checked.the-variants.{Passes, Fails, Lost as Strays}
+use Rattle.tree.specs.declared.find.Counted.{Counted as CountedCode}
 use Rattle.tree.specs.declared.find.Found.{Found}
 use Rattle.tree.specs.declared.find.Found.the-variants.{At, Nothing, Lost}
 
-abbrev readBack : ℕ → Value → Found
-readBack number (some slot) = At slot
-readBack number none = pick (eqb number 0) Nothing Lost
+abbrev readBack : ℕ → ℕ → Value → Found
+readBack looks number (some slot) = At slot looks
+readBack looks number none = pick (eqb number 0) (Nothing looks) (Lost looks)
 
-reads-back : (r : Found) → readBack (answerOf r .number) (answerOf r .value) ≡ r
-reads-back (At slot) = refl
-reads-back Nothing = refl
-reads-back Lost = refl
+reads-back : (r : Found) → readBack (searchedOf r .looks) (searchedOf r .answer .number) (searchedOf r .answer .value) ≡ r
+reads-back (At slot looks) = refl
+reads-back (Nothing looks) = refl
+reads-back (Lost looks) = refl
 
-found-one-to-one : (a b : Found) → answerOf a ≡ answerOf b → a ≡ b
-found-one-to-one = told-apart answerOf (λ a. readBack (a .number) (a .value)) reads-back
+found-one-to-one : (a b : Found) → searchedOf a ≡ searchedOf b → a ≡ b
+found-one-to-one = told-apart searchedOf (λ a. readBack (a .looks) (a .answer .number) (a .answer .value)) reads-back
+
+pub counted-one-to-one : (a b : CountedCode) → countedOf a ≡ countedOf b → a ≡ b
+counted-one-to-one a b e =
+    let answers = answer-one-to-one (a .answer) (b .answer) (ap (λ (c : Counted). c .answer) e) in
+    let looks : a .looks ≡ b .looks = ap (λ (c : Counted). c .looks) e in
+    λ i. record { answer = answers i; looks = looks i }
 
 abbrev checkedBack : ℕ → Value → Checked
 checkedBack number (some slot) = Fails (number - 100) slot
@@ -69,6 +78,8 @@ pub claims : Claims
 claims =
     record {
       found-one-to-one = found-one-to-one;
+      counted-one-to-one = counted-one-to-one;
+      count-one = λ _ _ a b p q. counted-one-to-one a b (p ∙ sym q);
       find-tree-node-one = λ names cells root hash key a b p q. found-one-to-one a b (p ∙ sym q);
       checked-one-to-one = checked-one-to-one;
       check-invariants-one = λ names cells root a b p q. checked-one-to-one a b (p ∙ sym q);

@@ -2,16 +2,17 @@
 use mathlib.Core.Path.{_≡_, refl, ap, sym, _∙_}
 use mathlib.Core.Logic.{_≢_}
 use mathlib.Core.List.{List}
-use Prim.Native.Nat.{ℕ, zero, suc, _<_, _≤_, _-_}
+use Prim.Native.Nat.{ℕ, zero, suc, _+_, _-_, _<_, _≤_}
 use native.Mathlib.Numerals.{sub-one}
 use native.Mathlib.Omega.{arith}
 use mathlib.Core.Bool.{Bool, true, false}
 use lib.Dec.{eqb, ltb}
+use lib.ListN.{length}
 use borrow.Author.Tests.{lt-ltb, le-ltb, ltb-false, eqb-true, eqb-false}
 use Rattle.slots.specs.Words.{null, pick, left, right, cell, nameOf, hashPart, keyPart}
 use Rattle.slots.specs.Answers.{Answer, given, nothing, refused}
-use Rattle.tree_rules.specs.Find.{Look, here, on, byKey, decided, looked, Search, lookedThen, slotsOf, searched}
-use Rattle.tree_rules.proofs.Searching.{at-null, out-of-range, visits-spent, at-slot}
+use Rattle.tree_rules.specs.Find.{Look, here, on, byKey, decided, looked, Search, Counted, withLooks, counted, ends, lookedThen}
+use Rattle.tree_rules.proofs.Trail.{Runs}
 
 -- A look at a slot of another hash takes the side, at one of the same hash the keys decide.
 module _ (names cells : List ℕ) (p hash key : ℕ) where
@@ -32,36 +33,55 @@ module _ (names cells : List ℕ) (p hash key : ℕ) where
 pub one-less : {v n : ℕ} → v ≤ n → v - 1 ≤ n
 one-less h = omega arith
 
-answer : {s t : Search} → s ≡ t → s .answer ≡ t .answer
-answer e = ap (λ (s : Search). s .answer) e
+-- The search from here, with so many looks before it.
+abbrev pub later : ℕ → Search → Counted
+later k s = withLooks (k + length (s .looks)) (s .answer)
 
-turn : (names cells : List ℕ) (hash key p visits : ℕ) {r : Answer} → searched names cells visits p hash key .answer ≡ r
-    → p ≢ null → p < slotsOf names → visits ≢ 0 → (o : Look) → o ≡ looked names cells p hash key
-    → lookedThen o p (λ q. searched names cells (visits - 1) q hash key) .answer ≡ r
-turn names cells hash key p zero i n h v o e = absurd (v refl)
-turn names cells hash key p (suc k) i n h v o e = rw (sub-one, e) (sym (answer (at-slot names cells hash key k p n h)) ∙ i)
+same-looks : {j k : ℕ} (a : Answer) → j ≡ k → withLooks j a ≡ withLooks k a
+same-looks a e = ap (λ (k : ℕ). withLooks k a) e
 
-module _ (names cells : List ℕ) (hash key p visits : ℕ) {r : Answer} (i : searched names cells visits p hash key .answer ≡ r) where
-  pub ended : p ≡ null → nothing ≡ r
-  ended e = sym (answer (at-null names cells hash key visits p e)) ∙ i
+pub begun : (n : ℕ) (s : Search) → later (n - n) s ≡ counted s
+begun n s = same-looks (s .answer) (omega arith)
 
-  -- A link that leads off: past the slots, or with no visit left.
-  pub outside : slotsOf names ≤ p → {a : Answer} → a ≡ pick (eqb p null) nothing (refused 9) → a ≡ r
-  outside h e = go (eqb p null) refl e
-    where
-      go : (b : Bool) → eqb p null ≡ b → {a : Answer} → a ≡ pick b nothing (refused 9) → a ≡ r
-      go true x e = e ∙ ended (eqb-true p null x)
-      go false x e = e ∙ sym (answer (out-of-range names cells hash key visits p (eqb-false p null x) h)) ∙ i
+-- A search over n slots that has come to the link p with so many visits left: each visit spent is a look.
+module _ {n : ℕ} {look : ℕ → Look} {run : ℕ → ℕ → Search} (r : Runs n look run) (p : ℕ) where
+  stopped : (visits : ℕ) {c : Counted} → later (n - visits) (run visits p) ≡ c → {a : Answer} → run visits p ≡ ends a → withLooks (n - visits) a ≡ c
+  stopped visits i {a} e = same-looks a (omega arith) ∙ ap (later (n - visits)) (sym e) ∙ i
 
-  pub spent : visits ≡ 0 → {a : Answer} → a ≡ pick (eqb p null) nothing (refused 9) → a ≡ r
-  spent v e = go (eqb p null) refl e
-    where
-      go : (b : Bool) → eqb p null ≡ b → {a : Answer} → a ≡ pick b nothing (refused 9) → a ≡ r
-      go true x e = e ∙ ended (eqb-true p null x)
-      go false x e = e ∙ sym (answer (visits-spent names cells hash key p (eqb-false p null x))) ∙ rw v at i
+  turn : (v k : ℕ) {c : Counted} → later k (run (suc v) p) ≡ c → p ≢ null → p < n → (o : Look) → o ≡ look p → later k (lookedThen o p (λ q. run v q)) ≡ c
+  turn v k i d l o e = rw e (ap (later k) (sym (r .at-slot v p d l)) ∙ i)
 
-  pub met : p ≢ null → p < slotsOf names → visits ≢ 0 → here ≡ looked names cells p hash key → given p ≡ r
-  met n h v e = turn names cells hash key p visits i n h v here e
+  module _ (visits : ℕ) {c : Counted} (i : later (n - visits) (run visits p) ≡ c) where
+    pub ended : p ≡ null → withLooks (n - visits) nothing ≡ c
+    ended e = stopped visits i (r .at-null visits p e)
 
-  pub onward : {q : ℕ} → p ≢ null → p < slotsOf names → visits ≢ 0 → on q ≡ looked names cells p hash key → searched names cells (visits - 1) q hash key .answer ≡ r
-  onward {q} n h v e = turn names cells hash key p visits i n h v (on q) e
+    pub strayed : p ≢ null → n ≤ p → withLooks (n - visits) (refused 9) ≡ c
+    strayed d h = stopped visits i (r .out-of-range visits p d h)
+
+    pub wanting : p ≢ null → visits ≡ 0 → withLooks n (refused 9) ≡ c
+    wanting d v = same-looks (refused 9) (omega arith) ∙ stopped visits i (ap (λ (k : ℕ). run k p) v ∙ r .visits-spent p d)
+
+    -- A link that leads off: past the slots, or with no visit left.
+    pub outside : n ≤ p → {a : Counted} → a ≡ withLooks (n - visits) (pick (eqb p null) nothing (refused 9)) → a ≡ c
+    outside h e = go (eqb p null) refl e
+      where
+        go : (b : Bool) → eqb p null ≡ b → {a : Counted} → a ≡ withLooks (n - visits) (pick b nothing (refused 9)) → a ≡ c
+        go true x e = e ∙ ended (eqb-true p null x)
+        go false x e = e ∙ strayed (eqb-false p null x) h
+
+    pub spent : visits ≡ 0 → {a : Counted} → a ≡ withLooks n (pick (eqb p null) nothing (refused 9)) → a ≡ c
+    spent v e = go (eqb p null) refl e
+      where
+        go : (b : Bool) → eqb p null ≡ b → {a : Counted} → a ≡ withLooks n (pick b nothing (refused 9)) → a ≡ c
+        go true x e = e ∙ same-looks nothing (omega arith) ∙ ended (eqb-true p null x)
+        go false x e = e ∙ wanting (eqb-false p null x) v
+
+  module _ (d : p ≢ null) (l : p < n) where
+    pub met : (visits : ℕ) {c : Counted} → later (n - visits) (run visits p) ≡ c → visits ≢ 0 → visits ≤ n → here ≡ look p → withLooks (n - (visits - 1)) (given p) ≡ c
+    met zero i v m e = absurd (v refl)
+    met (suc k) i v m e = same-looks (given p) (omega arith) ∙ turn k (n - suc k) i d l here e
+
+    pub onward : (visits : ℕ) {c : Counted} → later (n - visits) (run visits p) ≡ c → visits ≢ 0 → visits ≤ n
+        → {q : ℕ} → on q ≡ look p → later (n - (visits - 1)) (run (visits - 1) q) ≡ c
+    onward zero i v m e = absurd (v refl)
+    onward (suc k) i v m {q} e = rw sub-one (same-looks (run k q .answer) (omega arith) ∙ turn k (n - suc k) i d l (on q) e)

@@ -3,24 +3,27 @@ use mathlib.Core.Path.{_≡_}
 use mathlib.Core.List.{List}
 use Prim.Native.Nat.{ℕ}
 use Rattle.slots.specs.Words.{null}
-use Rattle.slots.specs.Answers.{OneAnswer}
+use Rattle.slots.specs.Answers.{Answer, OneAnswer}
 use Rattle.tree_rules.specs.Rules.{obeyed, treeSize}
 use Rattle.tree_rules.specs.Chain.{chained}
 use Rattle.tree.specs.Rules.{restOf, sizeOf}
 use Rattle.tree.specs.declared.rules.Rest.{Rest}
 use Rattle.tree.specs.declared.rules.Size.{Size}
-use Rattle.tree_rules.specs.Find.{found}
+use Rattle.tree_rules.specs.Find.{found, withLooks, counted}
 use Rattle.tree_rules.specs.Check.{checked, inRange, linksIn}
-use Rattle.tree.specs.Find.{answerOf}
+use Rattle.tree.specs.Find.{searchedOf, countedOf}
 use Rattle.tree.specs.Check.{checkedOf}
 use Rattle.tree.specs.declared.check.Checked.{Checked}
 use Rattle.tree.specs.declared.find.Found.{Found}
+use Rattle.tree.specs.declared.find.Counted.{Counted as CountedCode}
 
 pub record Claims : Type 0 where
-  -- no two answers of find_tree_node have one number and value
-  pub found-one-to-one : (a b : Found) → answerOf a ≡ answerOf b → a ≡ b
+  -- no two answers of find_tree_node have one number, value and looks
+  pub found-one-to-one : (a b : Found) → searchedOf a ≡ searchedOf b → a ≡ b
   -- find_tree_node's promise allows one answer
-  pub find-tree-node-one : (names cells : List ℕ) (root hash key : ℕ) → OneAnswer (λ r. answerOf r ≡ found names cells root hash key .answer)
+  pub counted-one-to-one : (a b : CountedCode) → countedOf a ≡ countedOf b → a ≡ b
+  pub count-one : (looks : ℕ) (a : Answer) → OneAnswer (λ r. countedOf r ≡ withLooks looks a)
+  pub find-tree-node-one : (names cells : List ℕ) (root hash key : ℕ) → OneAnswer (λ r. searchedOf r ≡ counted (found names cells root hash key))
   -- so for the source's check
   pub checked-one-to-one : (a b : Checked) → checkedOf a ≡ checkedOf b → a ≡ b
   pub check-invariants-one : (names cells : List ℕ) (root : ℕ) → OneAnswer (λ r. checkedOf r ≡ checked names cells root)

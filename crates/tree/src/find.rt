@@ -4,6 +4,7 @@ use slots::KEY;
 use slots::LEFT;
 use slots::NULL;
 use slots::RIGHT;
+use slots::answer::Answer;
 use slots::get;
 ghost use mathlib.Core.Path.{_≡_};
 ghost use Prim.Native.Nat.{_+_, _*_, _<_};
@@ -11,8 +12,9 @@ ghost use lib.ListN.{length};
 ghost use lib.Dec.{eqb, ltb};
 ghost use Rattle.slots.specs.Words.{null, pick, nameOf};
 ghost use Rattle.slots.specs.Answers.{nothing, refused};
-ghost use Rattle.tree_rules.specs.Find.{byKey, slotsOf, looked, found};
-ghost use Rattle.tree.specs.Find.{seenOf, answerOf};
+ghost use Rattle.tree_rules.specs.Find.{byKey, slotsOf, looked, found, withLooks, counted};
+ghost use Rattle.tree.specs.Find.{seenOf, searchedOf, countedOf};
+ghost use Rattle.slots.specs.Coded.{answerOf};
 
 // What a look at a slot says: the pair is here, or the search goes on along a link.
 enum Seen {
@@ -70,44 +72,60 @@ fn look(names: &[u64], cells: &[u32], p: u32, hash: u64, key: u64) -> Seen
     by_key(own, left, right, key)
 }
 
-// What find_tree_node answers.
+// What find_tree_node answers, and last how many slots it looked at.
 pub enum Found {
-    At(u32),
-    Nothing,
-    Lost, // 9
+    At(u32, usize),
+    Nothing(usize),
+    Lost(usize), // 9
+}
+
+// A search as it is told: the number and value of its answer, and how many slots it looked at.
+pub struct Counted {
+    pub answer: Answer,
+    pub looks: u32,
+}
+
+// An answer with so many looks.
+pub fn count(looks: u32, answer: Answer) -> Counted
+    ensures { λ r. ⌜ countedOf r ≡ withLooks looks (answerOf answer) ⌝ }
+{
+    Counted { answer, looks }
 }
 
 // A link that leads to no slot, or to one slot too many: null ends the search, any other is astray.
-fn off(p: u32) -> Found
-    ensures { λ r. ⌜ answerOf r ≡ pick (eqb p null) nothing (refused 9) ⌝ }
+fn off(p: u32, looks: usize) -> Found
+    ensures { λ r. ⌜ searchedOf r ≡ withLooks looks (pick (eqb p null) nothing (refused 9)) ⌝ }
 {
     if p == NULL {
-        return Found::Nothing;
+        return Found::Nothing(looks);
     }
-    Found::Lost
+    Found::Lost(looks)
 }
 
 // The slot that has the pair (hash, key), from root down. Lost where a link followed is neither null nor a slot, and where
 // one slot more than there are would be visited.
 pub fn find_tree_node(names: &[u64], cells: &[u32], root: u32, hash: u64, key: u64) -> Found
-    ensures { λ r. ⌜ answerOf r ≡ found (now (names .entry)) (now (cells .entry)) root hash key .answer ⌝ }
+    ensures { λ r. ⌜ searchedOf r ≡ counted (found (now (names .entry)) (now (cells .entry)) root hash key) ⌝ }
 {
     let slots = names.len() / 2;
     let mut p = root;
     let mut visits = slots;
     while visits != 0 {
         if slots <= p as usize {
-            return off(p);
+            let looks = slots - visits;
+            return off(p, looks);
         }
         if p == NULL {
-            return Found::Nothing;
+            let looks = slots - visits;
+            return Found::Nothing(looks);
         }
         visits -= 1;
         let seen = look(names, cells, p, hash, key);
         let Seen::On(q) = seen else {
-            return Found::At(p);
+            let looks = slots - visits;
+            return Found::At(p, looks);
         };
         p = q;
     }
-    off(p)
+    off(p, slots)
 }

@@ -1,4 +1,6 @@
 pub mod Searching
+pub mod Trail
+pub mod Looks
 pub mod Found
 pub mod Walking
 pub mod Checking

@@ -4,10 +4,11 @@ use mathlib.Core.Logic.{_≢_, _↔_}
 use mathlib.Core.List.{List}
 use mathlib.Core.Bool.{true, false}
 use Prim.Native.Nat.{ℕ, _+_, _-_, _*_, _<_, _≤_}
-use lib.ListN.{length, getD}
+use lib.ListN.{length}
 use Rattle.slots.specs.Words.{null, parent, left, right, prev, next}
 use Rattle.slots.specs.Answers.{some, given, nothing, refused}
 use Rattle.tree_rules.specs.Find.{here, on, decided, slotsOf, found, Follows, Lost, Here, Missed}
+use Rattle.tree_rules.specs.Looks.{LooksAt}
 use Rattle.tree_rules.specs.Check.{test, firstFailing, passed, failed, strayed, checked, Back, Child, LeftHash, RightHash, NotAllRed, Walks}
 use Rattle.tree_rules.specs.Tree.{Tree, slots, times, Rooted, Rising, Coloured, Level, Shaped}
 use Rattle.tree_rules.specs.Rules.{reached, rises, coloured, level, obeyed, treeSize}
@@ -39,11 +40,8 @@ pub record Finds (names cells : List ℕ) (root hash key : ℕ) : Type 0 where
   pub at : (slot : ℕ) → (found names cells root hash key .answer ≡ given slot) ↔ Here names cells root hash key slot
   -- Nothing, exactly where it follows a null link
   pub none : (found names cells root hash key .answer ≡ nothing) ↔ Missed names cells root hash key
-  -- the slots looked at, in order: the k-th is the slot followed after k visits, and each slot so followed is there
-  pub look-followed : (k : ℕ) → k < length (found names cells root hash key .looks)
-      → Follows names cells root hash key k (getD (found names cells root hash key .looks) k null)
-  pub followed-look : {k p : ℕ} → Follows names cells root hash key k p → p ≢ null → p < slotsOf names → k < slotsOf names
-      → (k < length (found names cells root hash key .looks)) × (getD (found names cells root hash key .looks) k null ≡ p)
+  -- the slots looked at are those that the search follows, in order
+  pub looks : LooksAt names hash key (Follows names cells root hash key) (found names cells root hash key)
 
 -- The eight tests of the source's check at slot i, each by its number.
 pub record Tests (names cells : List ℕ) (i : ℕ) : Type 0 where

@@ -31,6 +31,17 @@ pub record Search : Type 0 where
   pub answer : Answer
   pub looks : List ℕ
 
+-- What is told of a search: its answer, and how many slots it looked at.
+pub record Counted : Type 0 where
+  pub answer : Answer
+  pub looks : ℕ
+
+abbrev pub withLooks : ℕ → Answer → Counted
+withLooks k a = record { answer = a; looks = k }
+
+abbrev pub counted : Search → Counted
+counted s = withLooks (length (s .looks)) (s .answer)
+
 abbrev pub ends : Answer → Search
 ends a = record { answer = a; looks = [] }
 

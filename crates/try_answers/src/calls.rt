@@ -78,11 +78,11 @@ fn removed(answer: Removed) -> Answer {
 
 fn found(answer: Found) -> Answer {
     match answer {
-        Found::At(slot) => Answer {
+        Found::At(slot, _) => Answer {
             number: 0,
             value: slot,
         },
-        Found::Nothing => Answer {
+        Found::Nothing(_) => Answer {
             number: 0,
             value: NULL,
         },
@@ -90,7 +90,7 @@ fn found(answer: Found) -> Answer {
             number: 1,
             value: 0,
         },
-        Found::Lost => Answer {
+        Found::Lost(_) => Answer {
             number: 9,
             value: 0,
         },

@@ -232,7 +232,7 @@ fn drain(names: &mut [u64], cells: &mut [u32], head: &mut [u32], lines: &mut [u6
 // 1 if pair k, which was the one removed after i others, is there with its place exactly if its line was undone, 0 if not.
 fn is_right(names: &[u64], cells: &[u32], head: &[u32], i: u32, k: u32) -> u32 {
     match find(names, cells, head, hash_of(k), k as u64) {
-        Found::At(slot) => {
+        Found::At(slot, _) => {
             if 3072 <= i {
                 if get(cells, slot, PLACE) == k {
                     return 1;

@@ -10,17 +10,17 @@ use trials::print::say;
 
 fn print(label: &[u8], found: Found) {
     match found {
-        Found::At(slot) => {
+        Found::At(slot, _) => {
             line(label, b": at ", slot);
         }
-        Found::Nothing => {
+        Found::Nothing(_) => {
             say(label);
             say(b": none\n");
         }
         Found::Unfit => {
             line(label, b": no ", 1);
         }
-        Found::Lost => {
+        Found::Lost(_) => {
             line(label, b": no ", 9);
         }
     }

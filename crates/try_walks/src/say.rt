@@ -56,10 +56,10 @@ pub fn given(answer: Given) {
 
 pub fn looked(answer: Looked) {
     match answer {
-        Looked::At(slot) => {
+        Looked::At(slot, _) => {
             number(b"at ", slot);
         }
-        Looked::Nothing => {
+        Looked::Nothing(_) => {
             say(b"none");
         }
         Looked::Unfit => {
@@ -68,7 +68,7 @@ pub fn looked(answer: Looked) {
         Looked::Unknown => {
             say(b"no 10");
         }
-        Looked::Lost => {
+        Looked::Lost(_) => {
             say(b"no 9");
         }
     }

@@ -2,7 +2,7 @@
 use mathlib.Core.Path.{ap, sym, _∙_}
 use denote.Ref.{now}
 use Rattle.slots.specs.Coded.{valueOf, answerOf}
-use Rattle.script_rules.specs.Answers.{valued}
+use Rattle.script_rules.specs.Answers.{valueLine}
 use Rattle.script_rules.specs.Feeding.{typed, lentPaper}
 use Rattle.console.proofs.Turns.{told-refused, told-value}
 use borrow.Author.Needs.{needs}
@@ -47,7 +47,7 @@ returns-2 c =
     let c6 = c4 .before .before in
     let a = c6 .before .before .before .args in
     c2 .tell2 .ensures
-    ∙ ap (λ v. typed (lentPaper (now (a .out)) (a .at)) (valued (now (a .word)) (valueOf v))) (sym (c4 .value .given .1))
+    ∙ ap (λ v. typed (lentPaper (now (a .out)) (a .at)) (valueLine (now (a .word)) (valueOf v))) (sym (c4 .value .given .1))
     ∙ ap (typed _) (told-value (now (a .word)) (answerOf (a .answer)) (c6 .if1 .left))
 
 enum-told : tie.Need-enum-told
@@ -69,7 +69,7 @@ returns-3 c =
     let c5 = c3 .before .before in
     let a = c5 .before .before .before .args in
     c2 .put-word .ensures
-    ∙ ap (λ v. typed (lentPaper (now (a .out)) (a .at)) (valued (now (a .word)) (valueOf v))) (sym (c3 .enum-told .given .1))
+    ∙ ap (λ v. typed (lentPaper (now (a .out)) (a .at)) (valueLine (now (a .word)) (valueOf v))) (sym (c3 .enum-told .given .1))
     ∙ ap (typed _) (told-value (now (a .word)) (answerOf (a .answer)) (c5 .if1 .left))
 
 pub tell-answer-spec : {M : Type 1} → statement M

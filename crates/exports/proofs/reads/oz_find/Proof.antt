@@ -1,6 +1,12 @@
--- The library answers what the model does, and its word is that answer's.
-use mathlib.Core.Path.{ap, _∙_}
-use Rattle.exports.specs.Words.{answerWord}
+-- The library answers what the model does, and its word is that answer's, with the looks.
+use mathlib.Core.Path.{ap, sym, subst, _∙_}
+use Prim.Native.Nat.{_<_}
+use native.Mathlib.Omega.{arith}
+use denote.Ref.{now}
+use Rattle.tree_rules.specs.Find.{Counted}
+use Rattle.index_rules.specs.Live.{lentTree}
+use Rattle.exports.specs.Words.{answerWord, searchWord}
+use Rattle.exports.proofs.Answering.{finds-plain, finds-looks, answer-below}
 use borrow.Author.Needs.{needs}
 use Rattle.exports.proofs.reads.oz_find.Statement.{statement}
 use Rattle.exports.proofs.reads.oz_find.Tie as tie
@@ -8,14 +14,20 @@ use Rattle.exports.proofs.reads.oz_find.Tie as tie
 find-requires : tie.Need-find-requires
 find-requires c κs = search needs
 
-answer-requires : tie.Need-answer-requires
-answer-requires c κs = search needs
+counted-requires : tie.Need-counted-requires
+counted-requires c κs = search needs
 
-word-requires : tie.Need-word-requires
-word-requires c κs = search needs
+search-word-requires : tie.Need-search-word-requires
+search-word-requires c κs =
+    let is = c .counted .ensures ∙ c .before .find .ensures in
+    let a = c .before .before .before .before .before .args in
+    let t = lentTree (now (a .names)) (now (a .cells)) (now (a .head)) in (
+      subst (λ (x : Counted). answerWord (x .answer) < 281474976710656) (sym is) (answer-below (finds-plain t (a .hash) (a .key))),
+      subst (λ (x : Counted). x .looks < 65536) (sym is) (omega (arith, finds-looks t (a .hash) (a .key))),
+    )
 
 returns : tie.Need-returns
-returns c = c .word .ensures ∙ ap answerWord (c .before .answer .ensures ∙ c .before .before .find .ensures)
+returns c = c .search-word .ensures ∙ ap searchWord (c .before .counted .ensures ∙ c .before .before .find .ensures)
 
 pub oz-find-spec : {M : Type 1} → statement M
-oz-find-spec = tie.close (tie.spec find-requires answer-requires word-requires returns)
+oz-find-spec = tie.close (tie.spec find-requires counted-requires search-word-requires returns)

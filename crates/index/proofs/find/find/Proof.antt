@@ -1,9 +1,10 @@
--- The test of fitness decides between 1 and the search, whose three answers are handed on.
+-- The test of fitness decides between 1 and the search, whose three answers are handed on; its looks are few enough for a word.
 use mathlib.Core.Path.{sym, ap, _∙_}
+use native.Mathlib.Omega.{arith}
 use borrow.Author.Needs.{needs}
 use borrow.Author.Tests.{not-true, not-false}
-use Rattle.tree.specs.Find.{answerOf}
-use Rattle.index.proofs.Gate.{find-unfit, find-fit}
+use Rattle.tree.specs.Find.{searchedOf}
+use Rattle.index.proofs.Gate.{find-unfit, find-fit, looks-word}
 use Rattle.index.proofs.find.find.Statement.{statement}
 use Rattle.index.proofs.find.find.Tie as tie
 
@@ -24,11 +25,44 @@ find-tree-node-requires c κs = search needs
 enum-known-found : tie.Need-enum-known-found
 enum-known-found c = search needs
 
-enum-told : tie.Need-enum-told
-enum-told c = search needs
+cast-count : tie.Need-cast-count
+cast-count c =
+    let at-search = c .before .before .before in
+    let at-test = at-search .before .before in
+    let at-fit = at-test .before in
+    omega (
+      arith,
+      looks-word _ (at-fit .fit .ensures) (not-false (at-fit .fit .result) (at-test .if1 .left)) _ _ _
+          (ap searchedOf (sym (c .before .found .given .1)) ∙ at-search .find-tree-node .ensures),
+    )
 
-enum-told-2 : tie.Need-enum-told-2
-enum-told-2 c = search needs
+enum-known-found-2 : tie.Need-enum-known-found-2
+enum-known-found-2 c = search needs
+
+cast-count-2 : tie.Need-cast-count-2
+cast-count-2 c =
+    let at-search = c .before .before .before in
+    let at-test = at-search .before .before in
+    let at-fit = at-test .before in
+    omega (
+      arith,
+      looks-word _ (at-fit .fit .ensures) (not-false (at-fit .fit .result) (at-test .if1 .left)) _ _ _
+          (ap searchedOf (sym (c .before .found2 .given .1)) ∙ at-search .find-tree-node .ensures),
+    )
+
+enum-known-found-3 : tie.Need-enum-known-found-3
+enum-known-found-3 c = search needs
+
+cast-count-3 : tie.Need-cast-count-3
+cast-count-3 c =
+    let at-search = c .before .before .before in
+    let at-test = at-search .before .before in
+    let at-fit = at-test .before in
+    omega (
+      arith,
+      looks-word _ (at-fit .fit .ensures) (not-false (at-fit .fit .result) (at-test .if1 .left)) _ _ _
+          (ap searchedOf (sym (c .before .found3 .given .1)) ∙ at-search .find-tree-node .ensures),
+    )
 
 returns-2 : tie.Need-returns-2
 returns-2 c =
@@ -43,11 +77,11 @@ returns-2 c =
     _
     (not-false (at-fit .fit .result) (at-test .if1 .left))
     (at-word .word .ensures)
-    (ap answerOf (sym (c .before .found .given .1)) ∙ at-search .find-tree-node .ensures)
+    (ap searchedOf (sym (c .before .found .given .1)) ∙ at-search .find-tree-node .ensures)
 
 returns-3 : tie.Need-returns-3
 returns-3 c =
-    let at-search = c .before .before in
+    let at-search = c .before .before .before in
     let at-word = at-search .before in
     let at-test = at-word .before in
     let at-fit = at-test .before in
@@ -58,11 +92,11 @@ returns-3 c =
     _
     (not-false (at-fit .fit .result) (at-test .if1 .left))
     (at-word .word .ensures)
-    (ap answerOf (sym (c .enum-told .given .1)) ∙ at-search .find-tree-node .ensures)
+    (ap searchedOf (sym (c .before .found2 .given .1)) ∙ at-search .find-tree-node .ensures)
 
 returns-4 : tie.Need-returns-4
 returns-4 c =
-    let at-search = c .before .before in
+    let at-search = c .before .before .before in
     let at-word = at-search .before in
     let at-test = at-word .before in
     let at-fit = at-test .before in
@@ -73,7 +107,7 @@ returns-4 c =
     _
     (not-false (at-fit .fit .result) (at-test .if1 .left))
     (at-word .word .ensures)
-    (ap answerOf (sym (c .enum-told2 .given .1)) ∙ at-search .find-tree-node .ensures)
+    (ap searchedOf (sym (c .before .found3 .given .1)) ∙ at-search .find-tree-node .ensures)
 
 pub find-spec : {M : Type 1} → statement M
 find-spec =
@@ -84,8 +118,11 @@ find-spec =
     word-requires
     find-tree-node-requires
     enum-known-found
-    enum-told
-    enum-told-2
+    cast-count
+    enum-known-found-2
+    cast-count-2
+    enum-known-found-3
+    cast-count-3
     returns-2
     returns-3
     returns-4)

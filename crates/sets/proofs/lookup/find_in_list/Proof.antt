@@ -1,19 +1,21 @@
--- The loop's invariant: the list from here, with the visits that are left, has the answer of the whole list.
+-- The loop's invariant: the list from here, with the visits that are left and those that are spent for looks, is the whole list.
 use mathlib.Core.Path.{_≡_}
 use denote.Ref.{now}
-use Prim.Native.Nat.{_<_, _≤_, _^_, _/_}
+use Prim.Native.Nat.{_-_, _<_, _≤_, _^_, _/_}
 use native.Mathlib.Omega.{arith}
 use borrow.Author.Needs.{needs}
 use lib.ListN.{length}
-use Rattle.tree_rules.specs.Find.{slotsOf}
+use Rattle.tree_rules.specs.Find.{counted, slotsOf}
+use Rattle.tree.proofs.Searching.{later, begun, ended, strayed, wanting, met, onward}
 use Rattle.set_rules.specs.Lookup.{listed}
-use Rattle.sets.proofs.Looking.{ended, strayed, spent, met, onward}
+use Rattle.set_rules.proofs.Looks.{list-runs}
+use Rattle.sets.proofs.Looking.{read-here, read-on}
 use Rattle.sets.proofs.lookup.find_in_list.Statement.{statement}
 use Rattle.sets.proofs.lookup.find_in_list.Tie as tie
 
 abbrev Inv-loop : tie.InvT-loop
 Inv-loop names cells first hash key slots p₀ visits₀ p visits =
-    (listed names cells visits p hash key ≡ listed names cells (slotsOf names) first hash key)
+    (later (slots - visits) (listed names cells visits p hash key) ≡ counted (listed names cells (slotsOf names) first hash key))
     × (p < 2 ^ 32)
     × (visits ≤ length names / 2)
     × (slots ≡ length names / 2)
@@ -22,26 +24,37 @@ abbrev μ-loop : tie.MeasureT-loop
 μ-loop names cells first hash key slots p₀ visits₀ p visits = visits
 
 loop-holds : tie.Need-loop-holds Inv-loop μ-loop
-loop-holds c = search needs
+loop-holds c =
+    let a = c .before .before .args in
+    (begun _ (listed (now (a .names)) (now (a .cells)) _ (a .first) (a .hash) (a .key)), search needs, search needs, search needs)
 
 cast-if1 : tie.Need-cast-if1 Inv-loop μ-loop
 cast-if1 c = search needs
+
+sub-looks : tie.Need-sub-looks Inv-loop μ-loop
+sub-looks c = search needs
 
 returns : tie.Need-returns Inv-loop μ-loop
 returns c =
     let at-loop = c .before .before in
     let a = at-loop .before .before .before .args in
-    strayed (now (a .names)) (now (a .cells)) (a .hash) (a .key) (at-loop .loop .p) (at-loop .loop .visits) (at-loop .loop .inv .0) (c .before .loop-test .taken) (c .if1 .taken)
+    strayed (list-runs (now (a .names)) (now (a .cells)) (a .hash) (a .key)) (at-loop .loop .p) (at-loop .loop .visits) (at-loop .loop .inv .0) (c .before .loop-test .taken) (c .if1 .taken)
 
 returns-2 : tie.Need-returns-2 Inv-loop μ-loop
 returns-2 c =
     let in-loop = c .before .before in
     let at-loop = in-loop .before in
     let a = at-loop .before .before .before .args in
-    spent (now (a .names)) (now (a .cells)) (a .hash) (a .key) (at-loop .loop .p) (at-loop .loop .visits) (at-loop .loop .inv .0) (in-loop .loop-test .taken) (c .if2 .taken)
+    wanting (list-runs (now (a .names)) (now (a .cells)) (a .hash) (a .key)) (at-loop .loop .p) (at-loop .loop .visits) (at-loop .loop .inv .0) (in-loop .loop-test .taken) (c .if2 .taken)
+
+sub-visits : tie.Need-sub-visits Inv-loop μ-loop
+sub-visits c = search needs
 
 has-pair-requires : tie.Need-has-pair-requires Inv-loop μ-loop
 has-pair-requires c κs = search needs
+
+sub-looks-2 : tie.Need-sub-looks-2 Inv-loop μ-loop
+sub-looks-2 c = search needs
 
 returns-3 : tie.Need-returns-3 Inv-loop μ-loop
 returns-3 c =
@@ -51,21 +64,15 @@ returns-3 c =
     let at-loop = at-if1 .before .before in
     let a = at-loop .before .before .before .args in
     met
-    (now (a .names))
-    (now (a .cells))
-    (a .hash)
-    (a .key)
+    (list-runs (now (a .names)) (now (a .cells)) (a .hash) (a .key))
     (at-loop .loop .p)
-    (at-loop .loop .visits)
-    (at-loop .loop .inv .0)
     (at-if1 .before .loop-test .taken)
     (at-if1 .if1 .left)
+    (at-loop .loop .visits)
+    (at-loop .loop .inv .0)
     (at-if2 .if2 .left)
-    (at-pair .has-pair .ensures)
-    (c .if3 .taken)
-
-sub-visits : tie.Need-sub-visits Inv-loop μ-loop
-sub-visits c = search needs
+    (at-loop .loop .inv .2)
+    (read-here _ _ _ _ _ (at-pair .has-pair .ensures) (c .if3 .taken))
 
 get-requires : tie.Need-get-requires Inv-loop μ-loop
 get-requires c κs = search needs
@@ -82,29 +89,28 @@ loop-again c =
     let at-loop = at-if1 .before .before in
     let a = at-loop .before .before .before .args in (
       onward
-          (now (a .names))
-          (now (a .cells))
-          (a .hash)
-          (a .key)
+          (list-runs (now (a .names)) (now (a .cells)) (a .hash) (a .key))
           (at-loop .loop .p)
-          (at-loop .loop .visits)
-          (at-loop .loop .inv .0)
           (at-if1 .before .loop-test .taken)
           (at-if1 .if1 .left)
+          (at-loop .loop .visits)
+          (at-loop .loop .inv .0)
           (at-if2 .if2 .left)
-          (at-pair .has-pair .ensures)
-          (at-if3 .if3 .left)
-          (c .get .ensures),
+          (at-loop .loop .inv .2)
+          (read-on _ _ _ _ _ (at-pair .has-pair .ensures) (at-if3 .if3 .left) (c .get .ensures)),
       omega (arith, c .get .ok),
       omega (arith, at-loop .loop .inv .2),
       search needs,
     )
 
+sub-looks-3 : tie.Need-sub-looks-3 Inv-loop μ-loop
+sub-looks-3 c = search needs
+
 returns-4 : tie.Need-returns-4 Inv-loop μ-loop
 returns-4 c =
     let at-loop = c .before in
     let a = at-loop .before .before .before .args in
-    ended (now (a .names)) (now (a .cells)) (a .hash) (a .key) (at-loop .loop .p) (at-loop .loop .visits) (at-loop .loop .inv .0) (c .loop-test .left)
+    ended (list-runs (now (a .names)) (now (a .cells)) (a .hash) (a .key)) (at-loop .loop .p) (at-loop .loop .visits) (at-loop .loop .inv .0) (c .loop-test .left)
 
 pub find-in-list-spec : {M : Type 1} → statement M
 find-in-list-spec =
@@ -114,12 +120,15 @@ find-in-list-spec =
     μ-loop
     loop-holds
     cast-if1
+    sub-looks
     returns
     returns-2
-    has-pair-requires
-    returns-3
     sub-visits
+    has-pair-requires
+    sub-looks-2
+    returns-3
     get-requires
     loop-less
     loop-again
+    sub-looks-3
     returns-4)

@@ -1,10 +1,12 @@
--- The tests of fitness and of the table decide between 1, 10 and the search, whose three answers are handed on.
+-- The tests of fitness and of the table decide between 1, 10 and the search, whose three answers are handed on; its looks are few enough
+-- for a word.
 use mathlib.Core.Path.{sym, ap, _∙_}
+use native.Mathlib.Omega.{arith}
 use borrow.Author.Needs.{needs}
 use borrow.Author.Tests.{not-true, not-false}
 use Rattle.sets.proofs.Sized.{fits-few}
-use Rattle.tree.specs.Find.{answerOf}
-use Rattle.sets.proofs.Looking.{unfit, unknown, searched}
+use Rattle.tree.specs.Find.{searchedOf}
+use Rattle.sets.proofs.Looking.{unfit, unknown, searched, looks-word}
 use Rattle.sets.proofs.lookup.lookup.Statement.{statement}
 use Rattle.sets.proofs.lookup.lookup.Tie as tie
 
@@ -29,11 +31,50 @@ search-requires c κs =
 enum-known-found : tie.Need-enum-known-found
 enum-known-found c = search needs
 
-enum-told : tie.Need-enum-told
-enum-told c = search needs
+cast-count : tie.Need-cast-count
+cast-count c =
+    let at-search = c .before .before .before in
+    let at-table = at-search .before in
+    let at-fit = at-table .before .before in
+    let fine = not-false (at-fit .fit-set .result) (at-table .before .if1 .left) in
+    omega (
+      arith,
+      looks-word _ _ _ _ (at-fit .fit-set .ensures) fine
+          (searched _ _ _ _ (at-fit .fit-set .ensures) fine (at-table .if2 .left)
+          (ap searchedOf (sym (c .before .found .given .1)) ∙ at-search .search .ensures)),
+    )
 
-enum-told-2 : tie.Need-enum-told-2
-enum-told-2 c = search needs
+enum-known-found-2 : tie.Need-enum-known-found-2
+enum-known-found-2 c = search needs
+
+cast-count-2 : tie.Need-cast-count-2
+cast-count-2 c =
+    let at-search = c .before .before .before in
+    let at-table = at-search .before in
+    let at-fit = at-table .before .before in
+    let fine = not-false (at-fit .fit-set .result) (at-table .before .if1 .left) in
+    omega (
+      arith,
+      looks-word _ _ _ _ (at-fit .fit-set .ensures) fine
+          (searched _ _ _ _ (at-fit .fit-set .ensures) fine (at-table .if2 .left)
+          (ap searchedOf (sym (c .before .found2 .given .1)) ∙ at-search .search .ensures)),
+    )
+
+enum-known-found-3 : tie.Need-enum-known-found-3
+enum-known-found-3 c = search needs
+
+cast-count-3 : tie.Need-cast-count-3
+cast-count-3 c =
+    let at-search = c .before .before .before in
+    let at-table = at-search .before in
+    let at-fit = at-table .before .before in
+    let fine = not-false (at-fit .fit-set .result) (at-table .before .if1 .left) in
+    omega (
+      arith,
+      looks-word _ _ _ _ (at-fit .fit-set .ensures) fine
+          (searched _ _ _ _ (at-fit .fit-set .ensures) fine (at-table .if2 .left)
+          (ap searchedOf (sym (c .before .found3 .given .1)) ∙ at-search .search .ensures)),
+    )
 
 returns-3 : tie.Need-returns-3
 returns-3 c =
@@ -48,11 +89,11 @@ returns-3 c =
     (at-fit .fit-set .ensures)
     (not-false (at-fit .fit-set .result) (at-table .before .if1 .left))
     (at-table .if2 .left)
-    (ap answerOf (sym (c .before .found .given .1)) ∙ at-search .search .ensures)
+    (ap searchedOf (sym (c .before .found .given .1)) ∙ at-search .search .ensures)
 
 returns-4 : tie.Need-returns-4
 returns-4 c =
-    let at-search = c .before .before in
+    let at-search = c .before .before .before in
     let at-table = at-search .before in
     let at-fit = at-table .before .before in
     searched
@@ -63,11 +104,11 @@ returns-4 c =
     (at-fit .fit-set .ensures)
     (not-false (at-fit .fit-set .result) (at-table .before .if1 .left))
     (at-table .if2 .left)
-    (ap answerOf (sym (c .enum-told .given .1)) ∙ at-search .search .ensures)
+    (ap searchedOf (sym (c .before .found2 .given .1)) ∙ at-search .search .ensures)
 
 returns-5 : tie.Need-returns-5
 returns-5 c =
-    let at-search = c .before .before in
+    let at-search = c .before .before .before in
     let at-table = at-search .before in
     let at-fit = at-table .before .before in
     searched
@@ -78,7 +119,7 @@ returns-5 c =
     (at-fit .fit-set .ensures)
     (not-false (at-fit .fit-set .result) (at-table .before .if1 .left))
     (at-table .if2 .left)
-    (ap answerOf (sym (c .enum-told2 .given .1)) ∙ at-search .search .ensures)
+    (ap searchedOf (sym (c .before .found3 .given .1)) ∙ at-search .search .ensures)
 
 pub lookup-spec : {M : Type 1} → statement M
 lookup-spec =
@@ -89,8 +130,11 @@ lookup-spec =
     returns-2
     search-requires
     enum-known-found
-    enum-told
-    enum-told-2
+    cast-count
+    enum-known-found-2
+    cast-count-2
+    enum-known-found-3
+    cast-count-3
     returns-3
     returns-4
     returns-5)

@@ -5,6 +5,7 @@ use Prim.Native.Nat.{_-_, _/_, _<_}
 use native.Mathlib.Omega.{arith}
 use borrow.Author.Needs.{needs}
 use lib.ListN.{length}
+use Rattle.tree_rules.specs.Find.{counted}
 use Rattle.set_rules.specs.Words.{Set}
 use Rattle.sets.specs.Bins.{binAs}
 use Rattle.set_rules.specs.Lookup.{forwarded}
@@ -15,7 +16,7 @@ use Rattle.sets.proofs.lookup.search.Tie as tie
 abbrev Inv-loop : tie.InvT-loop
 Inv-loop lengths bins heads names cells table hash key n h k₀ k =
     let s : Set = record { lengths = lengths; bins = bins; heads = heads; names = names; cells = cells } in
-    (forwarded (length lengths - k) s k hash key ≡ forwarded (length lengths - table) s table hash key)
+    (counted (forwarded (length lengths - k) s k hash key) ≡ counted (forwarded (length lengths - table) s table hash key))
     × (k < length lengths)
     × (n ≡ length names / 2)
     × (h ≡ length heads / 3)

@@ -1,18 +1,19 @@
--- The loop's invariant: the search from here, with the visits that are left, has the answer of the whole search.
+-- The loop's invariant: the search from here, with the visits that are left and those that are spent for looks, is the whole search.
 use mathlib.Core.Path.{_≡_, sym, ap, _∙_}
 use denote.Ref.{now}
-use Prim.Native.Nat.{_<_, _≤_, _^_, _/_}
+use Prim.Native.Nat.{_-_, _<_, _≤_, _^_, _/_}
 use lib.ListN.{length}
-use Rattle.tree_rules.specs.Find.{found, searched}
+use Rattle.tree_rules.specs.Find.{counted, found, searched}
+use Rattle.tree_rules.proofs.Looks.{tree-runs}
 use Rattle.tree.specs.Find.{seenOf}
-use Rattle.tree.proofs.Searching.{one-less, ended, outside, spent, met, onward}
+use Rattle.tree.proofs.Searching.{one-less, later, begun, ended, outside, spent, met, onward}
 use borrow.Author.Needs.{needs}
 use Rattle.tree.proofs.find.find_tree_node.Statement.{statement}
 use Rattle.tree.proofs.find.find_tree_node.Tie as tie
 
 abbrev Inv-loop : tie.InvT-loop
 Inv-loop names cells root hash key slots p₀ visits₀ p visits =
-    (searched names cells visits p hash key .answer ≡ found names cells root hash key .answer)
+    (later (slots - visits) (searched names cells visits p hash key) ≡ counted (found names cells root hash key))
     × (p < 2 ^ 32)
     × (visits ≤ length names / 2)
     × (slots ≡ length names / 2)
@@ -22,10 +23,15 @@ abbrev μ-loop : tie.MeasureT-loop
 
 loop-holds : tie.Need-loop-holds Inv-loop μ-loop
 unfolding found
-loop-holds c = search needs
+loop-holds c =
+    let a = c .before .before .args in
+    (begun _ (found (now (a .names)) (now (a .cells)) (a .root) (a .hash) (a .key)), search needs, search needs, search needs)
 
 cast-if1 : tie.Need-cast-if1 Inv-loop μ-loop
 cast-if1 c = search needs
+
+sub-looks : tie.Need-sub-looks Inv-loop μ-loop
+sub-looks c = search needs
 
 off-requires : tie.Need-off-requires Inv-loop μ-loop
 off-requires c κs = search needs
@@ -35,13 +41,16 @@ returns c =
     let at-range = c .before in
     let at-loop = at-range .before .before in
     let a = at-loop .before .before .before .args in
-    outside (now (a .names)) (now (a .cells)) (a .hash) (a .key) (at-loop .loop .p) (at-loop .loop .visits) (at-loop .loop .inv .0) (at-range .if1 .taken) (c .off .ensures)
+    outside (tree-runs (now (a .names)) (now (a .cells)) (a .hash) (a .key)) (at-loop .loop .p) (at-loop .loop .visits) (at-loop .loop .inv .0) (at-range .if1 .taken) (c .off .ensures)
+
+sub-looks-2 : tie.Need-sub-looks-2 Inv-loop μ-loop
+sub-looks-2 c = search needs
 
 returns-2 : tie.Need-returns-2 Inv-loop μ-loop
 returns-2 c =
     let at-loop = c .before .before .before in
     let a = at-loop .before .before .before .args in
-    ended (now (a .names)) (now (a .cells)) (a .hash) (a .key) (at-loop .loop .p) (at-loop .loop .visits) (at-loop .loop .inv .0) (c .if2 .taken)
+    ended (tree-runs (now (a .names)) (now (a .cells)) (a .hash) (a .key)) (at-loop .loop .p) (at-loop .loop .visits) (at-loop .loop .inv .0) (c .if2 .taken)
 
 sub-visits : tie.Need-sub-visits Inv-loop μ-loop
 sub-visits c = search needs
@@ -55,6 +64,9 @@ enum-known-seen c = search needs
 enum-told : tie.Need-enum-told Inv-loop μ-loop
 enum-told c = search needs
 
+sub-looks-3 : tie.Need-sub-looks-3 Inv-loop μ-loop
+sub-looks-3 c = search needs
+
 returns-3 : tie.Need-returns-3 Inv-loop μ-loop
 returns-3 c =
     let at-look = c .before .before in
@@ -64,10 +76,14 @@ returns-3 c =
     let at-loop = at-visits .before in
     let a = at-loop .before .before .before .args in
     met
-    (now (a .names)) (now (a .cells)) (a .hash) (a .key) (at-loop .loop .p) (at-loop .loop .visits) (at-loop .loop .inv .0)
+    (tree-runs (now (a .names)) (now (a .cells)) (a .hash) (a .key))
+    (at-loop .loop .p)
     (at-solid .if2 .left)
     (at-range .if1 .left)
+    (at-loop .loop .visits)
+    (at-loop .loop .inv .0)
     (at-visits .loop-test .taken)
+    (at-loop .loop .inv .2)
     (ap seenOf (sym (c .enum-told .given .1)) ∙ at-look .look .ensures)
 
 loop-less : tie.Need-loop-less Inv-loop μ-loop
@@ -83,10 +99,14 @@ loop-again c =
     let at-loop = at-visits .before in
     let a = at-loop .before .before .before .args in (
       onward
-          (now (a .names)) (now (a .cells)) (a .hash) (a .key) (at-loop .loop .p) (at-loop .loop .visits) (at-loop .loop .inv .0)
+          (tree-runs (now (a .names)) (now (a .cells)) (a .hash) (a .key))
+          (at-loop .loop .p)
           (at-solid .if2 .left)
           (at-range .if1 .left)
+          (at-loop .loop .visits)
+          (at-loop .loop .inv .0)
           (at-visits .loop-test .taken)
+          (at-loop .loop .inv .2)
           (ap seenOf (sym (at-told .seen .given .1)) ∙ at-look .look .ensures),
       search needs,
       one-less (at-loop .loop .inv .2),
@@ -100,7 +120,7 @@ returns-4 : tie.Need-returns-4 Inv-loop μ-loop
 returns-4 c =
     let at-loop = c .before .before in
     let a = at-loop .before .before .before .args in
-    spent (now (a .names)) (now (a .cells)) (a .hash) (a .key) (at-loop .loop .p) (at-loop .loop .visits) (at-loop .loop .inv .0) (c .before .loop-test .left) (c .off2 .ensures)
+    spent (tree-runs (now (a .names)) (now (a .cells)) (a .hash) (a .key)) (at-loop .loop .p) (at-loop .loop .visits) (at-loop .loop .inv .0) (c .before .loop-test .left) (c .off2 .ensures)
 
 pub find-tree-node-spec : {M : Type 1} → statement M
 find-tree-node-spec =
@@ -110,13 +130,16 @@ find-tree-node-spec =
     μ-loop
     loop-holds
     cast-if1
+    sub-looks
     off-requires
     returns
+    sub-looks-2
     returns-2
     sub-visits
     look-requires
     enum-known-seen
     enum-told
+    sub-looks-3
     returns-3
     loop-less
     loop-again
