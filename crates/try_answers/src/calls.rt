@@ -6,123 +6,28 @@ use crate::words::held_link;
 use crate::words::held_slots;
 use crate::words::link;
 use crate::words::take_slots;
-use index::check::Checked;
 use index::check::check;
-use index::find::Found;
 use index::find::find;
-use index::insert::Inserted;
 use index::insert::insert;
-use index::remove::Removed;
 use index::remove::remove;
 use slots::NULL;
+use slots::answer::Answer;
+use slots::answer::Value;
 
-// A number with the value beside it.
-struct Answer {
-    number: u32,
-    value: u32,
-}
-
-fn inserted(answer: Inserted) -> Answer {
-    match answer {
-        Inserted::At(slot) => Answer {
-            number: 0,
-            value: slot,
-        },
-        Inserted::Unfit => Answer {
-            number: 1,
-            value: 0,
-        },
-        Inserted::Damaged => Answer {
-            number: 2,
-            value: 0,
-        },
-        Inserted::Present(slot) => Answer {
-            number: 3,
-            value: slot,
-        },
-        Inserted::Full => Answer {
-            number: 5,
-            value: 0,
-        },
-        Inserted::JournalFull => Answer {
-            number: 6,
-            value: 0,
-        },
-    }
-}
-
-fn removed(answer: Removed) -> Answer {
-    match answer {
-        Removed::At(slot) => Answer {
-            number: 0,
-            value: slot,
-        },
-        Removed::Unfit => Answer {
-            number: 1,
-            value: 0,
-        },
-        Removed::Damaged => Answer {
-            number: 2,
-            value: 0,
-        },
-        Removed::Absent => Answer {
-            number: 4,
-            value: 0,
-        },
-        Removed::JournalFull => Answer {
-            number: 6,
-            value: 0,
-        },
-    }
-}
-
-fn found(answer: Found) -> Answer {
-    match answer {
-        Found::At(slot, _) => Answer {
-            number: 0,
-            value: slot,
-        },
-        Found::Nothing(_) => Answer {
-            number: 0,
-            value: NULL,
-        },
-        Found::Unfit => Answer {
-            number: 1,
-            value: 0,
-        },
-        Found::Lost(_) => Answer {
-            number: 9,
-            value: 0,
-        },
-    }
-}
-
-fn checked(answer: Checked) -> Answer {
-    match answer {
-        Checked::Passes => Answer {
-            number: 0,
-            value: 0,
-        },
-        Checked::Fails(test, slot) => Answer {
-            number: std::num::wrapping_add_u32(100, test),
-            value: slot,
-        },
-        Checked::Unfit => Answer {
-            number: 1,
-            value: 0,
-        },
-        Checked::Lost => Answer {
-            number: 9,
-            value: 0,
-        },
+// The value of an answer, or what the list has for none.
+fn value_or(none: u32, value: Value) -> u32 {
+    match value {
+        Value::Some(given) => given,
+        Value::None => none,
     }
 }
 
 // The answer against the number and the value that come next in the list.
-fn agrees(text: &[u8], at: usize, answer: Answer, slots: u32) -> Held {
+fn agrees(text: &[u8], at: usize, answer: Answer, none: u32, slots: u32) -> Held {
+    let value = answer.value;
     let start = Held { at, wrong: 0 };
     let told = held_half(text, start, answer.number);
-    held_link(text, told, answer.value, slots)
+    held_link(text, told, value_or(none, value), slots)
 }
 
 fn try_insert(
@@ -137,7 +42,7 @@ fn try_insert(
     let key = number(text, hash.at);
     let place = number(text, key.at);
     let mut lines = [0u64; 5];
-    let answer = insert(
+    let inserted = insert(
         names,
         cells,
         head,
@@ -146,8 +51,7 @@ fn try_insert(
         key.value as u64,
         place.value,
     );
-    let told = inserted(answer);
-    agrees(text, place.at, told, slots)
+    agrees(text, place.at, inserted.answer(), 0, slots)
 }
 
 fn try_remove(
@@ -161,7 +65,7 @@ fn try_remove(
     let hash = number(text, at);
     let key = number(text, hash.at);
     let mut lines = [0u64; 5];
-    let answer = remove(
+    let removed = remove(
         names,
         cells,
         head,
@@ -169,8 +73,7 @@ fn try_remove(
         hash.value as u64,
         key.value as u64,
     );
-    let told = removed(answer);
-    agrees(text, key.at, told, slots)
+    agrees(text, key.at, removed.answer(), 0, slots)
 }
 
 fn try_find(
@@ -183,9 +86,10 @@ fn try_find(
 ) -> Held {
     let hash = number(text, at);
     let key = number(text, hash.at);
-    let answer = find(names, cells, head, hash.value as u64, key.value as u64);
-    let told = found(answer);
-    agrees(text, key.at, told, slots)
+    let found = find(names, cells, head, hash.value as u64, key.value as u64);
+    let counted = found.counted();
+    let answer = counted.answer;
+    agrees(text, key.at, answer, NULL, slots)
 }
 
 fn try_check(
@@ -196,9 +100,8 @@ fn try_check(
     head: &[u32],
     slots: u32,
 ) -> Held {
-    let answer = check(names, cells, head);
-    let told = checked(answer);
-    agrees(text, at, told, slots)
+    let checked = check(names, cells, head);
+    agrees(text, at, checked.answer(), 0, slots)
 }
 
 fn try_words(

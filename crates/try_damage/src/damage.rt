@@ -10,9 +10,9 @@ use crate::judge::judge;
 use index::check::Checked;
 use index::check::check;
 use index::fresh::fresh;
-use index::sound::Soundness;
 use index::sound::sound;
 use slots::NULL;
+use slots::answer::Value;
 use slots::get;
 use slots::name;
 use slots::put;
@@ -34,11 +34,12 @@ pub struct Tally {
 
 // 1 if the tree is sound, 0 if not, 2 if it is refused.
 fn verdict(names: &[u64], cells: &[u32], head: &[u32]) -> u32 {
-    let answer = sound(names, cells, head);
-    match answer {
-        Soundness::Yes => 1,
-        Soundness::No => 0,
-        Soundness::Unfit => 2,
+    let soundness = sound(names, cells, head);
+    let answer = soundness.answer();
+    let value = answer.value;
+    match value {
+        Value::Some(yes) => yes,
+        Value::None => 2,
     }
 }
 
@@ -52,12 +53,9 @@ fn second_verdict(names: &[u64], cells: &[u32], head: &[u32]) -> u32 {
 
 // 1 if the source's check passes the tree, 0 if not.
 fn passed(names: &[u64], cells: &[u32], head: &[u32]) -> u32 {
-    let answer = check(names, cells, head);
-    match answer {
+    match check(names, cells, head) {
         Checked::Passes => 1,
-        Checked::Fails(_, _) => 0,
-        Checked::Unfit => 0,
-        Checked::Lost => 0,
+        _ => 0,
     }
 }
 

@@ -1,7 +1,5 @@
 // Four trees that pass the source's own check and are not sound, each one word or two away from a sound tree.
-use index::check::Checked;
 use index::check::check;
-use index::sound::Soundness;
 use index::sound::sound;
 use slots::BLACK;
 use slots::HASH;
@@ -16,45 +14,19 @@ use slots::RIGHT;
 use slots::STATE;
 use slots::put;
 use slots::put_name;
+use trials::print::answer;
 use trials::print::say;
-
-fn say_check(answer: Checked) {
-    match answer {
-        Checked::Passes => {
-            say(b": check passes");
-        }
-        Checked::Fails(_, _) => {
-            say(b": check fails");
-        }
-        Checked::Unfit => {
-            say(b": check refuses");
-        }
-        Checked::Lost => {
-            say(b": check is lost");
-        }
-    }
-}
-
-fn say_sound(answer: Soundness) {
-    match answer {
-        Soundness::Yes => {
-            say(b", sound yes\n");
-        }
-        Soundness::No => {
-            say(b", sound no\n");
-        }
-        Soundness::Unfit => {
-            say(b", sound refuses\n");
-        }
-    }
-}
+use trials::print::verdict;
 
 // Asks both checks of a tree whose root is slot 0, at the front of the chain, and whose four slots are used.
 fn ask(label: &[u8], names: &[u64], cells: &[u32]) {
     let head = [0u32, 0, 4];
     say(label);
-    say_check(check(names, cells, &head));
-    say_sound(sound(names, cells, &head));
+    let checked = check(names, cells, &head);
+    answer(b": check ", b"passes", checked.answer());
+    let soundness = sound(names, cells, &head);
+    verdict(b", sound ", b"no ", soundness.answer());
+    say(b"\n");
 }
 
 // The root, its left child, its right child, and the left child's right child, by their pairs.

@@ -12,76 +12,31 @@ use index::rollback::rollback;
 use index::sound::Soundness;
 use index::sound::sound;
 use slots::PLACE;
+use slots::answer::Answer;
 use slots::get;
 use slots::name;
 use slots::put_name;
+use trials::print::answer;
 use trials::print::line;
 use trials::print::say;
 
-// A refusal is printed by its number, so that it can be held against the rules.
+// One line to an answer, so that a line that differs names its call.
+fn print(label: &[u8], word: &[u8], told: Answer) {
+    say(label);
+    answer(b": ", word, told);
+    say(b"\n");
+}
+
 fn print_inserted(label: &[u8], inserted: Inserted) {
-    match inserted {
-        Inserted::At(slot) => {
-            line(label, b": slot ", slot);
-        }
-        Inserted::Unfit => {
-            line(label, b": no ", 1);
-        }
-        Inserted::Damaged => {
-            line(label, b": no ", 2);
-        }
-        Inserted::Present(slot) => {
-            line(label, b": no 3 at ", slot);
-        }
-        Inserted::Full => {
-            line(label, b": no ", 5);
-        }
-        Inserted::JournalFull => {
-            line(label, b": no ", 6);
-        }
-    }
+    print(label, b"slot ", inserted.answer());
 }
 
-// The same of a remove.
 fn print_removed(label: &[u8], removed: Removed) {
-    match removed {
-        Removed::At(slot) => {
-            line(label, b": gone ", slot);
-        }
-        Removed::Unfit => {
-            line(label, b": no ", 1);
-        }
-        Removed::Damaged => {
-            line(label, b": no ", 2);
-        }
-        Removed::Absent => {
-            line(label, b": no ", 4);
-        }
-        Removed::JournalFull => {
-            line(label, b": no ", 6);
-        }
-    }
+    print(label, b"gone ", removed.answer());
 }
 
-// The same of a rollback.
 fn print_rolled(label: &[u8], rolled: RolledBack) {
-    match rolled {
-        RolledBack::Lines(lines) => {
-            line(label, b": back ", lines);
-        }
-        RolledBack::Unfit => {
-            line(label, b": no ", 1);
-        }
-        RolledBack::Damaged => {
-            line(label, b": no ", 2);
-        }
-        RolledBack::BadMark => {
-            line(label, b": no ", 7);
-        }
-        RolledBack::Misfit => {
-            line(label, b": no ", 8);
-        }
-    }
+    print(label, b"back ", rolled.answer());
 }
 
 // Whether the tree is sound, and its count, since the answers alone do not say what is left.
@@ -90,11 +45,8 @@ fn print_tree(label: &[u8], names: &[u64], cells: &[u32], head: &[u32]) {
         Soundness::Yes => {
             line(label, b": sound, count ", get(head, 0, 2));
         }
-        Soundness::No => {
+        _ => {
             line(label, b": not sound, count ", get(head, 0, 2));
-        }
-        Soundness::Unfit => {
-            line(label, b": no ", 1);
         }
     }
 }

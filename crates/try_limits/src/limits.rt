@@ -5,25 +5,15 @@ use slots::LEFT;
 use slots::NULL;
 use slots::RIGHT;
 use slots::put;
-use trials::print::line;
+use trials::print::answer_or;
 use trials::print::say;
 
 fn print(label: &[u8], found: Found) {
-    match found {
-        Found::At(slot, _) => {
-            line(label, b": at ", slot);
-        }
-        Found::Nothing(_) => {
-            say(label);
-            say(b": none\n");
-        }
-        Found::Unfit => {
-            line(label, b": no ", 1);
-        }
-        Found::Lost(_) => {
-            line(label, b": no ", 9);
-        }
-    }
+    let counted = found.counted();
+    let answer = counted.answer;
+    say(label);
+    answer_or(b": ", b"at ", b"none", answer);
+    say(b"\n");
 }
 
 fn first_names(words: &[u64], n: usize) -> &[u64] {

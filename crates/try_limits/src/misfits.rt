@@ -9,7 +9,7 @@ use index::rollback::rollback;
 use slots::NULL;
 use slots::put;
 use slots::put_name;
-use trials::print::number;
+use trials::print::answer;
 use trials::print::say;
 use trials::same::same_index;
 
@@ -24,9 +24,9 @@ const LINE_PLACE: u32 = 3;
 const HIGH: u64 = 4294967296;
 
 // One line to an answer, so that a line that differs names its question.
-fn print(label: &[u8], word: &[u8], value: u32, unchanged: bool) {
+fn print(label: &[u8], rolled: RolledBack, unchanged: bool) {
     say(label);
-    number(word, value);
+    answer(b": ", b"back ", rolled.answer());
     if unchanged {
         say(b", all as it was");
     } else {
@@ -40,27 +40,6 @@ fn end(names: &[u64], cells: &[u32], head: &[u32], n: u32, unchanged: bool) {
         say_entries(names, cells, head, n);
     }
     say(b"\n");
-}
-
-// A refusal is printed by its number, so that it can be held against the rules.
-fn print_rolled(label: &[u8], rolled: RolledBack, unchanged: bool) {
-    match rolled {
-        RolledBack::Lines(lines) => {
-            print(label, b": back ", lines, unchanged);
-        }
-        RolledBack::Unfit => {
-            print(label, b": no ", 1, unchanged);
-        }
-        RolledBack::Damaged => {
-            print(label, b": no ", 2, unchanged);
-        }
-        RolledBack::BadMark => {
-            print(label, b": no ", 7, unchanged);
-        }
-        RolledBack::Misfit => {
-            print(label, b": no ", 8, unchanged);
-        }
-    }
 }
 
 // The root where one is given, so that a tree that is not sound can be asked about.
@@ -98,7 +77,7 @@ fn ask(label: &[u8], k: u32, f: u32, value: u64, root: u32, mark: u32) {
         &head_before,
         &lines_before,
     );
-    print_rolled(label, rolled, unchanged);
+    print(label, rolled, unchanged);
     end(&names, &cells, &head, 3, unchanged);
 }
 
@@ -127,7 +106,7 @@ fn ask_full(label: &[u8]) {
         &head_before,
         &lines_before,
     );
-    print_rolled(label, rolled, unchanged);
+    print(label, rolled, unchanged);
     end(&names, &cells, &head, 1, unchanged);
 }
 

@@ -1,6 +1,5 @@
 // Asks insert, remove, rollback, sound and check of an empty tree whose words are unfit, or that is damaged. Prints what each of them
 // answers, and whether the lent words are as they were before the first call.
-use index::check::Checked;
 use index::check::check;
 use index::fresh::fresh;
 use index::insert::Inserted;
@@ -9,114 +8,27 @@ use index::remove::Removed;
 use index::remove::remove;
 use index::rollback::RolledBack;
 use index::rollback::rollback;
-use index::sound::Soundness;
 use index::sound::sound;
 use slots::NULL;
 use slots::put;
 use slots::put_name;
-use trials::print::number;
+use trials::print::answer;
 use trials::print::say;
+use trials::print::verdict;
 use trials::same::same_index;
 ghost use Prim.Native.Nat.{_≤_};
 ghost use lib.ListN.{length as size};
 
-// A refusal is printed by its number, so that it can be held against the rules.
 fn say_inserted(inserted: Inserted) {
-    match inserted {
-        Inserted::At(slot) => {
-            number(b": insert slot ", slot);
-        }
-        Inserted::Unfit => {
-            number(b": insert no ", 1);
-        }
-        Inserted::Damaged => {
-            number(b": insert no ", 2);
-        }
-        Inserted::Present(_) => {
-            number(b": insert no ", 3);
-        }
-        Inserted::Full => {
-            number(b": insert no ", 5);
-        }
-        Inserted::JournalFull => {
-            number(b": insert no ", 6);
-        }
-    }
+    answer(b": insert ", b"slot ", inserted.answer());
 }
 
-// The same of a remove.
 fn say_removed(removed: Removed) {
-    match removed {
-        Removed::At(slot) => {
-            number(b", remove gone ", slot);
-        }
-        Removed::Unfit => {
-            number(b", remove no ", 1);
-        }
-        Removed::Damaged => {
-            number(b", remove no ", 2);
-        }
-        Removed::Absent => {
-            number(b", remove no ", 4);
-        }
-        Removed::JournalFull => {
-            number(b", remove no ", 6);
-        }
-    }
+    answer(b", remove ", b"gone ", removed.answer());
 }
 
-// The same of a rollback.
 fn say_rolled(rolled: RolledBack) {
-    match rolled {
-        RolledBack::Lines(lines) => {
-            number(b", rollback back ", lines);
-        }
-        RolledBack::Unfit => {
-            number(b", rollback no ", 1);
-        }
-        RolledBack::Damaged => {
-            number(b", rollback no ", 2);
-        }
-        RolledBack::BadMark => {
-            number(b", rollback no ", 7);
-        }
-        RolledBack::Misfit => {
-            number(b", rollback no ", 8);
-        }
-    }
-}
-
-// The same of the full check.
-fn say_sound(verdict: Soundness) {
-    match verdict {
-        Soundness::Yes => {
-            say(b", sound yes");
-        }
-        Soundness::No => {
-            say(b", sound no");
-        }
-        Soundness::Unfit => {
-            number(b", sound no ", 1);
-        }
-    }
-}
-
-// The same of the source's check.
-fn say_checked(checked: Checked) {
-    match checked {
-        Checked::Passes => {
-            say(b", check passes");
-        }
-        Checked::Fails(test, _) => {
-            number(b", check fails ", test);
-        }
-        Checked::Unfit => {
-            number(b", check no ", 1);
-        }
-        Checked::Lost => {
-            number(b", check no ", 9);
-        }
-    }
+    answer(b", rollback ", b"back ", rolled.answer());
 }
 
 // The three calls that can write: pair (0, 1) goes in, (0, 2) is to go, and the mark is 1.
@@ -129,8 +41,10 @@ fn ask_three(names: &mut [u64], cells: &mut [u32], head: &mut [u32], lines: &mut
 // Those three, and the two checks.
 fn ask_five(names: &mut [u64], cells: &mut [u32], head: &mut [u32], lines: &mut [u64]) {
     ask_three(names, cells, head, lines);
-    say_sound(sound(names, cells, head));
-    say_checked(check(names, cells, head));
+    let soundness = sound(names, cells, head);
+    verdict(b", sound ", b"no ", soundness.answer());
+    let checked = check(names, cells, head);
+    answer(b", check ", b"passes", checked.answer());
 }
 
 // Ends a line.

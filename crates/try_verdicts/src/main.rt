@@ -1,5 +1,4 @@
 // Asks accept of small sets, each a word or two away from an accepted one, and prints its answer: yes, no, or 1.
-use sets::accept::Acceptance;
 use sets::accept::accept;
 use slots::BLACK;
 use slots::HASH;
@@ -16,21 +15,14 @@ use slots::STATE;
 use slots::put;
 use slots::put_name;
 use trials::print::say;
+use trials::print::verdict;
 
 // One line to a set.
 fn ask(label: &[u8], lengths: &[u32], bins: &[u32], heads: &[u32], names: &[u64], cells: &[u32]) {
     say(label);
-    match accept(lengths, bins, heads, names, cells) {
-        Acceptance::Yes => {
-            say(b": yes\n");
-        }
-        Acceptance::No => {
-            say(b": no\n");
-        }
-        Acceptance::Unfit => {
-            say(b": 1\n");
-        }
-    }
+    let acceptance = accept(lengths, bins, heads, names, cells);
+    verdict(b": ", b"", acceptance.answer());
+    say(b"\n");
 }
 
 // The first n slots become free.

@@ -21,7 +21,6 @@ pub fn look(
     print::number(b"lookup from ", table);
     print::number(b" of ", hash);
     print::number(b" ", key);
-    print::say(b": ");
     say::looked(lookup(
         lengths,
         bins,
@@ -85,12 +84,8 @@ pub fn walk(
             say::cursor(c);
             steps(lengths, bins, heads, names, cells, c, n);
         }
-        Started::Unfit => {
-            print::say(b": no 1");
-            say::cursor(c);
-        }
-        Started::Unknown => {
-            print::say(b": no 10");
+        _ => {
+            say::refused(answer);
             say::cursor(c);
         }
     }

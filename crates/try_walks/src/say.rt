@@ -2,7 +2,10 @@
 use sets::lookup::Looked;
 use sets::walk::Cursor;
 use sets::walk::Given;
+use sets::walk::Started;
 use slots::NULL;
+use trials::print::answer;
+use trials::print::answer_or;
 use trials::print::number;
 use trials::print::say;
 
@@ -34,42 +37,16 @@ pub fn cursor(c: Cursor) {
     say(b"\n");
 }
 
-pub fn given(answer: Given) {
-    match answer {
-        Given::Entry(slot) => {
-            number(b"slot ", slot);
-        }
-        Given::Done => {
-            say(b"done");
-        }
-        Given::Unfit => {
-            say(b"no 1");
-        }
-        Given::BadCursor => {
-            say(b"no 11");
-        }
-        Given::Lost => {
-            say(b"no 9");
-        }
-    }
+pub fn given(given: Given) {
+    answer_or(b"", b"slot ", b"done", given.answer());
 }
 
-pub fn looked(answer: Looked) {
-    match answer {
-        Looked::At(slot, _) => {
-            number(b"at ", slot);
-        }
-        Looked::Nothing(_) => {
-            say(b"none");
-        }
-        Looked::Unfit => {
-            say(b"no 1");
-        }
-        Looked::Unknown => {
-            say(b"no 10");
-        }
-        Looked::Lost(_) => {
-            say(b"no 9");
-        }
-    }
+pub fn looked(looked: Looked) {
+    let counted = looked.counted();
+    let answer = counted.answer;
+    answer_or(b": ", b"at ", b"none", answer);
+}
+
+pub fn refused(started: Started) {
+    answer(b": ", b"", started.answer());
 }
