@@ -7,6 +7,7 @@ use Rattle.slots.specs.Pairs.{pair, pairOf}
 use Rattle.slots.specs.Answers.{none, given, nothing, refused}
 use Rattle.slots.proofs.Laws.{number, none-some, value}
 use Rattle.tree_rules.specs.Find.{Search, found}
+use Rattle.tree_rules.proofs.Claims.{looks-squared}
 use Rattle.redblack.specs.Holding.{Has, Stands}
 use Rattle.index_rules.specs.Live.{Live, Fit, rootOf}
 use Rattle.index_rules.specs.Sound.{Sound}
@@ -18,6 +19,7 @@ use Rattle.index_rules.proofs.Seeking.{found-at, found-none}
 use Rattle.index_rules.proofs.Deciding.{Seen, there, absent, seen}
 use Rattle.index_rules.proofs.Holding.{contents-length, stands-in, in-stands}
 use Rattle.index_rules.proofs.Listing.{ascends-map, ascends-same}
+use Rattle.index_rules.proofs.Frames.{sound-count}
 use Rattle.index_rules.proofs.Unrolling.{contents-one}
 use Rattle.index_rules.proofs.Inserting.{value-inj}
 
@@ -38,6 +40,7 @@ module _ {t : Live} (fit : Fit t) (h : Sound t) (hash key : ℕ) where
         none = (lacks, at-none);
         never-nine = λ e. nine e (seen fit h hash key);
         once = find-claims t hash key .looks fit .once (λ e. nine e (seen fit h hash key));
+        not-deep = rw (find-fit t hash key fit, sound-count h) (looks-squared (t .names) (t .cells) (rootOf t) hash key (h .t3 .rooted) (h .t5) (h .t6));
       }
     where
       to : (slot : ℕ) → finds t hash key .answer ≡ given slot → Stands slot (h .tree) × (pairOf (t .names) slot ≡ pair hash key)

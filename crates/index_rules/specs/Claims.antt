@@ -3,7 +3,7 @@ use mathlib.Core.Path.{_≡_}
 use mathlib.Core.Logic.{_≢_, _↔_}
 use mathlib.Core.Bool.{true}
 use mathlib.Core.List.{List, [], _∷_}
-use Prim.Native.Nat.{ℕ, _+_, _-_, _<_, _≤_}
+use Prim.Native.Nat.{ℕ, _+_, _-_, _*_, _^_, _<_, _≤_}
 use lib.ListN.{length, getD}
 use Rattle.slots.specs.Words.{place, cell}
 use Rattle.slots.specs.Pairs.{pair, pairOf}
@@ -70,6 +70,8 @@ pub record FindsSound (t : Live) (fit : Fit t) (h : Sound t) (hash key : ℕ) : 
   pub none : (finds t hash key .answer ≡ nothing) ↔ (Has (t .names) (h .tree) hash key → ⊥)
   pub never-nine : finds t hash key .answer ≡ refused 9 → ⊥
   pub once : (x : ℕ) → times x (finds t hash key .looks) ≤ 1
+  -- "two to the power of nodes looked at is at most (n+1) squared", detours at a null child included
+  pub not-deep : 2 ^ length (finds t hash key .looks) ≤ (countOf t + 1) * (countOf t + 1)
 
 -- The contents of a sound tree are one list, and it strictly rises: two trees have equal contents exactly if they hold the same.
 pub record Contained (t : Live) (fit : Fit t) : Type 0 where

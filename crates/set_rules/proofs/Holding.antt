@@ -3,7 +3,7 @@
 use mathlib.Core.Path.{_≡_, refl, ap, sym, _∙_}
 use mathlib.Core.Logic.{_≢_}
 use mathlib.Core.List.{List, [], _∷_}
-use Prim.Native.Nat.{ℕ, zero, suc, _-_, _<_, _≤_}
+use Prim.Native.Nat.{ℕ, zero, suc, _+_, _-_, _*_, _^_, _<_, _≤_}
 use native.Mathlib.Omega.{arith}
 use lib.ListN.{length}
 use Rattle.slots.specs.Words.{null, next, cell}
@@ -15,18 +15,18 @@ use Rattle.tree_rules.specs.Tree.{Tree, slots, times, Rooted}
 use Rattle.tree_rules.proofs.Counting.{times-head, times-rest, times-cases, length-most}
 use Rattle.tree_rules.proofs.Reaching.{rooted-most, rooted-unique}
 use Rattle.index_rules.proofs.Seeking.{seeks}
-use Rattle.set_rules.specs.Words.{Set, tablesOf, lengthAt, rootAt, Fit, Bin, list, tree, bini}
+use Rattle.set_rules.specs.Words.{Set, tablesOf, lengthAt, rootAt, countAt, Fit, Bin, list, tree, bini}
 use Rattle.set_rules.specs.Accepted.{Accepted, Place, Listed, HeldIn, Unlike, Apart}
 use Rattle.set_rules.proofs.Fit.{small, ends, bini-less}
 use Rattle.set_rules.proofs.Lists.{apart-once, listed-inside, listed-unique}
-use Rattle.tree_rules.proofs.Claims.{claims as shape-claims}
+use Rattle.tree_rules.proofs.Claims.{looks-squared, claims as shape-claims}
 use Rattle.tree_rules.proofs.Trail.{answers}
 use Rattle.set_rules.specs.Lookup.{listed, homeBin, lookups, Reaches, Astray, Hit, Miss}
 use Rattle.set_rules.specs.Held.{Reached}
 use Rattle.set_rules.specs.Walked.{LooksUp}
 use Rattle.set_rules.proofs.Reading.{at-null}
 use Rattle.set_rules.proofs.Listing.{decided, onward, stays, lost-nine, here-given}
-use Rattle.set_rules.proofs.Looks.{lookup-looks}
+use Rattle.set_rules.proofs.Looks.{lookup-looks, list-length}
 use Rattle.set_rules.proofs.Looking.{known-loop, whole, comes-in, at-bin, Outcome, outcome}
 
 -- The answer a for the slots l: the slot that has the pair, or Nothing.
@@ -184,6 +184,18 @@ module _ (s : Set) (fit : Fit s) (acc : Accepted s) (hash key : ℕ) where
     looked-once (Outcome.miss (Miss.in-list c e h)) n x = lookup-looks s fit t hash key there .in-list c e .once n x
     looked-once (Outcome.miss (Miss.in-tree c e h)) n x = lookup-looks s fit t hash key there .in-tree c e .once n x
 
+    tree-limit : {k h : ℕ} → Reaches s t hash k → homeBin s k hash ≡ tree h
+        → 2 ^ length (lookups s t hash key .looks) ≤ (countAt s h + 1) * (countAt s h + 1)
+    tree-limit {k} {h} c e =
+        let g = acc .trees k (bini (lengthAt s k) hash) h (home-place k (comes-in s t hash key there c)) e in
+        rw (known-loop s t hash key fit there ∙ at-bin s t hash key there c e, ← g .size)
+        (looks-squared (s .names) (s .cells) (rootAt s h) hash key (g .rooted) (g .coloured) (g .level))
+
+    list-limit : {k p : ℕ} {l : List ℕ} → Reaches s t hash k → homeBin s k hash ≡ list p → Listed (slotsOf (s .names)) (s .cells) p l
+        → length (lookups s t hash key .looks) ≤ length l
+    list-limit c e h =
+        rw (known-loop s t hash key fit there ∙ at-bin s t hash key there c e) (list-length (s .names) (s .cells) hash key (slotsOf (s .names)) h)
+
     pub looks-up : LooksUp s t hash key
     looks-up =
         let z = answers (known-loop s t hash key fit there) in
@@ -193,4 +205,6 @@ module _ (s : Set) (fit : Fit s) (acc : Accepted s) (hash key : ℕ) where
           none = (λ e slot r. nothing-given (sym e ∙ z ∙ reached-given r), λ n. z ∙ none-nothing o n);
           never = λ n l e. never-refused o n l (sym z ∙ e);
           once = looked-once o (λ e. never-refused o 9 (omega arith) (sym z ∙ e));
+          tree-not-deep = tree-limit;
+          list-most = list-limit;
         }

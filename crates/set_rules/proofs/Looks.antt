@@ -6,15 +6,17 @@ use mathlib.Core.List.{List}
 use Prim.Native.Nat.{ℕ, zero, suc, _-_, _<_, _≤_}
 use native.Mathlib.Omega.{arith}
 use lib.ListN.{length}
-use lib.Dec.{ltb}
-use Rattle.slots.specs.Words.{pick, next, cell}
+use lib.Dec.{eqb, ltb, leb}
+use borrow.Author.Tests.{eq-eqb}
+use Rattle.slots.specs.Words.{null, pick, next, cell}
 use Rattle.slots.specs.Pairs.{pair, pairOf}
-use Rattle.slots.specs.Answers.{refused}
-use Rattle.tree_rules.specs.Find.{here, on, ends, slotsOf}
+use Rattle.slots.specs.Answers.{nothing, refused}
+use Rattle.tree_rules.specs.Find.{here, on, ends, lookedThen, slotsOf}
 use Rattle.tree_rules.specs.Looks.{LooksAt}
 use Rattle.tree_rules.proofs.Trail.{here-on, on-is, looks, Runs, Trail, start, step, looks-at}
 use Rattle.tree_rules.proofs.Claims.{claims as shape-claims}
 use Rattle.set_rules.specs.Words.{Set, tablesOf, rootAt, Fit, fits, Bin, empty, moved, bad, list, tree}
+use Rattle.set_rules.specs.Accepted.{Listed}
 use Rattle.set_rules.specs.Lookup.{hasPair, listLook, listed, homeBin, asked, forwarded, lookups, ListFollows}
 use Rattle.set_rules.specs.Walked.{LookupLooks}
 use Rattle.set_rules.proofs.Reading.{at-null, out-of-range, visits-spent, at-slot}
@@ -58,6 +60,25 @@ module _ (names cells : List ℕ) (hash key : ℕ) where
 
     pub list-looks : LooksAt names hash key (ListFollows names cells first hash key) (listed names cells (slotsOf names) first hash key)
     list-looks = looks-at names hash key list-runs is (λ p q e. is-on p q e .0) first (ListFollows names cells first hash key) to from
+
+-- A list that ends is looked at no further than it is long.
+module _ (names cells : List ℕ) (hash key : ℕ) where
+  pub list-length : (visits : ℕ) {p : ℕ} {l : List ℕ} → Listed (slotsOf names) cells p l → length (listed names cells visits p hash key .looks) ≤ length l
+  unfolding listed
+  list-length zero {p} {l} h = go (eqb p null)
+    where
+      go : (b : Bool) → length (pick b (ends nothing) (ends (refused 9)) .looks) ≤ length l
+      go true = omega arith
+      go false = omega arith
+  list-length (suc visits) (Listed.ended e) = rw (eq-eqb _ null e) (omega arith)
+  list-length (suc visits) (Listed.onward {i = p} {l = l} b h) = go (eqb p null) (leb (slotsOf names) p) (hasPair names p hash key) (list-length visits h)
+    where
+      go : (u v w : Bool) → length (listed names cells visits (cell cells p next) hash key .looks) ≤ length l
+          → length (pick u (ends nothing) (pick v (ends (refused 9)) (lookedThen (pick w here (on (cell cells p next))) p (λ q. listed names cells visits q hash key))) .looks) ≤ suc (length l)
+      go true v w x = omega arith
+      go false true w x = omega arith
+      go false false true x = omega arith
+      go false false false x = omega (arith, x)
 
 pub lookup-looks : (s : Set) → Fit s → (t hash key : ℕ) → t < tablesOf s → LookupLooks s t hash key
 lookup-looks s fit t hash key l =

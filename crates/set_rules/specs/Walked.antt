@@ -2,7 +2,7 @@
 use mathlib.Core.Path.{_≡_}
 use mathlib.Core.Logic.{_≢_, _↔_}
 use mathlib.Core.List.{List, []}
-use Prim.Native.Nat.{ℕ, suc, _<_, _≤_}
+use Prim.Native.Nat.{ℕ, suc, _+_, _*_, _^_, _<_, _≤_}
 use lib.ListN.{length}
 use Rattle.slots.specs.Words.{null, nameOf, hashPart, keyPart}
 use Rattle.slots.specs.Pairs.{pair, pairOf}
@@ -12,8 +12,8 @@ use Rattle.tree_rules.specs.Tree.{times}
 use Rattle.tree_rules.specs.Looks.{LooksAt}
 use Rattle.tree_rules.specs.Chain.{tally}
 use Rattle.index_rules.specs.Sound.{used}
-use Rattle.set_rules.specs.Words.{Set, tablesOf, lengthAt, rootAt, Fit, empty, moved, bad, list, tree}
-use Rattle.set_rules.specs.Accepted.{Accepted}
+use Rattle.set_rules.specs.Words.{Set, tablesOf, lengthAt, rootAt, countAt, Fit, empty, moved, bad, list, tree}
+use Rattle.set_rules.specs.Accepted.{Accepted, Listed}
 use Rattle.set_rules.specs.Lookup.{homeBin, lookups, ListFollows, Reaches, Astray, Hit, Miss}
 use Rattle.set_rules.specs.Cursor.{Cursor, Step, indexAt, lone, blank, starts, BadCursor}
 use Rattle.set_rules.specs.Walk.{nexts}
@@ -53,6 +53,11 @@ pub record LooksUp (s : Set) (t hash key : ℕ) : Type 0 where
   pub never : (n : ℕ) → 1 ≤ n → lookups s t hash key .answer ≢ refused n
   -- and no slot is looked at twice
   pub once : (x : ℕ) → times x (lookups s t hash key .looks) ≤ 1
+  -- "For lookup the limit holds where the last bin is a tree of an accepted set"; in a list there are no more looks than it is long
+  pub tree-not-deep : {k h : ℕ} → Reaches s t hash k → homeBin s k hash ≡ tree h
+      → 2 ^ length (lookups s t hash key .looks) ≤ (countAt s h + 1) * (countAt s h + 1)
+  pub list-most : {k p : ℕ} {l : List ℕ} → Reaches s t hash k → homeBin s k hash ≡ list p → Listed (slotsOf (s .names)) (s .cells) p l
+      → length (lookups s t hash key .looks) ≤ length l
 
 -- Start: 1, then 10, with a cursor that is all zero; else a cursor at the first bin of the table.
 pub record Starts (s : Set) (t : ℕ) : Type 0 where

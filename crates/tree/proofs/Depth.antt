@@ -1,20 +1,24 @@
--- A tree that obeys the rules is not deep: each way down meets as many black slots, no two red ones in a row, and a tree with b black
--- slots on each way has 2 to the b slots but one at least. So a walk need not go deeper than 129, whatever number of visits a word holds.
-use mathlib.Core.Path.{_≡_, refl, sym, ap, _∙_}
+-- A tree that obeys the rules is not deep (Height of tree_rules), and each slot takes a visit. So a walk need not go deeper than 129,
+-- whatever number of visits a word holds.
+use mathlib.Core.Path.{_≡_, refl, sym, ap, subst, _∙_}
 use mathlib.Core.Logic.{_≢_}
 use mathlib.Core.Bool.{Bool, true, false, false≢true}
 use mathlib.Core.List.{List}
-use Prim.Native.Nat.{ℕ, zero, suc, _+_, _-_, _*_, _<_, _≤_}
-use native.Mathlib.Numerals.{add-one}
+use Prim.Native.Nat.{ℕ, zero, suc, _+_, _-_, _*_, _^_, _<_, _≤_}
+use native.Mathlib.Decide.{decLe}
 use native.Mathlib.Omega.{arith}
+use lib.ListN.{length}
+use lib.Pow.{pow-mono}
 use lib.Dec.{eqb, ltb}
 use borrow.Author.Tests.{eqb-true, eqb-false, eq-eqb, ne-eqb, ltb-false}
-use Rattle.slots.specs.Words.{null, pick, state, left, right, cell}
+use Rattle.slots.specs.Words.{null, pick, state, left, right, cell, Colour, black, red}
 use Rattle.slots.specs.Answers.{Value, none, some}
 use Rattle.slots.proofs.Laws.{some-is}
 use Rattle.tree_rules.specs.Find.{slotsOf}
 use Rattle.tree_rules.specs.Rules.{then, stands, reached, risen, allCalm, levelled, isCalm}
-use Rattle.tree_rules.proofs.Reaching.{refuted}
+use Rattle.tree_rules.specs.Tree.{Tree, leaf, node, colour, slots, Calm, nothing, darkly, redly, blacks, height}
+use Rattle.tree_rules.proofs.Reaching.{refuted, length-node}
+use Rattle.tree_rules.proofs.Height.{Even, bottom, above, even-size, even-height, higher-left, higher-right}
 use Rattle.tree.proofs.Ruling.{rise-null, calm-null, level-null}
 use Rattle.tree.specs.Rules.{Judged, breaks, together, judged, deepestOf}
 
@@ -111,56 +115,67 @@ module _ (cells : List ℕ) where
   unfolding allCalm
   calms depth i n e = three (isCalm cells i) _ _ (rw (ne-eqb i null n) at e)
 
+  no-depth : (i : ℕ) → i ≢ null → allCalm zero cells i ≡ true → ⊥
+  unfolding allCalm
+  no-depth i n e = n (eqb-true i null e)
+
   black-children : (l r : Bool) → pick l false (pick r false true) ≡ true → (l ≡ false) × (r ≡ false)
   black-children true r e = absurd (false≢true e)
   black-children false true e = absurd (false≢true e)
   black-children false false e = (refl, refl)
 
-  -- With b black slots on each way down, and no two red ones in a row, a way has at most 2 b + 1 slots; 2 b under a link that is not red.
-  abbrev Lows : ℕ → ℕ → Type 0
-  Lows b i = Low cells (2 * b + 1) i × (eqb (cell cells i state) 2 ≡ false → Low cells (2 * b) i)
+  -- The words below a link as T6's walk reads them, as a tree.
+  abbrev hue : ℕ → Colour
+  hue i = pick (eqb (cell cells i state) 2) red black
 
-  low-slot : (depth i b : ℕ) → i ≢ null → (k : Evened depth i b) → isCalm cells i ≡ true → Lows (k .half) (cell cells i left) → Lows (k .half) (cell cells i right) → Lows b i
-  low-slot depth i b n k q x y = go (eqb (cell cells i state) 2) refl
+  data Drawn : ℕ → Tree → Type 0 where
+    at-null : {i : ℕ} → i ≡ null → Drawn i leaf
+    at-slot : {i : ℕ} {l r : Tree} → i ≢ null → Drawn (cell cells i left) l → Drawn (cell cells i right) r → Drawn i (node (hue i) l i r)
+
+  hue-blacks : (i half : ℕ) → pick (eqb (cell cells i state) 2) half (half + 1) ≡ blacks (hue i) + half
+  hue-blacks i half = go (eqb (cell cells i state) 2)
     where
-      go : (red : Bool) → eqb (cell cells i state) 2 ≡ red → Lows b i
-      go true r =
-          let o = black-children (eqb (cell cells (cell cells i left) state) 2) (eqb (cell cells (cell cells i right) state) 2) (rw r at q) in
-          let z : k .half ≡ b = rw r at (k .blacks) in
-          (lower (suc (2 * (k .half))) (2 * b + 1) i (omega (arith, z)) (at-slot n (x .1 (o .0)) (y .1 (o .1))), λ f. absurd (false≢true (sym f ∙ r)))
-      go false r =
-          let z : k .half + 1 ≡ b = rw r at (k .blacks) in
-          let w = at-slot n (x .0) (y .0) in
-          (lower (suc (2 * (k .half) + 1)) (2 * b + 1) i (omega (arith, z)) w, λ f. lower (suc (2 * (k .half) + 1)) (2 * b) i (omega (arith, z)) w)
+      go : (t : Bool) → pick t half (half + 1) ≡ blacks (pick t red black) + half
+      go true = omega arith
+      go false = omega arith
 
-  low : (depth i b : ℕ) → levelled depth cells i ≡ some b → allCalm depth cells i ≡ true → Lows b i
+  empty : (depth i b : ℕ) → levelled depth cells i ≡ some b → i ≡ null → (t : Tree) × Drawn i t × Even t b
+  empty depth i b e z = (leaf, at-null z, rw (some-is (sym e ∙ sym (level-null cells i depth z))) bottom)
+
+  drawn : (depth i b : ℕ) → levelled depth cells i ≡ some b → (t : Tree) × Drawn i t × Even t b
   unfolding levelled
-  low zero i b e c = null-or i (λ z. (at-null z, λ f. at-null z)) (λ n. refuted (rw (ne-eqb i null n) at e))
-  low (suc depth) i b e c =
-      null-or i (λ z. (at-null z, λ f. at-null z))
+  drawn zero i b e = null-or i (λ z. empty zero i b e z) (λ n. refuted (rw (ne-eqb i null n) at e))
+  drawn (suc depth) i b e =
+      null-or i (empty (suc depth) i b e)
       (λ n. (let k = evened depth i b n e in
-      let q = calms depth i n c in
-      low-slot depth i b n k (q .0) (low depth (cell cells i left) (k .half) (k .lefts) (q .1)) (low depth (cell cells i right) (k .half) (k .rights) (q .2))))
+      let x = drawn depth (cell cells i left) (k .half) (k .lefts) in
+      let y = drawn depth (cell cells i right) (k .half) (k .rights) in
+      let z : blacks (hue i) + k .half ≡ b = sym (hue-blacks i (k .half)) ∙ k .blacks in
+      (node (hue i) (x .0) i (y .0), at-slot n (x .1) (y .1), subst (Even (node (hue i) (x .0) i (y .0))) z (above (x .2) (y .2)))))
 
--- 2 to the b.
-full : ℕ → ℕ
-full zero = 1
-full (suc b) = 2 * full b
+  -- It is as low as its height says, and as calm as T5's walk found it.
+  drawn-low : {i : ℕ} {t : Tree} → Drawn i t → Low cells (height t) i
+  unfolding height
+  drawn-low (at-null z) = Low.at-null z
+  drawn-low (at-slot {l = l} {r} n x y) =
+      Low.at-slot n (lower _ _ _ (higher-left (height l) (height r)) (drawn-low x)) (lower _ _ _ (higher-right (height l) (height r)) (drawn-low y))
 
-full-some : (b : ℕ) → 1 ≤ full b
-unfolding full
-full-some zero = omega arith
-full-some (suc b) = omega (arith, full-some b)
+  drawn-colour : {i : ℕ} {t : Tree} → Drawn i t → eqb (cell cells i state) 2 ≡ false → colour t ≡ black
+  drawn-colour (at-null z) e = refl
+  drawn-colour (at-slot n x y) e = rw e refl
 
-full-within : (b m : ℕ) → full b ≤ full m → b ≤ m
-unfolding full
-full-within zero m h = omega arith
-full-within (suc b) zero h = absurd (omega (arith, full-some b))
-full-within (suc b) (suc m) h = omega (arith, full-within b m (omega (arith, h)))
-
-full-64 : full 64 ≡ 18446744073709551616
-unfolding full
-full-64 = refl
+  drawn-calm : (depth : ℕ) {i : ℕ} {t : Tree} → Drawn i t → allCalm depth cells i ≡ true → Calm t
+  drawn-calm depth (at-null z) e = nothing
+  drawn-calm zero (at-slot {i} n x y) e = absurd (no-depth i n e)
+  drawn-calm (suc depth) (at-slot {i} {l} {r} n x y) e =
+      let q = calms depth i n e in
+      go (eqb (cell cells i state) 2) refl (q .0) (drawn-calm depth x (q .1)) (drawn-calm depth y (q .2))
+    where
+      go : (t : Bool) → eqb (cell cells i state) 2 ≡ t → isCalm cells i ≡ true → Calm l → Calm r → Calm (node (pick t red black) l i r)
+      go true s q a b =
+          let o = black-children (eqb (cell cells (cell cells i left) state) 2) (eqb (cell cells (cell cells i right) state) 2) (rw s at q) in
+          redly (drawn-colour x (o .0)) (drawn-colour y (o .1)) a b
+      go false s q a b = darkly a b
 
 module _ (n : ℕ) (cells : List ℕ) where
   -- One visit of T3 taken apart.
@@ -189,29 +204,13 @@ module _ (n : ℕ) (cells : List ℕ) where
   at-once zero q i v z = rw (eq-eqb i null z)
   at-once (suc f) q i v z = rw (eq-eqb i null z)
 
-  -- With b black slots on each way down there are 2 to the b slots but one at least, and each takes a visit.
-  size-null : (depth f q i v rest b : ℕ) → reached f n cells q i v ≡ some rest → levelled depth cells i ≡ some b → i ≡ null → rest + full b ≤ v + 1
-  unfolding full
-  size-null depth f q i v rest b r e z =
-      let x : v ≡ rest = some-is (sym (at-once f q i v z) ∙ r) in
-      let y : 0 ≡ b = some-is (level-null cells i depth z ∙ e) in
-      rw (← y, ← x) (omega arith)
-
-  size-slot : (v rest b half between : ℕ) (red : Bool) → pick red half (half + 1) ≡ b → v ≢ 0 → between + full half ≤ v - 1 + 1 → rest + full half ≤ between + 1 → rest + full b ≤ v + 1
-  unfolding full
-  size-slot v rest b half between true z w x y = rw (← z) (omega (arith, full-some half))
-  size-slot v rest b half between false z w x y = let o : full (half + 1) ≡ 2 * full half = rw add-one refl in rw (← z, o) (omega arith)
-
-  sized : (depth f q i v rest b : ℕ) → reached f n cells q i v ≡ some rest → levelled depth cells i ≡ some b → rest + full b ≤ v + 1
-  unfolding levelled
-  sized zero f q i v rest b r e = null-or cells i (size-null zero f q i v rest b r e) (λ d. refuted (rw (ne-eqb i null d) at e))
-  sized (suc depth) f q i v rest b r e =
-      null-or cells i (size-null (suc depth) f q i v rest b r e)
-      (λ d. (let k = evened cells depth i b d e in
+  -- Each slot takes a visit.
+  visited : (f q i v rest : ℕ) {t : Tree} → Drawn cells i t → reached f n cells q i v ≡ some rest → rest + length (slots t) ≡ v
+  unfolding slots
+  visited f q i v rest (at-null z) r = let x : v ≡ rest = some-is (sym (at-once f q i v z) ∙ r) in omega (arith, x)
+  visited f q i v rest (at-slot {l = l} {r = g} d x y) r =
       let t = stepped f q i v rest d r in
-      size-slot v rest b (k .half) (t .between) (eqb (cell cells i state) 2) (k .blacks) (t .spent)
-      (sized depth (t .fuel) i (cell cells i left) (v - 1) (t .between) (k .half) (t .lefts) (k .lefts))
-      (sized depth (t .fuel) i (cell cells i right) (t .between) rest (k .half) (t .rights) (k .rights))))
+      omega (arith, t .spent, length-node (hue cells i) l i g, visited (t .fuel) i (cell cells i left) (v - 1) (t .between) x (t .lefts), visited (t .fuel) i (cell cells i right) (t .between) rest y (t .rights))
 
 module _ (names cells : List ℕ) (root visits : ℕ) (few : visits < 18446744073709551616) where
   abbrev at : ℕ → Judged
@@ -221,12 +220,21 @@ module _ (names cells : List ℕ) (root visits : ℕ) (few : visits < 1844674407
   both-deep : (d e : ℕ) → d ≤ e → Low cells d root → at d ≡ at e
   both-deep d e h k = sym (rw (rise-past cells names d e root h k null, calm-past cells d e root h k, level-past cells d e root h k) refl)
 
+  -- A number of 64 bits of visits, so no more than 64 black slots on a way.
+  few-blacks : (b : ℕ) → 2 ^ b ≤ visits + 1 → b ≤ 64
+  few-blacks b h = go (decLe b 64)
+    where
+      go : Dec (b ≤ 64) → b ≤ 64
+      go (yes l) = l
+      go (no n) = let z : 2 ^ 65 ≤ 2 ^ b = pow-mono {i = 65} (omega arith) in absurd (omega (arith, z, h, few))
+
   shallow : (depth rest b : ℕ) → reached visits (slotsOf names) cells null root visits ≡ some rest → levelled depth cells root ≡ some b → allCalm depth cells root ≡ true → Low cells 129 root
   shallow depth rest b r e c =
-      let m = sized (slotsOf names) cells depth visits null root visits rest b r e in
-      let o : full 64 ≡ 18446744073709551616 = full-64 in
-      let k = full-within b 64 (omega (arith, m, few, o)) in
-      lower cells (2 * b + 1) 129 root (omega (arith, k)) (low cells depth root b e c .0)
+      let t = drawn cells depth root b e in
+      let size = visited (slotsOf names) cells visits null root visits rest (t .1) r in
+      let k = few-blacks b (omega (arith, even-size (t .2), size)) in
+      let tall = even-height (drawn-calm cells depth (t .1) c) (t .2) .0 in
+      lower cells (height (t .0)) 129 root (omega (arith, k, tall)) (drawn-low cells (t .1))
 
   deep-enough : (n : ℕ) → 129 ≤ n → at 129 ≡ at n
   deep-enough n h =

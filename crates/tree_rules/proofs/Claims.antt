@@ -1,12 +1,17 @@
 -- Every claim of the crate holds: the laws of the other files, put together.
 use mathlib.Core.List.{List}
-use Prim.Native.Nat.{ℕ, _*_, _≤_}
+use Prim.Native.Nat.{ℕ, _+_, _*_, _^_, _≤_}
+use native.Mathlib.Nat.{le-trans}
+use lib.Pow.{pow-mono}
 use lib.ListN.{length}
 use Rattle.slots.specs.Words.{null}
-use Rattle.tree_rules.specs.Find.{slotsOf}
-use Rattle.tree_rules.specs.Claims.{Finds, Rules, Chains, Claims}
+use Rattle.tree_rules.specs.Find.{slotsOf, found}
+use Rattle.tree_rules.specs.Claims.{Finds, Rules, Chains, Claims, Shallow}
+use Rattle.tree_rules.specs.Tree.{Tree, slots, Rooted, Coloured, Level, height}
+use Rattle.tree_rules.proofs.Height.{not-deep, looks-most}
 use Rattle.tree_rules.proofs.Found.{lost-nine, nine-lost, only-nine, here-given, given-here, missed-nothing, nothing-missed}
-use Rattle.tree_rules.proofs.Looks.{look-claims, tree-looks}
+use Rattle.tree_rules.proofs.Deciding.{look-claims}
+use Rattle.tree_rules.proofs.Looks.{tree-looks}
 use Rattle.tree_rules.proofs.Checking.{test-claims, check-claims}
 use Rattle.tree_rules.proofs.Reaching.{reached-rooted, rooted-reached, rooted-unique}
 use Rattle.tree_rules.proofs.Chaining.{chained-chain, chain-chained, chain-once, chain-unique}
@@ -47,5 +52,19 @@ chain-claims n cells few first =
       one-chain = chain-unique n cells few;
     }
 
+-- No find is deep: it looks at no more slots than the longest way down meets, and that is not many.
+pub found-most : (names cells : List ℕ) (root hash key : ℕ) {t : Tree} → Rooted (slotsOf names) cells root t
+    → length (found names cells root hash key .looks) ≤ height t
+unfolding found
+found-most names cells root hash key h = rw (h .from) (looks-most (slotsOf names) names cells hash key (slotsOf names) (h .hangs))
+
+-- So 2 to the looks is at most the square of one more than the slots.
+pub looks-squared : (names cells : List ℕ) (root hash key : ℕ) {t : Tree} → Rooted (slotsOf names) cells root t → Coloured t → Level t
+    → 2 ^ length (found names cells root hash key .looks) ≤ (length (slots t) + 1) * (length (slots t) + 1)
+looks-squared names cells root hash key {t} r c l = le-trans (pow-mono (found-most names cells root hash key r)) (not-deep t c l)
+
+shallow-claims : (names cells : List ℕ) (root hash key : ℕ) (t : Tree) → Shallow names cells root hash key t
+shallow-claims names cells root hash key t = record { height-most = not-deep t; looks-most = found-most names cells root hash key }
+
 pub claims : Claims
-claims = record { looks = look-claims; finds = search-claims; tests = test-claims; checks = check-claims; rules = rule-claims; chains = chain-claims }
+claims = record { looks = look-claims; finds = search-claims; tests = test-claims; checks = check-claims; rules = rule-claims; chains = chain-claims; shallow = shallow-claims }

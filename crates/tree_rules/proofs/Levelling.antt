@@ -15,10 +15,10 @@ use Rattle.tree_rules.specs.Rules.{then, levelled, level, isSome}
 use Rattle.tree_rules.proofs.Reaching.{length-node, refuted, rooted-most}
 
 -- The number of a slot that counts so much, from those of its two children.
-abbrev joined : ℕ → Value → Value → Value
+abbrev pub joined : ℕ → Value → Value → Value
 joined own x y = then x (λ a. then y (λ b. pick (eqb a b) (some (own + a)) none))
 
-joined-parts : (own : ℕ) (x y : Value) (m : ℕ) → joined own x y ≡ some m → (a : ℕ) × (x ≡ some a) × (y ≡ some a) × (own + a ≡ m)
+pub joined-parts : (own : ℕ) (x y : Value) (m : ℕ) → joined own x y ≡ some m → (a : ℕ) × (x ≡ some a) × (y ≡ some a) × (own + a ≡ m)
 joined-parts own none y m e = refuted e
 joined-parts own (some a) none m e = refuted e
 joined-parts own (some a) (some b) m e = go (eqb a b) refl e
@@ -28,7 +28,7 @@ joined-parts own (some a) (some b) m e = go (eqb a b) refl e
     go false p e = refuted e
 
 -- T6's number on the tree itself.
-levels : Tree → Value
+unfoldable pub levels : Tree → Value
 levels leaf = some 0
 levels (node c l i r) = joined (blacks c) (levels l) (levels r)
 
@@ -43,7 +43,7 @@ way : (t : Tree) → (k : ℕ) × Meets t k
 way leaf = (0, end)
 way (node c l i r) = let h = way l in (blacks c + h .0, leftward (h .1))
 
-level-levels : (t : Tree) → Level t → (m : ℕ) × (levels t ≡ some m)
+pub level-levels : (t : Tree) → Level t → (m : ℕ) × (levels t ≡ some m)
 unfolding levels
 level-levels leaf h = (0, refl)
 level-levels (node c l i r) h =

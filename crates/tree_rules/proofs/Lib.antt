@@ -1,3 +1,5 @@
+pub mod Deciding
+pub mod Height
 pub mod Searching
 pub mod Trail
 pub mod Looks

@@ -1,31 +1,18 @@
--- What a look at a slot says, by its tests; so a look says here exactly at the pair, and the search is told by its looks.
+-- A look says here exactly at the pair, and the search is told by its looks.
 use mathlib.Core.Path.{_≡_, ap, sym, _∙_}
 use mathlib.Core.Logic.{_≢_}
 use mathlib.Core.List.{List}
 use Prim.Native.Nat.{ℕ, _<_}
 use native.Mathlib.Decide.{ℕ-discrete, decLt}
 use native.Mathlib.Omega.{arith}
-use borrow.Author.Tests.{eq-eqb, ne-eqb, lt-ltb, le-ltb}
 use Rattle.slots.specs.Words.{null, left, right, cell, nameOf, hashPart, keyPart}
 use Rattle.slots.specs.Pairs.{Pair, pair, pairOf}
 use Rattle.tree_rules.specs.Find.{here, on, decided, looked, slotsOf, searched, found, Follows}
 use Rattle.tree_rules.specs.Looks.{LooksAt}
 use Rattle.tree_rules.specs.Claims.{Looks}
+use Rattle.tree_rules.proofs.Deciding.{look-claims}
 use Rattle.tree_rules.proofs.Searching.{at-null, out-of-range, visits-spent, at-slot}
 use Rattle.tree_rules.proofs.Trail.{here-on, Runs, Trail, start, step, looks-at}
-
-pub look-claims : (at own l r hash key : ℕ) → Looks at own l r hash key
-unfolding decided
-look-claims at own l r hash key =
-    record {
-      greater = λ h. simp (lt-ltb hash at h);
-      less = λ h. simp (le-ltb hash at (omega arith), lt-ltb at hash h);
-      equal = λ h k. simp (le-ltb hash at (omega arith), le-ltb at hash (omega arith), eq-eqb own key k);
-      null-left = λ h k a. simp (le-ltb hash at (omega arith), le-ltb at hash (omega arith), ne-eqb own key k, eq-eqb l null a);
-      null-right = λ h k a b. simp (le-ltb hash at (omega arith), le-ltb at hash (omega arith), ne-eqb own key k, ne-eqb l null a, eq-eqb r null b);
-      key-greater = λ h k a b. simp (le-ltb hash at (omega arith), le-ltb at hash (omega arith), ne-eqb own key (omega arith), ne-eqb l null a, ne-eqb r null b, lt-ltb key own k);
-      key-less = λ h k a b. simp (le-ltb hash at (omega arith), le-ltb at hash (omega arith), ne-eqb own key (omega arith), ne-eqb l null a, ne-eqb r null b, le-ltb key own (omega arith));
-    }
 
 module _ (at own l r hash key : ℕ) where
   clause : Looks at own l r hash key

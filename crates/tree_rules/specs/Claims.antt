@@ -3,14 +3,14 @@ use mathlib.Core.Path.{_≡_}
 use mathlib.Core.Logic.{_≢_, _↔_}
 use mathlib.Core.List.{List}
 use mathlib.Core.Bool.{true, false}
-use Prim.Native.Nat.{ℕ, _+_, _-_, _*_, _<_, _≤_}
+use Prim.Native.Nat.{ℕ, _+_, _-_, _*_, _^_, _<_, _≤_}
 use lib.ListN.{length}
 use Rattle.slots.specs.Words.{null, parent, left, right, prev, next}
 use Rattle.slots.specs.Answers.{some, given, nothing, refused}
 use Rattle.tree_rules.specs.Find.{here, on, decided, slotsOf, found, Follows, Lost, Here, Missed}
 use Rattle.tree_rules.specs.Looks.{LooksAt}
 use Rattle.tree_rules.specs.Check.{test, firstFailing, passed, failed, strayed, checked, Back, Child, LeftHash, RightHash, NotAllRed, Walks}
-use Rattle.tree_rules.specs.Tree.{Tree, slots, times, Rooted, Rising, Coloured, Level, Shaped}
+use Rattle.tree_rules.specs.Tree.{Tree, slots, times, Rooted, Rising, Coloured, Level, Shaped, height}
 use Rattle.tree_rules.specs.Rules.{reached, rises, coloured, level, obeyed, treeSize}
 use Rattle.tree_rules.specs.Chain.{Chain, chained}
 
@@ -87,6 +87,11 @@ pub record Chains (n : ℕ) (cells : List ℕ) (few : n ≤ null) (first : ℕ) 
   pub once : {l : List ℕ} → Chain n cells null first l → (k : ℕ) → times k l ≤ 1
   pub one-chain : {l m : List ℕ} → Chain n cells null first l → Chain n cells null first m → l ≡ m
 
+-- A tree that obeys T5 and T6 is not deep, and no search of it looks at more slots than its longest way down meets.
+pub record Shallow (names cells : List ℕ) (root hash key : ℕ) (t : Tree) : Type 0 where
+  pub height-most : Coloured t → Level t → 2 ^ height t ≤ (length (slots t) + 1) * (length (slots t) + 1)
+  pub looks-most : Rooted (slotsOf names) cells root t → length (found names cells root hash key .looks) ≤ height t
+
 pub record Claims : Type 0 where
   pub looks : (at own l r hash key : ℕ) → Looks at own l r hash key
   pub finds : (names cells : List ℕ) (root hash key : ℕ) → Finds names cells root hash key
@@ -94,3 +99,4 @@ pub record Claims : Type 0 where
   pub checks : (names cells : List ℕ) (root : ℕ) → Checks names cells root
   pub rules : (names cells : List ℕ) (few : slotsOf names ≤ null) (ends : length cells ≤ 7 * null) (root : ℕ) → Rules names cells few ends root
   pub chains : (n : ℕ) (cells : List ℕ) (few : n ≤ null) (first : ℕ) → Chains n cells few first
+  pub shallow : (names cells : List ℕ) (root hash key : ℕ) (t : Tree) → Shallow names cells root hash key t

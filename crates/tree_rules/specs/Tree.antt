@@ -1,9 +1,9 @@
 -- A tree of slots in its plain form, what it means that words hold it, and T3 to T6 of one tree.
 use mathlib.Core.Path.{_≡_}
 use mathlib.Core.List.{List, [], _∷_, _++_}
-use Prim.Native.Nat.{ℕ, _+_, _<_, _≤_}
+use Prim.Native.Nat.{ℕ, suc, _+_, _<_, _≤_}
 use lib.ListN.{length}
-use lib.Dec.{eqb}
+use lib.Dec.{eqb, ltb}
 use Rattle.slots.specs.Words.{null, pick, state, parent, left, right, cell, Colour, black, red, code}
 use Rattle.slots.specs.Pairs.{Pair, pairOf, Less}
 use Rattle.tree_rules.specs.Find.{slotsOf}
@@ -83,6 +83,14 @@ pub data Meets : Tree → ℕ → Type 0 where
 -- T6: "every way from the root to a null link meets equally many black slots."
 abbrev pub Level : Tree → Type 0
 Level t = (j k : ℕ) → Meets t j → Meets t k → j ≡ k
+
+-- How many slots the longest way from the top down meets.
+abbrev pub higher : ℕ → ℕ → ℕ
+higher a b = pick (ltb a b) b a
+
+unfoldable pub height : Tree → ℕ
+height leaf = 0
+height (node c l i r) = suc (higher (height l) (height r))
 
 -- The tree of m slots that the words hold from a root, with T3 to T6.
 pub record Shaped (names cells : List ℕ) (root m : ℕ) : Type 0 where
