@@ -29,7 +29,8 @@ ghost use Rattle.index_rules.specs.Index.{lent};
 ghost use Rattle.slots.specs.Coded.{answerOf};
 ghost use Rattle.tree_rules.specs.Find.{counted as countedLooks};
 ghost use Rattle.tree.specs.Find.{countedOf};
-ghost use Rattle.script_rules.specs.Answers.{numbered, numberLine, told, foundText, searchLine, met, entryLine, entryLines, listing, marking};
+ghost use Rattle.script_rules.specs.Answers.{numbered, numberLine, told, foundText, searchLine};
+ghost use Rattle.script_rules.specs.Answers.{met, entryLine, entryLines, listing, marking};
 ghost use Rattle.script_rules.specs.Commands.{insert as inserting, remove as removing, rollback as rolling};
 ghost use Rattle.script_rules.specs.Feeding.{typed, performed, lentPaper, lentTurn};
 ghost use Rattle.console.specs.Phrases.{commandOf};
@@ -46,7 +47,8 @@ fn tell(out: &mut [u8], at: usize, word: &[u8], v: u64) -> usize
 
 // What a call answers: a refusal with its number, else the value after the word, or that there is none.
 fn tell_answer(out: &mut [u8], at: usize, word: &[u8], answer: Answer) -> usize
-    ensures { λ r. ⌜ lentPaper (now (out .exit)) r ≡ typed (lentPaper (now (out .entry)) at) (told (now (word .entry)) (answerOf answer)) ⌝ }
+    ensures { λ r. ⌜ lentPaper (now (out .exit)) r
+        ≡ typed (lentPaper (now (out .entry)) at) (told (now (word .entry)) (answerOf answer)) ⌝ }
 {
     let number = answer.number;
     if number != 0 {
