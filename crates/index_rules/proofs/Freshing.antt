@@ -1,15 +1,15 @@
 -- A fresh index is sound and empty: each slot is cleared at its turn and stays so, and the empty tree obeys every rule.
 use mathlib.Core.Path.{_≡_, refl, ap, sym, _∙_}
-use mathlib.Core.Logic.{_≢_, _↔_, inl}
-use mathlib.Core.Bool.{Bool, true, false, false≢true}
+use mathlib.Core.Logic.{_≢_, inl}
+use mathlib.Core.Bool.{Bool, true, false}
 use mathlib.Core.List.{List, []}
 use Prim.Native.Nat.{ℕ, zero, suc, _+_, _-_, _*_, _/_, _<_, _≤_}
 use native.Mathlib.Decide.{ℕ-discrete, decLt}
 use native.Mathlib.Omega.{arith}
-use lib.ListN.{length, getD, set, List·getD-eq-default}
-use lib.Dec.{eqb, ltb, leb}
+use lib.ListN.{length, getD, List·getD-eq-default}
+use lib.Dec.{ltb, leb}
 use borrow.Author.Tests.{eqb-true, leb-true, eq-eqb, le-leb}
-use Rattle.slots.specs.Words.{null, pick, place, state, parent, left, right, prev, next, free, fields, parts, cell, nameOf, rename, hashPart, keyPart}
+use Rattle.slots.specs.Words.{null, place, state, parent, left, right, prev, next, free, fields, parts, cell, nameOf, rename, hashPart, keyPart}
 use Rattle.slots.specs.Answers.{given, refused}
 use Rattle.slots.proofs.Laws.{number, cell-same, cell-across, cell-else, roomy-write, length-write}
 use Rattle.tree_rules.specs.Tree.{leaf, slots, times, Hangs, Rising, Calm, Meets, end}
@@ -17,14 +17,14 @@ use Rattle.tree_rules.specs.Chain.{Chain}
 use Rattle.tree_rules.proofs.Counting.{exactly-length}
 use Rattle.index_rules.specs.Live.{Live, Fit, fits, rootOf, firstOf, countOf}
 use Rattle.index_rules.specs.Sound.{Sound, Cleared, used}
-use Rattle.index_rules.specs.Index.{Index, FitIndex, lengthOf, linesOf, at}
+use Rattle.index_rules.specs.Index.{Index, FitIndex, linesOf, at}
 use Rattle.index_rules.specs.Insert.{headed}
 use Rattle.index_rules.specs.Remove.{wiped}
 use Rattle.index_rules.specs.Fresh.{FitLengths, fitsLengths, bared, freshes}
 use Rattle.index_rules.specs.Contents.{contents}
 use Rattle.index_rules.specs.Claims.{Freshes}
 use Rattle.index_rules.proofs.Fit.{both, half, fit-fits, fits-fit}
-use Rattle.index_rules.proofs.Journal.{rolledLines, rolled-length, rolled-count, rolled-zero, rolled-past}
+use Rattle.index_rules.proofs.Journal.{rolledLines, rolled-length, rolled-count, rolled-zero}
 use Rattle.index_rules.proofs.Frames.{roomy-cells, roomy-names, name-same, name-across, name-else, roomy-rename, length-rename, headed-length, headed-root, headed-first, headed-count}
 use Rattle.tree_rules.specs.Find.{slotsOf}
 

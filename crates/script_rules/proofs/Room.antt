@@ -18,7 +18,7 @@ use Rattle.index_rules.specs.Insert.{inserts}
 use Rattle.index_rules.specs.Remove.{removes}
 use Rattle.index_rules.specs.Rollback.{rolls}
 use Rattle.index_rules.proofs.Fit.{fits-fit, half}
-use Rattle.script_rules.specs.Text.{digits, space, noText, markText, slotText, goneText, atText, backText}
+use Rattle.script_rules.specs.Text.{digits, space, noText, markText, slotText, goneText, backText}
 use Rattle.script_rules.specs.Commands.{Command, insert, remove, find, rollback, mark, list, bad}
 use Rattle.script_rules.specs.Answers.{numbered, numberLine, valueLine, told, foundValue, foundText, searchLine, more, met, entryLine, entryLines, counting, listing, marking, obeyed}
 use Rattle.script_rules.specs.Feeding.{Paper, typedOne, typed, longest}

@@ -13,11 +13,10 @@ use lib.ListN.{length, getD, set, length-set}
 use lib.Seq.{getD-set-same, getD-set-other}
 use borrow.Author.Tests.{le-leb, lt-leb, lt-ltb, le-ltb, eq-eqb, ne-eqb}
 use Rattle.slots.specs.Words.{null, next, cell}
-use Rattle.slots.specs.Answers.{given, nothing, refused}
-use Rattle.set_rules.specs.Words.{Set, tablesOf, lengthAt, firstAt, Fit, Bin, empty, moved, bad, list, tree, binAt}
-use Rattle.set_rules.specs.Cursor.{Cursor, Step, BadCursor}
+use Rattle.set_rules.specs.Words.{Set, tablesOf, lengthAt, firstAt, Fit, Bin, empty, moved, bad, list, tree}
+use Rattle.set_rules.specs.Cursor.{Cursor, BadCursor}
 use Rattle.set_rules.specs.Walk.{Place, place, deepest, binHere, advanced, onward, below, Sought, at, ended, lost, trimmed, standing, stepped, stepsOn, turnsIn, nexts}
-use Rattle.set_rules.specs.NodeIter.{Frame, Iter, iter, over, pushed, recovered, proceeds, Yield, yields, ends, stuck, running, matched, looped, called, frames, stateAt, stateOf, IsCall}
+use Rattle.set_rules.specs.NodeIter.{Iter, iter, over, pushed, recovered, proceeds, Yield, yields, ends, stuck, matched, looped, called, frames, stateAt, stateOf, IsCall}
 use Rattle.set_rules.proofs.Turns.{on, advanced-lt, advanced-ge}
 use Rattle.set_rules.proofs.Standing.{within-or-end, left-all}
 use Rattle.set_rules.proofs.Cursors.{trimmed-same}

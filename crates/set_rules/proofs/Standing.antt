@@ -9,7 +9,7 @@ use native.Mathlib.Omega.{arith}
 use lib.ListN.{length, getD, set, length-set}
 use lib.Seq.{getD-set-same, getD-set-other}
 use Rattle.set_rules.specs.Walk.{Place, place, deepest, advanced, InTables, under}
-use Rattle.set_rules.proofs.Turns.{on, advanced-lt, advanced-ge, twice-at, left, left-within, left-most, left-top, under-some}
+use Rattle.set_rules.proofs.Turns.{on, advanced-lt, advanced-ge, left, left-within, left-most, left-top, under-some}
 
 module _ (lengths : List ℕ) (base : ℕ) where
   -- The bin at the place is there.

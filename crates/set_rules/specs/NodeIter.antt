@@ -10,7 +10,7 @@ use lib.Dec.{eqb, ltb, leb}
 use Rattle.slots.specs.Words.{null, pick, next, cell}
 use Rattle.slots.specs.Answers.{given, nothing, refused}
 use Rattle.set_rules.specs.Words.{Set, tablesOf, lengthAt, firstAt, Bin, empty, moved, bad, list, tree, binAt}
-use Rattle.set_rules.specs.Cursor.{Cursor, indexAt, Step}
+use Rattle.set_rules.specs.Cursor.{Cursor, Step}
 use Rattle.tree_rules.specs.Find.{slotsOf}
 
 -- TableStack: a table that was left by a Moved bin, the index of that bin, and the table's length.

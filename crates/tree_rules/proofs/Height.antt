@@ -1,6 +1,6 @@
 -- A tree that obeys T5 and T6 is not deep: each way down meets as many black slots and no two red ones in a row, and a tree with b
 -- black slots on each way has 2 to the b slots but one at least.
-use mathlib.Core.Path.{_≡_, refl, ap, sym, _∙_}
+use mathlib.Core.Path.{_≡_, refl, ap, _∙_}
 use mathlib.Core.List.{List}
 use Prim.Native.Nat.{ℕ, zero, suc, _+_, _*_, _^_, _<_, _≤_}
 use native.Mathlib.Decide.{ℕ-discrete, decLt}

@@ -11,7 +11,7 @@ use native.Mathlib.Nat.{zero-add}
 use lib.ListN.{length, getD, drop}
 use Rattle.slots.specs.Words.{null}
 use Rattle.slots.specs.Pairs.{pair, pairOf}
-use Rattle.slots.specs.Answers.{Answer, given, nothing, refused}
+use Rattle.slots.specs.Answers.{given, nothing, refused}
 use Rattle.slots.proofs.Laws.{number, given-is, nothing-given}
 use Rattle.tree_rules.specs.Find.{Look, here, on, Search, ends, lookedThen, slotsOf}
 use Rattle.tree_rules.specs.Tree.{times}
