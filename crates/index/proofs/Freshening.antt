@@ -1,5 +1,5 @@
 -- One slot cleared more is one turn of the model's clearing, and what a fresh index is follows from its three writes.
-use mathlib.Core.Path.{_≡_, refl, ap, sym, _∙_}
+use mathlib.Core.Path.{_≡_, refl, ap}
 use mathlib.Core.Bool.{Bool, true, false}
 use mathlib.Core.List.{List}
 use Prim.Native.Nat.{ℕ, zero, suc, _-_, _/_, _<_, _≤_}
@@ -9,7 +9,7 @@ use lib.ListN.{length, set}
 use Rattle.slots.specs.Words.{null, rename, hashPart, keyPart}
 use Rattle.slots.specs.Answers.{given, refused}
 use Rattle.index_rules.specs.Live.{Live, lentTree}
-use Rattle.index_rules.specs.Index.{Index, Outcome, outcome, index, lent, linesOf}
+use Rattle.index_rules.specs.Index.{outcome, lent, linesOf}
 use Rattle.index_rules.specs.Insert.{headed}
 use Rattle.index_rules.specs.Remove.{wiped}
 use Rattle.index_rules.specs.Rollback.{blanked}

@@ -1,10 +1,8 @@
 -- What one walk answers: T3 to T6, each by its own test, where the tree has a size and the header counts as many.
 use mathlib.Core.Path.{_≡_, refl}
 use mathlib.Core.Bool.{Bool, true, false}
-use mathlib.Core.Logic.{_≢_}
 use Prim.Native.Nat.{ℕ, _-_}
 use lib.Dec.{eqb}
-use borrow.Author.Tests.{eq-eqb, ne-eqb}
 use Rattle.slots.specs.Words.{null, pick}
 use Rattle.slots.specs.Answers.{Value, none, some}
 use Rattle.tree_rules.specs.Find.{slotsOf}
@@ -48,12 +46,8 @@ module _ (t : Live) {root : ℕ} (r : root ≡ rootOf t) where
   pub no-size : none ≡ treeSize (t .names) (t .cells) root → false ≡ treeRules t
   no-size e = rw (← e) at sized
 
-  module _ {m count : ℕ} (e : some m ≡ treeSize (t .names) (t .cells) root) (c : count ≡ countOf t) where
-    pub other-count : m ≢ count → false ≡ treeRules t
-    other-count d = let z = rw (← e, ← c, ne-eqb m count d) at sized in z
-
-    pub same-count : m ≡ count → true ≡ treeRules t
-    same-count d = let z = rw (← e, ← c, eq-eqb m count d) at sized in z
+  pub by-count : {m count : ℕ} → some m ≡ treeSize (t .names) (t .cells) root → count ≡ countOf t → eqb m count ≡ treeRules t
+  by-count e c = rw (← e, ← c) at sized
 
 -- Four tests and what comes after them, one inside the other.
 inside : (a b c d rest : Bool) → pick a (pick b (pick c (pick d rest false) false) false) false ≡ pick (pick a (pick b (pick c d false) false) false) rest false

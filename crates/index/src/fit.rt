@@ -9,20 +9,5 @@ pub fn fit(names: &[u64], cells: &[u32], head: &[u32]) -> bool
     ensures { λ r. ⌜ r ≡ fits (lentTree (now (names .entry)) (now (cells .entry)) (now (head .entry))) ⌝ }
 {
     let n = names.len() / 2;
-    if n < 1 {
-        return false;
-    }
-    if MOST_SLOTS < n {
-        return false;
-    }
-    if names.len() != 2 * n {
-        return false;
-    }
-    if cells.len() != 7 * n {
-        return false;
-    }
-    if head.len() != 3 {
-        return false;
-    }
-    true
+    1 <= n && n <= MOST_SLOTS && names.len() == 2 * n && cells.len() == 7 * n && head.len() == 3
 }

@@ -11,8 +11,6 @@ use slots::answer::given;
 use slots::answer::refused;
 ghost use mathlib.Core.Path.{_≡_};
 ghost use Rattle.slots.specs.Coded.{answerOf};
-ghost use lib.ListN.{length};
-ghost use Prim.Native.Nat.{_≤_, _*_};
 ghost use Rattle.index_rules.specs.Live.{lentTree};
 ghost use Rattle.index_rules.specs.Index.{outcome, lent};
 ghost use Rattle.index_rules.specs.Fresh.{fitsLengths, bared, freshes};

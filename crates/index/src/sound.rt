@@ -46,39 +46,14 @@ ghost use Rattle.index.specs.Sound.{treeRules};
 fn is_cleared(names: &[u64], cells: &[u32], i: u32) -> bool
     ensures { λ r. ⌜ r ≡ isCleared (lentTree (now (names .entry)) (now (cells .entry)) []) i ⌝ }
 {
-    let hash = name(names, i, HASH);
-    if hash != 0 {
-        return false;
-    }
-    let key = name(names, i, KEY);
-    if key != 0 {
-        return false;
-    }
-    let place = get(cells, i, PLACE);
-    if place != 0 {
-        return false;
-    }
-    let parent = get(cells, i, PARENT);
-    if parent != NULL {
-        return false;
-    }
-    let left = get(cells, i, LEFT);
-    if left != NULL {
-        return false;
-    }
-    let right = get(cells, i, RIGHT);
-    if right != NULL {
-        return false;
-    }
-    let prev = get(cells, i, PREV);
-    if prev != NULL {
-        return false;
-    }
-    let next = get(cells, i, NEXT);
-    if next != NULL {
-        return false;
-    }
-    true
+    name(names, i, HASH) == 0
+        && name(names, i, KEY) == 0
+        && get(cells, i, PLACE) == 0
+        && get(cells, i, PARENT) == NULL
+        && get(cells, i, LEFT) == NULL
+        && get(cells, i, RIGHT) == NULL
+        && get(cells, i, PREV) == NULL
+        && get(cells, i, NEXT) == NULL
 }
 
 // T1 of slot i: its links are null or name one of n slots, its state is 0, 1 or 2, and it is cleared if it is free.
@@ -93,10 +68,7 @@ fn slot_fine(names: &[u64], cells: &[u32], n: usize, i: u32) -> bool
     if state == FREE {
         return is_cleared(names, cells, i);
     }
-    if state <= RED {
-        return true;
-    }
-    false
+    state <= RED
 }
 
 // T1 of each of the n slots.
@@ -145,24 +117,10 @@ fn rule1(names: &[u64], cells: &[u32], head: &[u32]) -> bool
     ensures { λ r. ⌜ r ≡ obeys1 (lentTree (now (names .entry)) (now (cells .entry)) (now (head .entry))) ⌝ }
 {
     let n = names.len() / 2;
-    let fine = slots_fine(names, cells, n as u32);
-    if !fine {
-        return false;
-    }
-    let root = in_range(n, word(head, ROOT, NULL));
-    if !root {
-        return false;
-    }
-    let first = in_range(n, word(head, FIRST, NULL));
-    if !first {
-        return false;
-    }
-    let count = word(head, COUNT, NULL);
-    let counted = used_slots(cells, n as u32);
-    if count != counted {
-        return false;
-    }
-    true
+    slots_fine(names, cells, n as u32)
+        && in_range(n, word(head, ROOT, NULL))
+        && in_range(n, word(head, FIRST, NULL))
+        && word(head, COUNT, NULL) == used_slots(cells, n as u32)
 }
 
 // The link is null exactly if the count is 0.
@@ -170,15 +128,9 @@ fn null_if_none(link: u32, count: u32) -> bool
     ensures { λ r. ⌜ r ≡ agree (eqb link null) (eqb count 0) ⌝ }
 {
     if link == NULL {
-        if count == 0 {
-            return true;
-        }
-        return false;
+        return count == 0;
     }
-    if count == 0 {
-        return false;
-    }
-    true
+    count != 0
 }
 
 // T2: root and first are null exactly if the count is 0.
@@ -186,11 +138,7 @@ fn rule2(head: &[u32]) -> bool
     ensures { λ r. ⌜ r ≡ obeys2 (lentTree [] [] (now (head .entry))) ⌝ }
 {
     let count = word(head, COUNT, NULL);
-    let root = null_if_none(word(head, ROOT, NULL), count);
-    if !root {
-        return false;
-    }
-    null_if_none(word(head, FIRST, NULL), count)
+    null_if_none(word(head, ROOT, NULL), count) && null_if_none(word(head, FIRST, NULL), count)
 }
 
 // T3 to T6 in one walk: the tree from the root obeys them, and has as many slots as the count says.
@@ -205,24 +153,14 @@ fn rules_of_the_tree(names: &[u64], cells: &[u32], head: &[u32]) -> bool
         return false;
     };
     let count = word(head, COUNT, NULL);
-    if m != count as usize {
-        return false;
-    }
-    true
+    m == count as usize
 }
 
 // A link is null or its slot is not free.
 fn not_free(cells: &[u32], link: u32) -> bool
     ensures { λ r. ⌜ r ≡ pick (eqb link null) true (pick (eqb (cell (now (cells .entry)) link state) free) false true) ⌝ }
 {
-    if link == NULL {
-        return true;
-    }
-    let state = get(cells, link, STATE);
-    if state == FREE {
-        return false;
-    }
-    true
+    link == NULL || get(cells, link, STATE) != FREE
 }
 
 // T7: first is not free, prev is the reverse of next, null at first, and next visits as many slots from first as the count says.
@@ -240,10 +178,7 @@ fn rule7(names: &[u64], cells: &[u32], head: &[u32]) -> bool
         return false;
     };
     let count = word(head, COUNT, NULL);
-    if n - rest != count as usize {
-        return false;
-    }
-    true
+    n - rest == count as usize
 }
 
 // The tree obeys T1 to T7.
@@ -251,19 +186,10 @@ fn is_sound(names: &[u64], cells: &[u32], head: &[u32]) -> bool
     requires { ⌜ length (now names) ≤ mostNames ⌝ }
     ensures { λ r. ⌜ r ≡ obeysAll (lentTree (now (names .entry)) (now (cells .entry)) (now (head .entry))) ⌝ }
 {
-    let first = rule1(names, cells, head);
-    if !first {
-        return false;
-    }
-    let second = rule2(head);
-    if !second {
-        return false;
-    }
-    let hung = rules_of_the_tree(names, cells, head);
-    if !hung {
-        return false;
-    }
-    rule7(names, cells, head)
+    rule1(names, cells, head)
+        && rule2(head)
+        && rules_of_the_tree(names, cells, head)
+        && rule7(names, cells, head)
 }
 
 // What the full check answers.

@@ -1,16 +1,14 @@
 -- What each way out of the loop over tables says of the answer, from the law of one turn; a list's loop goes by the laws of tree's.
 use mathlib.Core.Path.{_≡_, ap, sym, _∙_}
-use mathlib.Core.Logic.{_≢_}
 use mathlib.Core.Bool.{Bool, true, false}
 use mathlib.Core.List.{List}
 use Prim.Native.Nat.{ℕ, suc, _+_, _-_, _*_, _<_, _≤_}
 use native.Mathlib.Numerals.{add-one}
 use native.Mathlib.Nat.{add-zero}
 use native.Mathlib.Omega.{arith}
-use borrow.Author.Tests.{ne-eqb, eq-eqb, lt-ltb, le-ltb}
-use lib.Dec.{eqb}
+use borrow.Author.Tests.{lt-ltb, le-ltb}
 use lib.ListN.{getD}
-use Rattle.slots.specs.Words.{null, next, cell, nameOf, hashPart, keyPart}
+use Rattle.slots.specs.Words.{null, next, cell}
 use Rattle.slots.specs.Answers.{nothing, refused}
 use Rattle.tree_rules.specs.Find.{here, on, Counted, withLooks, counted, slotsOf, found}
 use Rattle.set_rules.specs.Words.{Set, tablesOf, fits, empty, moved, bad, list, tree}
@@ -18,16 +16,6 @@ use Rattle.set_rules.specs.Lookup.{hasPair, listLook, listed, homeBin, forwarde
 use Rattle.set_rules.proofs.Fit.{fits-fit, slots-are}
 use Rattle.set_rules.proofs.Forwarding.{turn, past-last}
 use Rattle.set_rules.proofs.Claims.{claims}
-
--- The test of a pair, by its two reads.
-module _ (names : List ℕ) (p hash key : ℕ) {at : ℕ} (e : at ≡ nameOf names p hashPart) where
-  pub other-hash : at ≢ hash → false ≡ hasPair names p hash key
-  unfolding hasPair
-  other-hash n = simp (← e, ne-eqb _ _ n)
-
-  pub same-hash : {own : ℕ} → at ≡ hash → own ≡ nameOf names p keyPart → eqb own key ≡ hasPair names p hash key
-  unfolding hasPair
-  same-hash h k = simp (← e, eq-eqb _ _ h, k)
 
 -- What the test of a pair says of a look at a list's slot.
 module _ (names cells : List ℕ) (p hash key : ℕ) {b : Bool} (e : b ≡ hasPair names p hash key) where

@@ -5,13 +5,12 @@ use mathlib.Core.List.{List}
 use Prim.Native.Nat.{ℕ, zero, suc, _+_, _-_, _<_, _≤_}
 use native.Mathlib.Numerals.{sub-one}
 use native.Mathlib.Omega.{arith}
-use lib.ListN.{getD, set, length}
+use lib.ListN.{getD, set}
 use lib.Seq.{getD-set-other}
 use lib.Dec.{ltb}
 use borrow.Author.Tests.{lt-ltb, le-ltb}
 use Rattle.slots.specs.Words.{pick}
-use Rattle.tree_rules.specs.Check.{inRange}
-use Rattle.set_rules.specs.Cursor.{levelFine, levelsFine, baseFine, fine}
+use Rattle.set_rules.specs.Cursor.{levelFine, levelsFine}
 use Rattle.set_rules.specs.Walk.{Place, place, advanced}
 
 -- One level.
@@ -77,23 +76,3 @@ module _ (lengths : List ℕ) (base : ℕ) (x : List ℕ) where
 -- A write below leaves the base index.
 pub base-stays : (x : List ℕ) (d v : ℕ) → 0 < d → {y : List ℕ} → y ≡ set x d v → getD y 0 0 ≡ getD x 0 0
 base-stays x d v h e = rw e (getD-set-other x d 0 v 0 (omega arith))
-
--- The test of a cursor.
-module _ (lengths : List ℕ) (n base depth : ℕ) (x : List ℕ) (last : ℕ) where
-  pub too-deep : length lengths ≤ base + depth → false ≡ fine lengths n base depth x last
-  unfolding fine
-  too-deep h = simp (le-ltb _ _ h)
-
-  module _ (deep : base + depth < length lengths) {len first : ℕ} (e : len ≡ getD lengths base 0) (f : first ≡ getD x 0 0) {b : Bool} (g : b ≡ baseFine len depth first) where
-    pub wrong-base : b ≡ false → false ≡ fine lengths n base depth x last
-    unfolding fine
-    wrong-base w = rw (lt-ltb _ _ deep, ← e, ← f, ← g, w)
-
-    module _ (right : b ≡ true) {t : Bool} (l : t ≡ levelsFine depth lengths base x) where
-      pub wrong-level : t ≡ false → false ≡ fine lengths n base depth x last
-      unfolding fine
-      wrong-level w = rw (lt-ltb _ _ deep, ← e, ← f, ← g, right, ← l, w)
-
-      pub right-levels : t ≡ true → {r : Bool} → r ≡ inRange n last → r ≡ fine lengths n base depth x last
-      unfolding fine
-      right-levels w i = rw (lt-ltb _ _ deep, ← e, ← f, ← g, right, ← l, w) i

@@ -8,10 +8,8 @@ use native.Mathlib.Numerals.{add-one, sub-one}
 use native.Mathlib.Decide.{ℕ-discrete, decLt}
 use native.Mathlib.Omega.{arith}
 use lib.ListN.{length, getD, List·getD-eq-default}
-use lib.Dec.{leb}
 use borrow.Author.Tests.{eq-eqb, ne-eqb, le-leb, lt-leb}
 use Rattle.set_rules.specs.Words.{Set, tablesOf, begins, doubling, doubled, fitTables, fits}
-use Rattle.sets.specs.Bins.{fitSlots}
 
 -- One table more.
 pub begins-on : (l : List ℕ) (j : ℕ) → begins l (j + 1) ≡ begins l j + getD l j 0
@@ -102,45 +100,15 @@ few l h = go (decLt (length l) 1) (decLt 8 (length l))
     go (no a) (yes b) = absurd (false≢true (simp (le-leb 1 (length l) (omega arith), lt-leb (length l) 8 b) at h))
     go (no a) (no b) = omega arith
 
--- What each way out of the test of the tables says.
+-- No table, or too many.
 module _ (l : List ℕ) where
   pub no-table : length l < 1 → false ≡ fitTables l
   unfolding fitTables
   no-table h = simp (lt-leb _ _ h)
 
-  module _ (least : 1 ≤ length l) where
-    pub too-many : 8 < length l → false ≡ fitTables l
-    unfolding fitTables
-    too-many h = simp (le-leb _ _ least, lt-leb _ _ h)
-
-    module _ (most : length l ≤ 8) {first : ℕ} (e : first ≡ getD l 0 0) {power : Bool} (p : power ≡ doubling 13 first 1) where
-      pub no-power-first : power ≡ false → false ≡ fitTables l
-      unfolding fitTables
-      no-power-first h = simp (le-leb _ _ least, le-leb _ _ most, ← e, ← p, h)
-
-      module _ (yes-power : power ≡ true) {twice : Bool} (d : twice ≡ doubled (length l - 1) l) where
-        pub not-doubled : twice ≡ false → false ≡ fitTables l
-        unfolding fitTables
-        not-doubled h = simp (le-leb _ _ least, le-leb _ _ most, ← e, ← p, yes-power, ← d, h)
-
-        pub last-short : {last : ℕ} → last ≡ getD l (length l - 1) 0 → twice ≡ true → leb last 4096 ≡ fitTables l
-        unfolding fitTables
-        last-short f h = simp (le-leb _ _ least, le-leb _ _ most, ← e, ← p, yes-power, ← d, h, f)
-
--- What each way out of the test of the set says.
-module _ (s : Set) {tables : Bool} (e : tables ≡ fitTables (s .lengths)) where
-  pub no-tables : tables ≡ false → false ≡ fits s
-  unfolding fits
-  no-tables h = simp (← e, h)
-
-  module _ (good : tables ≡ true) {all : ℕ} (a : all ≡ begins (s .lengths) (tablesOf s)) where
-    pub bins-differ : length (s .bins) ≢ all → false ≡ fits s
-    unfolding fits
-    bins-differ n = simp (← e, good, ← a, ne-eqb _ _ n)
-
-    pub bins-agree : length (s .bins) ≡ all → {rest : Bool} → rest ≡ fitSlots (length (s .heads)) (length (s .names)) (length (s .cells)) → rest ≡ fits s
-    unfolding fits fitSlots
-    bins-agree n r = rw (← e, good, ← a, eq-eqb _ _ n) r
+  pub too-many : 1 ≤ length l → 8 < length l → false ≡ fitTables l
+  unfolding fitTables
+  too-many least h = simp (le-leb _ _ least, lt-leb _ _ h)
 
 pub fits-few : (s : Set) → fits s ≡ true → tablesOf s ≤ 8
 unfolding fits

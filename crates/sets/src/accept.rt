@@ -69,16 +69,10 @@ fn is_accepted(lengths: &[u32], bins: &[u32], heads: &[u32], names: &[u64], cell
         ≡ isAccepted (lentSet (now (lengths .entry)) (now (bins .entry)) (now (heads .entry)) (now (names .entry)) (now (cells .entry))) ⌝ }
 {
     let n = names.len() / 2;
-    let fine = slots_fine(names, cells, n as u32);
-    if !fine {
-        return false;
-    }
     let h = heads.len() / 3;
-    let counted = headers_fine(heads, bins, n, h as u32);
-    if !counted {
-        return false;
-    }
-    all_held(lengths, bins, heads, names, cells)
+    slots_fine(names, cells, n as u32)
+        && headers_fine(heads, bins, n, h as u32)
+        && all_held(lengths, bins, heads, names, cells)
 }
 
 // What acceptance answers.

@@ -46,22 +46,11 @@ fn fit_tables(lengths: &[u32]) -> bool
     ensures { λ r. ⌜ r ≡ fitTables (now (lengths .entry)) ⌝ }
 {
     let t = lengths.len();
-    if t < 1 {
-        return false;
-    }
-    if 8 < t {
+    if t < 1 || 8 < t {
         return false;
     }
     let last = t as u32 - 1;
-    let power = is_power(length_at(lengths, 0));
-    if !power {
-        return false;
-    }
-    let double = doubled(lengths, last);
-    if !double {
-        return false;
-    }
-    length_at(lengths, last) <= 4096
+    is_power(length_at(lengths, 0)) && doubled(lengths, last) && length_at(lengths, last) <= 4096
 }
 
 // How many bins the first k tables have: where the bins of table k begin. Past the last table there are none to add.
@@ -86,20 +75,8 @@ fn fit_slots(heads: usize, names: usize, cells: usize) -> bool
     ensures { λ r. ⌜ r ≡ fitSlots heads names cells ⌝ }
 {
     let n = names / 2;
-    if MOST_SLOTS < n {
-        return false;
-    }
-    if names != 2 * n {
-        return false;
-    }
-    if cells != 7 * n {
-        return false;
-    }
     let h = heads / 3;
-    if MOST_SLOTS < h {
-        return false;
-    }
-    heads == 3 * h
+    n <= MOST_SLOTS && names == 2 * n && cells == 7 * n && h <= MOST_SLOTS && heads == 3 * h
 }
 
 // Whether the slices are a frozen set's.
@@ -107,13 +84,7 @@ pub fn fit_set(lengths: &[u32], bins: &[u32], heads: &[u32], names: &[u64], cell
     ensures { λ r. ⌜ r
         ≡ fits (lentSet (now (lengths .entry)) (now (bins .entry)) (now (heads .entry)) (now (names .entry)) (now (cells .entry))) ⌝ }
 {
-    let tables = fit_tables(lengths);
-    if !tables {
-        return false;
-    }
-    let all = bins_before(lengths, lengths.len() as u32);
-    if bins.len() != all {
-        return false;
-    }
-    fit_slots(heads.len(), names.len(), cells.len())
+    fit_tables(lengths)
+        && bins.len() == bins_before(lengths, lengths.len() as u32)
+        && fit_slots(heads.len(), names.len(), cells.len())
 }

@@ -17,13 +17,7 @@ ghost use Rattle.set_rules.specs.Accepting.{namesHeader};
 fn is_blank(root: u32, first: u32, count: u32) -> bool
     ensures { λ r. ⌜ r ≡ isBlank root first count ⌝ }
 {
-    if root != NULL {
-        return false;
-    }
-    if first != NULL {
-        return false;
-    }
-    count == 0
+    root == NULL && first == NULL && count == 0
 }
 
 // 1 for a header that is not null with count 0, 0 for one that is.

@@ -31,37 +31,18 @@ fn is_list_slot(cells: &[u32], x: u32) -> bool
     ensures { λ r. ⌜ r ≡ isListSlot (now (cells .entry)) x ⌝ }
 {
     let state = get(cells, x, STATE);
-    if state != BLACK {
-        return false;
-    }
     let parent = get(cells, x, PARENT);
-    if parent != NULL {
-        return false;
-    }
     let left = get(cells, x, LEFT);
-    if left != NULL {
-        return false;
-    }
     let right = get(cells, x, RIGHT);
-    if right != NULL {
-        return false;
-    }
     let prev = get(cells, x, PREV);
-    prev == NULL
+    state == BLACK && parent == NULL && left == NULL && right == NULL && prev == NULL
 }
 
 // Slots x and y have one pair.
 fn same_pair(names: &[u64], x: u32, y: u32) -> bool
     ensures { λ r. ⌜ r ≡ samePair (now (names .entry)) x y ⌝ }
 {
-    let hash = name(names, x, HASH);
-    let at = name(names, y, HASH);
-    if hash != at {
-        return false;
-    }
-    let key = name(names, x, KEY);
-    let own = name(names, y, KEY);
-    key == own
+    name(names, x, HASH) == name(names, y, HASH) && name(names, x, KEY) == name(names, y, KEY)
 }
 
 // The pair of slot x is that of no slot from the link first by next, and these are at most so many.
@@ -89,19 +70,10 @@ fn unlike(names: &[u64], cells: &[u32], x: u32, first: u32, most: usize) -> bool
 fn list_slot_fine(names: &[u64], cells: &[u32], length: u32, i: u32, x: u32, visits: usize) -> bool
     ensures { λ r. ⌜ r ≡ listSlotFine visits (now (names .entry)) (now (cells .entry)) length i x ⌝ }
 {
-    if names.len() / 2 <= x as usize {
-        return false;
-    }
-    let plain = is_list_slot(cells, x);
-    if !plain {
-        return false;
-    }
-    let home = is_home(names, length, i, x);
-    if !home {
-        return false;
-    }
-    let next = get(cells, x, NEXT);
-    unlike(names, cells, x, next, visits)
+    (x as usize) < names.len() / 2
+        && is_list_slot(cells, x)
+        && is_home(names, length, i, x)
+        && unlike(names, cells, x, get(cells, x, NEXT), visits)
 }
 
 // The visits left after the list from first, or that it goes wrong.

@@ -35,11 +35,7 @@ ghost use Rattle.sets.specs.Lookups.{lookedOf};
 fn has_pair(names: &[u64], p: u32, hash: u64, key: u64) -> bool
     ensures { λ r. ⌜ r ≡ hasPair (now (names .entry)) p hash key ⌝ }
 {
-    let at = name(names, p, HASH);
-    if at != hash {
-        return false;
-    }
-    name(names, p, KEY) == key
+    name(names, p, HASH) == hash && name(names, p, KEY) == key
 }
 
 // The slot of the list from first that has the pair. Lost where a link followed is neither null nor a slot, and where one slot

@@ -30,13 +30,7 @@ pub(crate) fn set_index(indexes: &mut [u32; 8], j: u32, i: u32)
 fn level_fine(upper: u32, lower: u32, i: u32, k: u32) -> bool
     ensures { λ r. ⌜ r ≡ levelFine upper lower i k ⌝ }
 {
-    if lower <= k {
-        return false;
-    }
-    if k == i {
-        return true;
-    }
-    k as u64 == i as u64 + upper as u64
+    k < lower && (k == i || k as u64 == i as u64 + upper as u64)
 }
 
 // Each of the levels 1 to depth is fine under the one above.
@@ -63,13 +57,7 @@ fn levels_fine(lengths: &[u32], base: u32, depth: u32, indexes: &[u32; 8]) -> bo
 fn base_fine(length: u32, depth: u32, i: u32) -> bool
     ensures { λ r. ⌜ r ≡ baseFine length depth i ⌝ }
 {
-    if i < length {
-        return true;
-    }
-    if depth == 0 {
-        return i == length;
-    }
-    false
+    i < length || (depth == 0 && i == length)
 }
 
 // A cursor's numbers, over tables of these lengths, at most eight, and n slots.
@@ -85,18 +73,10 @@ pub(crate) fn fine(
     ensures { λ r. ⌜ r ≡ allFine (now (lengths .entry)) n base depth (now (indexes .entry)) last ⌝ }
 {
     let table = base as usize + depth as usize;
-    if lengths.len() <= table {
-        return false;
-    }
-    let first = base_fine(length_at(lengths, base), depth, index_at(indexes, 0));
-    if !first {
-        return false;
-    }
-    let levels = levels_fine(lengths, base, depth, indexes);
-    if !levels {
-        return false;
-    }
-    in_range(n, last)
+    table < lengths.len()
+        && base_fine(length_at(lengths, base), depth, index_at(indexes, 0))
+        && levels_fine(lengths, base, depth, indexes)
+        && in_range(n, last)
 }
 
 // The index at level j, 0 past the depth.

@@ -29,17 +29,9 @@ fn tree_home(names: &[u64], cells: &[u32], length: u32, i: u32, x: u32, depth: u
     if depth == 0 {
         return false;
     }
-    let home = is_home(names, length, i, x);
-    if !home {
-        return false;
-    }
-    let l = get(cells, x, LEFT);
-    let lefts = tree_home(names, cells, length, i, l, depth - 1);
-    if !lefts {
-        return false;
-    }
-    let r = get(cells, x, RIGHT);
-    tree_home(names, cells, length, i, r, depth - 1)
+    is_home(names, length, i, x)
+        && tree_home(names, cells, length, i, get(cells, x, LEFT), depth - 1)
+        && tree_home(names, cells, length, i, get(cells, x, RIGHT), depth - 1)
 }
 
 // The chain from first, over n slots, has as many as the count says, and prev is the reverse of next.
@@ -57,11 +49,7 @@ fn chain_fine(n: usize, cells: &[u32], first: u32, count: u32) -> bool
 fn is_own(names: &[u64], cells: &[u32], length: u32, i: u32, x: u32) -> bool
     ensures { λ r. ⌜ r ≡ isOwn (now (names .entry)) (now (cells .entry)) length i x ⌝ }
 {
-    let state = get(cells, x, STATE);
-    if state == FREE {
-        return false;
-    }
-    is_home(names, length, i, x)
+    get(cells, x, STATE) != FREE && is_home(names, length, i, x)
 }
 
 // Each slot of the chain from first, at most so many, is such a slot.
@@ -99,25 +87,13 @@ fn tree_good(
 ) -> bool
     ensures { λ r. ⌜ r ≡ treeGood (now (names .entry)) (now (cells .entry)) length i root first count m ⌝ }
 {
-    if root == NULL {
-        return false;
-    }
-    if first == NULL {
-        return false;
-    }
-    if m != count as usize {
-        return false;
-    }
     let n = names.len() / 2;
-    let linked = chain_fine(n, cells, first, count);
-    if !linked {
-        return false;
-    }
-    let own = chain_own(names, cells, length, i, first, n);
-    if !own {
-        return false;
-    }
-    tree_home(names, cells, length, i, root, n)
+    root != NULL
+        && first != NULL
+        && m == count as usize
+        && chain_fine(n, cells, first, count)
+        && chain_own(names, cells, length, i, first, n)
+        && tree_home(names, cells, length, i, root, n)
 }
 
 // The visits left after the tree of a header, or that it goes wrong.

@@ -3,7 +3,7 @@ use mathlib.Core.Path.{_≡_, refl, sym, _∙_}
 use Prim.Native.Nat.{ℕ}
 use borrow.Author.Tests.{lt-ltb, ne-eqb}
 use Rattle.slots.specs.Words.{fields, parts}
-use Rattle.slots.specs.Answers.{Answer, Value, none, some}
+use Rattle.slots.specs.Answers.{Value, none, some}
 use Rattle.slots.specs.Coded.{valueOf, answerOf}
 use Rattle.slots.specs.declared.answer.Value.{Value as ValueCode}
 use Rattle.slots.specs.declared.answer.Value.the-variants.{None, Some}

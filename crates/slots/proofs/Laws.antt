@@ -1,8 +1,8 @@
 -- The laws of a read after a write. Words of one slot, and of two slots, lie apart, so one law over the width serves cells and names.
 use mathlib.Core.Path.{_≡_, refl, ap, sym, _∙_}
-use mathlib.Core.Logic.{_≢_}
+use mathlib.Core.Logic.{_≢_, _⊎_, inl, inr}
 use mathlib.Core.List.{List, [], _∷_}
-use mathlib.Core.Bool.{Bool, true, false}
+use mathlib.Core.Bool.{Bool, true, false, not, false≢true}
 use Prim.Native.Nat.{ℕ, suc, zero, _+_, _*_, _<_, _≤_}
 use native.Mathlib.Nat.{not-suc-le-zero, le-of-suc-le-suc, mul-le-mul-left, mul-suc}
 use native.Mathlib.Decide.{ℕ-discrete, decLt}
@@ -12,7 +12,7 @@ use lib.Seq.{getD-set-same, getD-set-other}
 use lib.Dec.{eqb, ltb}
 use borrow.Author.Tests.{leb-true, ltb-true, eqb-false, eq-eqb, ne-eqb}
 use Rattle.slots.specs.Answers.{Answer, none, some, given, nothing}
-use Rattle.slots.specs.Words.{pick, null, fields, word, store, cell, write, roomy, Side, leftward, rightward, other, toward}
+use Rattle.slots.specs.Words.{pick, null, fields, word, store, cell, write, roomy, Side, leftward, rightward, other, toward, _and_}
 
 -- Which way a test goes.
 pub pick-eq : {A : Type 0} {m n : ℕ} (a b : A) → m ≡ n → pick (eqb m n) a b ≡ a
@@ -20,6 +20,30 @@ pick-eq {A} {m} {n} a b e = ap (λ (t : Bool). pick t a b) (eq-eqb m n e)
 
 pub pick-ne : {A : Type 0} {m n : ℕ} (a b : A) → m ≢ n → pick (eqb m n) a b ≡ b
 pick-ne {A} {m} {n} a b e = ap (λ (t : Bool). pick t a b) (ne-eqb m n e)
+
+-- A negated test in the model's words.
+pub not-is : (t : Bool) → not t ≡ pick t false true
+not-is true = refl
+not-is false = refl
+
+pub pick-not : {A : Type 0} (t : Bool) (x y : A) → pick (not t) x y ≡ pick t y x
+pick-not true x y = refl
+pick-not false x y = refl
+
+-- Two ways meet behind `a && b` and behind `a || b`, with t as what it comes to. So it is one test with what follows it.
+module _ {Y N : Type 0} {a b t s : Bool} (x : Bool) where
+  pub and-next : Y ⊎ N → (Y → (a ≡ true) × (t ≡ b)) → (N → (a ≡ false) × (t ≡ a)) → s ≡ t and x → s ≡ a and b and x
+  and-next (inl w) f g e = e ∙ rw (f w .1, f w .0)
+  and-next (inr w) f g e = e ∙ rw (g w .1, g w .0)
+
+  pub or-next : Y ⊎ N → (Y → (a ≡ true) × (t ≡ a)) → (N → (a ≡ false) × (t ≡ b)) → s ≡ pick t true x → s ≡ pick a true (pick b true x)
+  or-next (inl w) f g e = e ∙ rw (f w .1, f w .0)
+  or-next (inr w) f g e = e ∙ rw (g w .1, g w .0)
+
+-- What holds where `a && b` was true.
+pub and-held : {Y N : Type 0} {t : Bool} → t ≡ true → Y ⊎ N → (N → t ≡ false) → Y
+and-held e (inl w) g = w
+and-held e (inr w) g = absurd (false≢true (sym (g w) ∙ e))
 
 -- Within the list the default does not matter.
 pub getD-any : (l : List ℕ) (i d e : ℕ) → i < length l → getD l i d ≡ getD l i e

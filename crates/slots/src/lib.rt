@@ -132,11 +132,5 @@ pub fn colour(cells: &[u32], i: u32) -> u32
 pub fn comes_before(hash: u64, key: u64, at: u64, own: u64) -> bool
     ensures { λ r. ⌜ r ≡ before hash key at own ⌝ }
 {
-    if hash < at {
-        return true;
-    }
-    if at < hash {
-        return false;
-    }
-    key < own
+    hash < at || (hash <= at && key < own)
 }

@@ -10,7 +10,6 @@ use slots::get;
 use slots::is_red;
 use slots::name;
 ghost use mathlib.Core.Path.{_≡_};
-ghost use Rattle.tree_rules.specs.Find.{slotsOf};
 ghost use Rattle.tree.specs.Check.{walkOf, checkedOf};
 ghost use Rattle.tree_rules.specs.Check.{pointsBack, isChild, leftHash, rightHash, notAllRed, firstFailing};
 ghost use Rattle.tree_rules.specs.Check.{inRange, linksIn, walked, checked};
@@ -20,14 +19,7 @@ fn points_back(cells: &[u32], i: u32, f: u32, g: u32) -> bool
     ensures { λ r. ⌜ r ≡ pointsBack (now (cells .entry)) i f g ⌝ }
 {
     let j = get(cells, i, f);
-    if j == NULL {
-        return true;
-    }
-    let back = get(cells, j, g);
-    if back == i {
-        return true;
-    }
-    false
+    j == NULL || get(cells, j, g) == i
 }
 
 // The parent of i, if any, has it as its left or its right child.
@@ -35,18 +27,7 @@ fn is_child(cells: &[u32], i: u32) -> bool
     ensures { λ r. ⌜ r ≡ isChild (now (cells .entry)) i ⌝ }
 {
     let p = get(cells, i, PARENT);
-    if p == NULL {
-        return true;
-    }
-    let l = get(cells, p, LEFT);
-    if l == i {
-        return true;
-    }
-    let r = get(cells, p, RIGHT);
-    if r == i {
-        return true;
-    }
-    false
+    p == NULL || (get(cells, p, LEFT) == i || get(cells, p, RIGHT) == i)
 }
 
 // The hash of i's left child, if any, is at most i's.
@@ -54,15 +35,7 @@ fn left_hash(names: &[u64], cells: &[u32], i: u32) -> bool
     ensures { λ r. ⌜ r ≡ leftHash (now (names .entry)) (now (cells .entry)) i ⌝ }
 {
     let l = get(cells, i, LEFT);
-    if l == NULL {
-        return true;
-    }
-    let theirs = name(names, l, HASH);
-    let own = name(names, i, HASH);
-    if theirs <= own {
-        return true;
-    }
-    false
+    l == NULL || name(names, l, HASH) <= name(names, i, HASH)
 }
 
 // The hash of i's right child, if any, is at least i's.
@@ -70,42 +43,16 @@ fn right_hash(names: &[u64], cells: &[u32], i: u32) -> bool
     ensures { λ r. ⌜ r ≡ rightHash (now (names .entry)) (now (cells .entry)) i ⌝ }
 {
     let r = get(cells, i, RIGHT);
-    if r == NULL {
-        return true;
-    }
-    let own = name(names, i, HASH);
-    let theirs = name(names, r, HASH);
-    if own <= theirs {
-        return true;
-    }
-    false
+    r == NULL || name(names, i, HASH) <= name(names, r, HASH)
 }
 
 // i is not red, or lacks a child, or one of its two children is not red.
 fn not_all_red(cells: &[u32], i: u32) -> bool
     ensures { λ r. ⌜ r ≡ notAllRed (now (cells .entry)) i ⌝ }
 {
-    let own = is_red(cells, i);
-    if !own {
-        return true;
-    }
     let l = get(cells, i, LEFT);
-    if l == NULL {
-        return true;
-    }
     let r = get(cells, i, RIGHT);
-    if r == NULL {
-        return true;
-    }
-    let lefts = is_red(cells, l);
-    if !lefts {
-        return true;
-    }
-    let rights = is_red(cells, r);
-    if !rights {
-        return true;
-    }
-    false
+    !is_red(cells, i) || l == NULL || r == NULL || !is_red(cells, l) || !is_red(cells, r)
 }
 
 // The number of the first of the eight tests that fails at slot i; 0 where none does.
@@ -151,13 +98,7 @@ fn first_failing(names: &[u64], cells: &[u32], i: u32) -> u8
 pub fn in_range(n: usize, link: u32) -> bool
     ensures { λ r. ⌜ r ≡ inRange n link ⌝ }
 {
-    if link == NULL {
-        return true;
-    }
-    if (link as usize) < n {
-        return true;
-    }
-    false
+    link == NULL || (link as usize) < n
 }
 
 // So is each of slot i's own five links.
@@ -165,22 +106,11 @@ pub fn links_in(n: usize, cells: &[u32], i: u32) -> bool
     ensures { λ r. ⌜ r ≡ linksIn n (now (cells .entry)) i ⌝ }
 {
     let parent = in_range(n, get(cells, i, PARENT));
-    if !parent {
-        return false;
-    }
     let left = in_range(n, get(cells, i, LEFT));
-    if !left {
-        return false;
-    }
     let right = in_range(n, get(cells, i, RIGHT));
-    if !right {
-        return false;
-    }
     let prev = in_range(n, get(cells, i, PREV));
-    if !prev {
-        return false;
-    }
-    in_range(n, get(cells, i, NEXT))
+    let next = in_range(n, get(cells, i, NEXT));
+    parent && left && right && prev && next
 }
 
 // What a visit comes to: all passes, with so many visits left; a test fails at a slot; or the walk is lost.

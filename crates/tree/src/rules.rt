@@ -21,71 +21,36 @@ fn is_coloured(cells: &[u32], i: u32) -> bool
     ensures { λ r. ⌜ r ≡ inUse (now (cells .entry)) i ⌝ }
 {
     let state = get(cells, i, STATE);
-    if state == BLACK {
-        return true;
-    }
-    if state == RED {
-        return true;
-    }
-    false
+    state == BLACK || state == RED
 }
 
 // Slot i stands under q, is black or red, and its two children, if any, are two.
 fn stand(cells: &[u32], q: u32, i: u32) -> bool
     ensures { λ r. ⌜ r ≡ stands (now (cells .entry)) q i ⌝ }
 {
-    let above = get(cells, i, PARENT);
-    if above != q {
-        return false;
-    }
-    let used = is_coloured(cells, i);
-    if !used {
-        return false;
-    }
     let l = get(cells, i, LEFT);
-    if l == NULL {
-        return true;
-    }
-    let r = get(cells, i, RIGHT);
-    if l == r {
-        return false;
-    }
-    true
+    get(cells, i, PARENT) == q && is_coloured(cells, i) && (l == NULL || l != get(cells, i, RIGHT))
 }
 
 // The pair of slot m comes before that of slot i, or m is null: none was read before.
 fn follow(names: &[u64], m: u32, i: u32) -> bool
     ensures { λ r. ⌜ r ≡ follows (now (names .entry)) m i ⌝ }
 {
-    if m == NULL {
-        return true;
-    }
-    let hash = name(names, m, HASH);
-    let key = name(names, m, KEY);
-    let at = name(names, i, HASH);
-    let own = name(names, i, KEY);
-    comes_before(hash, key, at, own)
+    m == NULL
+        || comes_before(
+            name(names, m, HASH),
+            name(names, m, KEY),
+            name(names, i, HASH),
+            name(names, i, KEY),
+        )
 }
 
 // Slot i is not red, or none of its children is.
 fn is_calm(cells: &[u32], i: u32) -> bool
     ensures { λ r. ⌜ r ≡ isCalm (now (cells .entry)) i ⌝ }
 {
-    let own = get(cells, i, STATE);
-    if own != RED {
-        return true;
-    }
-    let l = get(cells, i, LEFT);
-    let lefts = get(cells, l, STATE);
-    if lefts == RED {
-        return false;
-    }
-    let r = get(cells, i, RIGHT);
-    let rights = get(cells, r, STATE);
-    if rights == RED {
-        return false;
-    }
-    true
+    !is_red(cells, i)
+        || (!is_red(cells, get(cells, i, LEFT)) && !is_red(cells, get(cells, i, RIGHT)))
 }
 
 // What a walk down from a link comes to: the visits left, the slot read last, and how many black slots every way down meets;

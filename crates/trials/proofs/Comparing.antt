@@ -56,23 +56,6 @@ module _ (a b : List ℕ) where
 
 -- The four slices one after another.
 module _ (a b : Index) where
-  pub index-names : sameWords (a .live .names) (b .live .names) ≡ false → false ≡ sameIndex a b
-  unfolding sameIndex
-  index-names e = rw e
-
-  pub index-cells : sameWords (a .live .names) (b .live .names) ≡ true → sameWords (a .live .cells) (b .live .cells) ≡ false → false ≡ sameIndex a b
-  unfolding sameIndex
-  index-cells n e = rw (n, e)
-
-  module _ (n : sameWords (a .live .names) (b .live .names) ≡ true) (c : sameWords (a .live .cells) (b .live .cells) ≡ true) where
-    pub index-head : sameWords (a .live .head) (b .live .head) ≡ false → false ≡ sameIndex a b
-    unfolding sameIndex
-    index-head e = rw (n, c, e)
-
-    pub index-lines : sameWords (a .live .head) (b .live .head) ≡ true → sameWords (a .lines) (b .lines) ≡ sameIndex a b
-    unfolding sameIndex
-    index-lines e = rw (n, c, e)
-
   yes-index : sameIndex a b ≡ true → a ≡ b
   unfolding sameIndex
   yes-index e =

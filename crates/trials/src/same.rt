@@ -51,14 +51,8 @@ pub fn same_index(
     ensures { λ r. ⌜ r ≡ sameIndex (lent (now (names .entry)) (now (cells .entry)) (now (head .entry)) (now (lines .entry)))
         (lent (now (oldnames .entry)) (now (oldcells .entry)) (now (oldhead .entry)) (now (oldlines .entry))) ⌝ }
 {
-    if !same_names(names, oldnames) {
-        return false;
-    }
-    if !same_cells(cells, oldcells) {
-        return false;
-    }
-    if !same_cells(head, oldhead) {
-        return false;
-    }
-    same_names(lines, oldlines)
+    same_names(names, oldnames)
+        && same_cells(cells, oldcells)
+        && same_cells(head, oldhead)
+        && same_names(lines, oldlines)
 }

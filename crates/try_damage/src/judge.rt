@@ -49,10 +49,7 @@ fn sum(a: u32, b: u32) -> u32 {
 
 // T1: a link is null or names one of so many slots.
 fn link_fine(link: u32, slots: u32) -> bool {
-    if link == NULL {
-        return true;
-    }
-    link < slots
+    link == NULL || link < slots
 }
 
 // T1: the five links of slot i. Of no slots, they are null.
@@ -69,24 +66,13 @@ fn links_fine(cells: &[u32], i: u32, slots: u32) -> bool {
 
 // T1: the name and the place of slot i are zero.
 fn blank(names: &[u64], cells: &[u32], i: u32) -> bool {
-    if name(names, i, HASH) != 0 {
-        return false;
-    }
-    if name(names, i, KEY) != 0 {
-        return false;
-    }
-    get(cells, i, PLACE) == 0
+    name(names, i, HASH) == 0 && name(names, i, KEY) == 0 && get(cells, i, PLACE) == 0
 }
 
 // T1 of slot i: it is free and cleared, or black or red.
 fn slot_fine(names: &[u64], cells: &[u32], i: u32) -> bool {
     match get(cells, i, STATE) {
-        FREE => {
-            if blank(names, cells, i) {
-                return links_fine(cells, i, 0);
-            }
-            false
-        }
+        FREE => blank(names, cells, i) && links_fine(cells, i, 0),
         BLACK | RED => links_fine(cells, i, SLOTS),
         _ => false,
     }
@@ -113,13 +99,9 @@ fn used_slots(cells: &[u32]) -> u32 {
 
 // T1 of the header.
 fn head_fine(cells: &[u32], head: &[u32]) -> bool {
-    if !link_fine(word(head, ROOT), SLOTS) {
-        return false;
-    }
-    if !link_fine(word(head, FIRST), SLOTS) {
-        return false;
-    }
-    word(head, COUNT) == used_slots(cells)
+    link_fine(word(head, ROOT), SLOTS)
+        && link_fine(word(head, FIRST), SLOTS)
+        && word(head, COUNT) == used_slots(cells)
 }
 
 // T2: root and first are null if the count is 0, and neither is null if it is not.
@@ -127,15 +109,9 @@ fn ends_agree(head: &[u32]) -> bool {
     let root = word(head, ROOT);
     let first = word(head, FIRST);
     if word(head, COUNT) == 0 {
-        if root != NULL {
-            return false;
-        }
-        return first == NULL;
+        return root == NULL && first == NULL;
     }
-    if root == NULL {
-        return false;
-    }
-    first != NULL
+    root != NULL && first != NULL
 }
 
 // Marks the children of slot i if it is marked.
@@ -202,38 +178,23 @@ fn times_named(cells: &[u32], root: u32, marks: &[u32], i: u32) -> u32 {
 // T3: the child of slot i at field f, if any, has i as its parent.
 fn child_points_back(cells: &[u32], i: u32, f: u32) -> bool {
     let child = get(cells, i, f);
-    if child == NULL {
-        return true;
-    }
-    get(cells, child, PARENT) == i
+    child == NULL || get(cells, child, PARENT) == i
 }
 
 // T3 of slot i: it is reached if and only if it is used, then once, and its children point back.
 fn is_reached(cells: &[u32], root: u32, marks: &[u32], i: u32) -> bool {
     let occupied = used(cells, i);
-    if word(marks, i) != occupied {
-        return false;
-    }
-    if times_named(cells, root, marks, i) != occupied {
-        return false;
-    }
-    if !child_points_back(cells, i, LEFT) {
-        return false;
-    }
-    child_points_back(cells, i, RIGHT)
+    word(marks, i) == occupied
+        && times_named(cells, root, marks, i) == occupied
+        && child_points_back(cells, i, LEFT)
+        && child_points_back(cells, i, RIGHT)
 }
 
 // The pair of slot i is less than that of slot j.
 fn less(names: &[u64], i: u32, j: u32) -> bool {
     let own = name(names, i, HASH);
     let theirs = name(names, j, HASH);
-    if own < theirs {
-        return true;
-    }
-    if theirs < own {
-        return false;
-    }
-    name(names, i, KEY) < name(names, j, KEY)
+    own < theirs || (own == theirs && name(names, i, KEY) < name(names, j, KEY))
 }
 
 // T4: slot i, which stands at or below slot child, is on the right side of slot above, whose child that is.
@@ -264,21 +225,13 @@ fn ordered(names: &[u64], cells: &[u32], i: u32) -> bool {
 
 // Whether slot i is red; null is not.
 fn is_red(cells: &[u32], i: u32) -> bool {
-    if i == NULL {
-        return false;
-    }
-    get(cells, i, STATE) == RED
+    i != NULL && get(cells, i, STATE) == RED
 }
 
 // T5 of slot i: it is not red, or neither child is.
 fn calm(cells: &[u32], i: u32) -> bool {
-    if !is_red(cells, i) {
-        return true;
-    }
-    if is_red(cells, get(cells, i, LEFT)) {
-        return false;
-    }
-    !is_red(cells, get(cells, i, RIGHT))
+    !is_red(cells, i)
+        || (!is_red(cells, get(cells, i, LEFT)) && !is_red(cells, get(cells, i, RIGHT)))
 }
 
 // How many black slots there are from slot i up to the root, both counted.
@@ -299,13 +252,7 @@ fn blacks(cells: &[u32], i: u32) -> u32 {
 
 // Whether a way from the root ends at a null link of slot i.
 fn is_end(cells: &[u32], i: u32) -> bool {
-    if used(cells, i) == 0 {
-        return false;
-    }
-    if get(cells, i, LEFT) == NULL {
-        return true;
-    }
-    get(cells, i, RIGHT) == NULL
+    used(cells, i) != 0 && (get(cells, i, LEFT) == NULL || get(cells, i, RIGHT) == NULL)
 }
 
 // How many black slots are on the way from the root to a null link of slot i; null if there is no such way.
@@ -318,13 +265,7 @@ fn way(cells: &[u32], i: u32) -> u32 {
 
 // Two numbers of black slots are the same, if there are two.
 fn agree(a: u32, b: u32) -> bool {
-    if a == NULL {
-        return true;
-    }
-    if b == NULL {
-        return true;
-    }
-    a == b
+    a == NULL || b == NULL || a == b
 }
 
 // The first of two numbers of black slots, if there is one, or else the second.
@@ -367,14 +308,8 @@ fn visits(cells: &[u32], first: u32) -> [u32; 64] {
 
 // T7 of slot i: it is visited once if it is used and never if it is free, and the slot after it, if any, points back.
 fn is_chained(cells: &[u32], counts: &[u32], i: u32) -> bool {
-    if word(counts, i) != used(cells, i) {
-        return false;
-    }
     let next = get(cells, i, NEXT);
-    if next == NULL {
-        return true;
-    }
-    get(cells, next, PREV) == i
+    word(counts, i) == used(cells, i) && (next == NULL || get(cells, next, PREV) == i)
 }
 
 // One question of slot i. The marks are those of T3 or the counts of T7; the other questions have none.
@@ -402,64 +337,34 @@ fn all(rule: u32, names: &[u64], cells: &[u32], root: u32, marks: &[u32]) -> boo
 
 // T1 and T2.
 fn words_fine(names: &[u64], cells: &[u32], head: &[u32]) -> bool {
-    if !all(FINE, names, cells, NULL, cells) {
-        return false;
-    }
-    if !head_fine(cells, head) {
-        return false;
-    }
-    ends_agree(head)
+    all(FINE, names, cells, NULL, cells) && head_fine(cells, head) && ends_agree(head)
 }
 
 // T3.
 fn is_tree(names: &[u64], cells: &[u32], root: u32) -> bool {
-    if root == NULL {
-        return true;
-    }
-    if get(cells, root, PARENT) != NULL {
-        return false;
-    }
     let marks = reached(cells, root);
-    all(REACHED, names, cells, root, &marks)
+    root == NULL || (get(cells, root, PARENT) == NULL && all(REACHED, names, cells, root, &marks))
 }
 
 // T4 to T6, of a tree.
 fn is_balanced(names: &[u64], cells: &[u32], root: u32) -> bool {
-    if is_red(cells, root) {
-        return false;
-    }
-    if !all(ORDERED, names, cells, root, cells) {
-        return false;
-    }
-    if !all(CALM, names, cells, root, cells) {
-        return false;
-    }
-    level(cells)
+    !is_red(cells, root)
+        && all(ORDERED, names, cells, root, cells)
+        && all(CALM, names, cells, root, cells)
+        && level(cells)
 }
 
 // T7.
 fn is_chain(names: &[u64], cells: &[u32], first: u32) -> bool {
-    if first == NULL {
-        return true;
-    }
-    if get(cells, first, PREV) != NULL {
-        return false;
-    }
     let counts = visits(cells, first);
-    all(CHAINED, names, cells, NULL, &counts)
+    first == NULL || (get(cells, first, PREV) == NULL && all(CHAINED, names, cells, NULL, &counts))
 }
 
 // Whether the tree is sound. Each rule is asked only where those before it hold: T4 to T6 speak of every used slot, which by
 // T3 is every reached slot.
 pub fn judge(names: &[u64], cells: &[u32], head: &[u32]) -> bool {
-    if !words_fine(names, cells, head) {
-        return false;
-    }
-    if !is_tree(names, cells, word(head, ROOT)) {
-        return false;
-    }
-    if !is_balanced(names, cells, word(head, ROOT)) {
-        return false;
-    }
-    is_chain(names, cells, word(head, FIRST))
+    words_fine(names, cells, head)
+        && is_tree(names, cells, word(head, ROOT))
+        && is_balanced(names, cells, word(head, ROOT))
+        && is_chain(names, cells, word(head, FIRST))
 }

@@ -1,9 +1,16 @@
--- Each way out closes by the reads and the tests that led there.
+-- The four tests in a row are the model's; what T1 asks of a slot does not read the header.
+use mathlib.Core.Path.{_≡_, ap, _∙_}
+use mathlib.Core.Bool.{Bool}
 use mathlib.Core.List.{[]}
-use Rattle.index.proofs.Slots.{any-head}
-use Rattle.index_rules.specs.Sound.{rule1}
-use borrow.Author.Tests.{eq-eqb, ne-eqb, not-false, not-true}
+use Prim.Native.Nat.{_/_}
+use denote.Ref.{now}
+use lib.ListN.{length, getD}
 use borrow.Author.Needs.{needs}
+use Rattle.slots.specs.Words.{null, _and_}
+use Rattle.slots.proofs.Laws.{and-next}
+use Rattle.tree_rules.specs.Check.{inRange}
+use Rattle.index_rules.specs.Sound.{rule1}
+use Rattle.index.proofs.Slots.{any-head}
 use Rattle.index.proofs.sound.rule1.Statement.{statement}
 use Rattle.index.proofs.sound.rule1.Tie as tie
 
@@ -13,44 +20,17 @@ cast-slots-fine c = search needs
 slots-fine-requires : tie.Need-slots-fine-requires
 slots-fine-requires c κs = search needs
 
-returns : tie.Need-returns
-unfolding rule1
-returns c =
-    let c1 = c .before in
-    rw (any-head _ _ _ [], ← c1 .slots-fine .ensures, not-true (c1 .slots-fine .result) (c .if1 .taken))
-
 word-requires : tie.Need-word-requires
 word-requires c κs = search needs
 
 in-range-requires : tie.Need-in-range-requires
 in-range-requires c κs = search needs
 
-returns-2 : tie.Need-returns-2
-unfolding rule1
-returns-2 c =
-    let c1 = c .before in
-    let c2 = c1 .before in
-    let c3 = c2 .before in
-    let c4 = c3 .before in
-    rw (any-head _ _ _ [], ← c4 .slots-fine .ensures, not-false (c4 .slots-fine .result) (c3 .if1 .left), ← c2 .word .ensures, ← c1 .in-range .ensures, not-true (c1 .in-range .result) (c .if2 .taken))
-
 word-requires-2 : tie.Need-word-requires-2
 word-requires-2 c κs = search needs
 
 in-range-requires-2 : tie.Need-in-range-requires-2
 in-range-requires-2 c κs = search needs
-
-returns-3 : tie.Need-returns-3
-unfolding rule1
-returns-3 c =
-    let c1 = c .before in
-    let c2 = c1 .before in
-    let c3 = c2 .before in
-    let c4 = c3 .before in
-    let c5 = c4 .before in
-    let c6 = c5 .before in
-    let c7 = c6 .before in
-    rw (any-head _ _ _ [], ← c7 .slots-fine .ensures, not-false (c7 .slots-fine .result) (c6 .if1 .left), ← c5 .word .ensures, ← c4 .in-range .ensures, not-false (c4 .in-range .result) (c3 .if2 .left), ← c2 .word2 .ensures, ← c1 .in-range2 .ensures, not-true (c1 .in-range2 .result) (c .if3 .taken))
 
 word-requires-3 : tie.Need-word-requires-3
 word-requires-3 c κs = search needs
@@ -61,35 +41,31 @@ cast-used-slots c = search needs
 used-slots-requires : tie.Need-used-slots-requires
 used-slots-requires c κs = search needs
 
-returns-4 : tie.Need-returns-4
-unfolding rule1
-returns-4 c =
-    let c1 = c .before in
-    let c2 = c1 .before in
-    let c3 = c2 .before in
-    let c4 = c3 .before in
-    let c5 = c4 .before in
-    let c6 = c5 .before in
-    let c7 = c6 .before in
-    let c8 = c7 .before in
-    let c9 = c8 .before in
-    let c10 = c9 .before in
-    rw (any-head _ _ _ [], ← c10 .slots-fine .ensures, not-false (c10 .slots-fine .result) (c9 .if1 .left), ← c8 .word .ensures, ← c7 .in-range .ensures, not-false (c7 .in-range .result) (c6 .if2 .left), ← c5 .word2 .ensures, ← c4 .in-range2 .ensures, not-false (c4 .in-range2 .result) (c3 .if3 .left), ← c2 .word3 .ensures, ← c1 .used-slots .ensures, ne-eqb _ _ (c .if4 .taken))
+-- What is asked of the tree is what the last `&&` is asked.
+asked : (c : tie.Joined2) (x : Bool) {s : Bool} → s ≡ c .if2 .if3 and x
+    → let a = c .before .before .before .before .before .before .args in
+    let n = length (now (a .names)) / 2 in
+    s ≡ c .before .before .slots-fine .result and inRange n (getD (now (a .head)) 0 null) and inRange n (getD (now (a .head)) 1 null) and x
+asked c x e =
+    let a = c .before .before .before .before .before .before .args in
+    let n = length (now (a .names)) / 2 in
+    and-next _ (c .before .if1 .came) (λ w. (w .0 .taken, w .3 ∙ w .2 .ensures ∙ ap (inRange n) (w .1 .ensures))) (λ w. (w .0 .left, w .1))
+    (and-next x (c .if2 .came) (λ w. (w .0 .taken, w .3 ∙ w .2 .ensures ∙ ap (inRange n) (w .1 .ensures))) (λ w. (w .0 .left, w .1)) e)
 
-returns-5 : tie.Need-returns-5
+returns : tie.Need-returns
 unfolding rule1
-returns-5 c =
+returns c =
     let c1 = c .before in
     let c2 = c1 .before in
     let c3 = c2 .before in
-    let c4 = c3 .before in
-    let c5 = c4 .before in
-    let c6 = c5 .before in
-    let c7 = c6 .before in
-    let c8 = c7 .before in
-    let c9 = c8 .before in
-    let c10 = c9 .before in
-    rw (any-head _ _ _ [], ← c10 .slots-fine .ensures, not-false (c10 .slots-fine .result) (c9 .if1 .left), ← c8 .word .ensures, ← c7 .in-range .ensures, not-false (c7 .in-range .result) (c6 .if2 .left), ← c5 .word2 .ensures, ← c4 .in-range2 .ensures, not-false (c4 .in-range2 .result) (c3 .if3 .left), ← c2 .word3 .ensures, ← c1 .used-slots .ensures, eq-eqb _ _ (c .if4 .left))
+    rw (any-head _ _ _ [], ← c3 .before .before .slots-fine .ensures, ← c1 .word3 .ensures, ← c .used-slots .ensures)
+    (asked c3 _ (rw (c2 .if3 .taken)))
+
+returns-2 : tie.Need-returns-2
+unfolding rule1
+returns-2 c =
+    let c1 = c .before in
+    rw (any-head _ _ _ [], ← c1 .before .before .slots-fine .ensures) (asked c1 _ (rw (c .if3 .left)))
 
 pub rule1-spec : {M : Type 1} → statement M
 rule1-spec =
@@ -97,15 +73,12 @@ rule1-spec =
     (tie.spec
     cast-slots-fine
     slots-fine-requires
-    returns
     word-requires
     in-range-requires
-    returns-2
     word-requires-2
     in-range-requires-2
-    returns-3
     word-requires-3
     cast-used-slots
     used-slots-requires
-    returns-4
-    returns-5)
+    returns
+    returns-2)

@@ -1,6 +1,5 @@
--- Each way out closes by the reads and the tests that led there.
+-- The root decides, and the first where it passes.
 use Rattle.index_rules.specs.Sound.{rule2}
-use borrow.Author.Tests.{not-false, not-true}
 use borrow.Author.Needs.{needs}
 use Rattle.index.proofs.sound.rule2.Statement.{statement}
 use Rattle.index.proofs.sound.rule2.Tie as tie
@@ -14,29 +13,27 @@ word-requires-2 c κs = search needs
 null-if-none-requires : tie.Need-null-if-none-requires
 null-if-none-requires c κs = search needs
 
-returns : tie.Need-returns
-unfolding rule2
-returns c =
-    let c1 = c .before in
-    let c2 = c1 .before in
-    let c3 = c2 .before in
-    rw (← c3 .word .ensures, ← c2 .word2 .ensures, ← c1 .null-if-none .ensures, not-true (c1 .null-if-none .result) (c .if1 .taken))
-
 word-requires-3 : tie.Need-word-requires-3
 word-requires-3 c κs = search needs
 
 null-if-none-requires-2 : tie.Need-null-if-none-requires-2
 null-if-none-requires-2 c κs = search needs
 
+returns : tie.Need-returns
+unfolding rule2
+returns c =
+    let c1 = c .before in
+    let c2 = c1 .before in
+    let c3 = c2 .before in
+    let c4 = c3 .before in
+    rw (← c4 .before .word .ensures, ← c4 .word2 .ensures, ← c3 .null-if-none .ensures, c2 .if1 .taken, ← c1 .word3 .ensures, ← c .null-if-none2 .ensures)
+
 returns-2 : tie.Need-returns-2
 unfolding rule2
 returns-2 c =
     let c1 = c .before in
     let c2 = c1 .before in
-    let c3 = c2 .before in
-    let c4 = c3 .before in
-    let c5 = c4 .before in
-    rw (← c5 .word .ensures, ← c4 .word2 .ensures, ← c3 .null-if-none .ensures, not-false (c3 .null-if-none .result) (c2 .if1 .left), ← c1 .word3 .ensures, ← c .null-if-none2 .ensures)
+    rw (← c2 .before .word .ensures, ← c2 .word2 .ensures, ← c1 .null-if-none .ensures, c .if1 .left)
 
 pub rule2-spec : {M : Type 1} → statement M
 rule2-spec =
@@ -45,7 +42,7 @@ rule2-spec =
     word-requires
     word-requires-2
     null-if-none-requires
-    returns
     word-requires-3
     null-if-none-requires-2
+    returns
     returns-2)

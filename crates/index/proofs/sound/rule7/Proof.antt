@@ -7,7 +7,7 @@ use Rattle.slots.specs.Words.{null}
 use Rattle.tree_rules.proofs.Visits.{chained-within}
 use Rattle.tree.specs.Rules.{restOf}
 use Rattle.index_rules.specs.Sound.{rule7}
-use borrow.Author.Tests.{eq-eqb, ne-eqb, not-false, not-true}
+use borrow.Author.Tests.{not-false, not-true}
 use borrow.Author.Needs.{needs}
 use Rattle.index.proofs.sound.rule7.Statement.{statement}
 use Rattle.index.proofs.sound.rule7.Tie as tie
@@ -47,8 +47,8 @@ returns-2 c =
 word-requires-2 : tie.Need-word-requires-2
 word-requires-2 c κs = search needs
 
-sub-if2 : tie.Need-sub-if2
-sub-if2 c =
+sub-result : tie.Need-sub-result
+sub-result c =
     let at-told = c .before .before in
     let at-chain = at-told .before .before in
     let at-first = at-chain .before .before .before in
@@ -63,34 +63,17 @@ sub-if2 c =
     (at-told .walk .given .0 .0)
     (sym (at-chain .chain .ensures) ∙ ap restOf (at-told .walk .given .1))
 
-cast-if2 : tie.Need-cast-if2
-cast-if2 c = search needs
+cast-result : tie.Need-cast-result
+cast-result c = search needs
 
 returns-3 : tie.Need-returns-3
 unfolding rule7
 returns-3 c =
-    let c1 = c .before in
-    let c2 = c1 .before in
-    let c3 = c2 .before in
-    let c4 = c3 .before in
+    let c2 = c .before .before in
+    let c4 = c2 .before .before in
     let c5 = c4 .before in
     let c6 = c5 .before in
-    let c7 = c6 .before in
-    let c8 = c7 .before in
-    rw (← c8 .word .ensures, ← c7 .not-free .ensures, not-false (c7 .not-free .result) (c6 .if1 .left), ← c5 .chain .ensures, c3 .walk .given .1, ← c1 .word2 .ensures, ne-eqb _ _ (c .if2 .taken))
-
-returns-4 : tie.Need-returns-4
-unfolding rule7
-returns-4 c =
-    let c1 = c .before in
-    let c2 = c1 .before in
-    let c3 = c2 .before in
-    let c4 = c3 .before in
-    let c5 = c4 .before in
-    let c6 = c5 .before in
-    let c7 = c6 .before in
-    let c8 = c7 .before in
-    rw (← c8 .word .ensures, ← c7 .not-free .ensures, not-false (c7 .not-free .result) (c6 .if1 .left), ← c5 .chain .ensures, c3 .walk .given .1, ← c1 .word2 .ensures, eq-eqb _ _ (c .if2 .left))
+    rw (← c6 .before .word .ensures, ← c6 .not-free .ensures, not-false (c6 .not-free .result) (c5 .if1 .left), ← c4 .chain .ensures, c2 .walk .given .1, ← c .word2 .ensures)
 
 pub rule7-spec : {M : Type 1} → statement M
 rule7-spec =
@@ -104,7 +87,6 @@ rule7-spec =
     enum-told
     returns-2
     word-requires-2
-    sub-if2
-    cast-if2
-    returns-3
-    returns-4)
+    sub-result
+    cast-result
+    returns-3)

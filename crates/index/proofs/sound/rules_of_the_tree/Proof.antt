@@ -2,7 +2,7 @@
 use mathlib.Core.Path.{sym, ap, _∙_}
 use denote.Ref.{now}
 use Rattle.tree.specs.Rules.{sizeOf}
-use Rattle.index.proofs.Walked.{no-size, other-count, same-count}
+use Rattle.index.proofs.Walked.{no-size, by-count}
 use borrow.Author.Needs.{needs}
 use Rattle.index.proofs.sound.rules_of_the_tree.Statement.{statement}
 use Rattle.index.proofs.sound.rules_of_the_tree.Tie as tie
@@ -29,34 +29,19 @@ returns c =
 word-requires-2 : tie.Need-word-requires-2
 word-requires-2 c κs = search needs
 
-cast-if1 : tie.Need-cast-if1
-cast-if1 c = search needs
+cast-result : tie.Need-cast-result
+cast-result c = search needs
 
 returns-2 : tie.Need-returns-2
 returns-2 c =
-    let at-count = c .before in
-    let at-told = at-count .before .before in
+    let at-told = c .before .before in
     let at-size = at-told .before .before in
     let at-root = at-size .before in
     let a = at-root .before .before .before .before .args in
-    other-count (record { names = now (a .names); cells = now (a .cells); head = now (a .head) })
+    by-count (record { names = now (a .names); cells = now (a .cells); head = now (a .head) })
     (at-root .word .ensures)
     (ap sizeOf (sym (at-told .size .given .1)) ∙ at-size .tree-size .ensures)
-    (at-count .word2 .ensures)
-    (c .if1 .taken)
-
-returns-3 : tie.Need-returns-3
-returns-3 c =
-    let at-count = c .before in
-    let at-told = at-count .before .before in
-    let at-size = at-told .before .before in
-    let at-root = at-size .before in
-    let a = at-root .before .before .before .before .args in
-    same-count (record { names = now (a .names); cells = now (a .cells); head = now (a .head) })
-    (at-root .word .ensures)
-    (ap sizeOf (sym (at-told .size .given .1)) ∙ at-size .tree-size .ensures)
-    (at-count .word2 .ensures)
-    (c .if1 .left)
+    (c .word2 .ensures)
 
 pub rules-of-the-tree-spec : {M : Type 1} → statement M
 rules-of-the-tree-spec =
@@ -68,6 +53,5 @@ rules-of-the-tree-spec =
     enum-told
     returns
     word-requires-2
-    cast-if1
-    returns-2
-    returns-3)
+    cast-result
+    returns-2)

@@ -1,6 +1,6 @@
 -- Each way out closes by the reads and the tests that led there.
 use Rattle.index_rules.specs.Sound.{isCleared, slotFine}
-use borrow.Author.Tests.{eq-eqb, le-leb, lt-leb, ne-eqb, not-false, not-true}
+use borrow.Author.Tests.{eq-eqb, ne-eqb, not-false, not-true}
 use borrow.Author.Needs.{needs}
 use Rattle.index.proofs.sound.slot_fine.Statement.{statement}
 use Rattle.index.proofs.sound.slot_fine.Tie as tie
@@ -35,26 +35,9 @@ returns-3 c =
     let c1 = c .before in
     let c2 = c1 .before in
     let c3 = c2 .before in
-    let c4 = c3 .before in
-    rw (← c4 .links-in .ensures, not-false (c4 .links-in .result) (c3 .if1 .left), ← c2 .get .ensures, ne-eqb _ _ (c1 .if2 .left), le-leb _ _ (c .if3 .taken))
-
-returns-4 : tie.Need-returns-4
-unfolding slotFine isCleared
-returns-4 c =
-    let c1 = c .before in
-    let c2 = c1 .before in
-    let c3 = c2 .before in
-    let c4 = c3 .before in
-    rw (← c4 .links-in .ensures, not-false (c4 .links-in .result) (c3 .if1 .left), ← c2 .get .ensures, ne-eqb _ _ (c1 .if2 .left), lt-leb _ _ (c .if3 .left))
+    rw (← c3 .links-in .ensures, not-false (c3 .links-in .result) (c2 .if1 .left), ← c1 .get .ensures, ne-eqb _ _ (c .if2 .left))
 
 pub slot-fine-spec : {M : Type 1} → statement M
 slot-fine-spec =
     tie.close
-    (tie.spec
-    links-in-requires
-    returns
-    get-requires
-    is-cleared-requires
-    returns-2
-    returns-3
-    returns-4)
+    (tie.spec links-in-requires returns get-requires is-cleared-requires returns-2 returns-3)

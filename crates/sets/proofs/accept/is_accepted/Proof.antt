@@ -1,9 +1,10 @@
--- Each way out closes by the tests that led there; fit words bound the numbers of slots and headers.
+-- The three tests in a row are the model's; fit words bound the numbers of slots and headers.
+use mathlib.Core.Path.{_∙_}
 use native.Mathlib.Omega.{arith}
-use borrow.Author.Tests.{not-false, not-true}
+use borrow.Author.Needs.{needs}
+use Rattle.slots.proofs.Laws.{and-next}
 use Rattle.set_rules.specs.Accepting.{accepted}
 use Rattle.set_rules.proofs.Fit.{fits-fit}
-use borrow.Author.Needs.{needs}
 use Rattle.sets.proofs.accept.is_accepted.Statement.{statement}
 use Rattle.sets.proofs.accept.is_accepted.Tie as tie
 
@@ -16,12 +17,6 @@ cast-slots-fine c =
 slots-fine-requires : tie.Need-slots-fine-requires
 slots-fine-requires c κs = search needs
 
-returns : tie.Need-returns
-unfolding accepted
-returns c =
-    let c1 = c .before in
-    rw (← c1 .slots-fine .ensures, not-true (c1 .slots-fine .result) (c .if1 .taken))
-
 cast-headers-fine : tie.Need-cast-headers-fine
 cast-headers-fine c =
     let at-start = c .before .before .before .before .before .before .before in
@@ -31,25 +26,23 @@ cast-headers-fine c =
 headers-fine-requires : tie.Need-headers-fine-requires
 headers-fine-requires c κs = search needs
 
+all-held-requires : tie.Need-all-held-requires
+all-held-requires c κs = search needs
+
+returns : tie.Need-returns
+unfolding accepted
+returns c =
+    let c1 = c .before in
+    let c2 = c1 .before in
+    rw (← c2 .before .slots-fine .ensures, ← c .all-held .ensures)
+    (and-next _ (c2 .if1 .came) (λ w. (w .0 .taken, w .2 ∙ w .1 .ensures)) (λ w. (w .0 .left, w .1)) (rw (c1 .if2 .taken)))
+
 returns-2 : tie.Need-returns-2
 unfolding accepted
 returns-2 c =
     let c1 = c .before in
-    let c2 = c1 .before in
-    let c3 = c2 .before in
-    rw (← c3 .slots-fine .ensures, not-false (c3 .slots-fine .result) (c2 .if1 .left), ← c1 .headers-fine .ensures, not-true (c1 .headers-fine .result) (c .if2 .taken))
-
-all-held-requires : tie.Need-all-held-requires
-all-held-requires c κs = search needs
-
-returns-3 : tie.Need-returns-3
-unfolding accepted
-returns-3 c =
-    let c1 = c .before in
-    let c2 = c1 .before in
-    let c3 = c2 .before in
-    let c4 = c3 .before in
-    rw (← c4 .slots-fine .ensures, not-false (c4 .slots-fine .result) (c3 .if1 .left), ← c2 .headers-fine .ensures, not-false (c2 .headers-fine .result) (c1 .if2 .left), ← c .all-held .ensures)
+    rw (← c1 .before .slots-fine .ensures)
+    (and-next _ (c1 .if1 .came) (λ w. (w .0 .taken, w .2 ∙ w .1 .ensures)) (λ w. (w .0 .left, w .1)) (rw (c .if2 .left)))
 
 pub is-accepted-spec : {M : Type 1} → statement M
 is-accepted-spec =
@@ -57,9 +50,8 @@ is-accepted-spec =
     (tie.spec
     cast-slots-fine
     slots-fine-requires
-    returns
     cast-headers-fine
     headers-fine-requires
-    returns-2
     all-held-requires
-    returns-3)
+    returns
+    returns-2)

@@ -1,64 +1,56 @@
--- Each way out closes by the reads and the tests that led there; tables that fit are few, so their number is a table's number.
-use mathlib.Core.Path.{sym, _∙_}
+-- The three tests in a row are the model's; tables that fit are few, so their number is a table's number.
+use mathlib.Core.Path.{sym, ap, _∙_}
 use denote.Ref.{now}
 use native.Mathlib.Omega.{arith}
+use lib.ListN.{length}
+use lib.Dec.{eqb}
 use borrow.Author.Needs.{needs}
-use borrow.Author.Tests.{not-true, not-false}
-use Rattle.sets.proofs.Sized.{few, no-tables, bins-differ, bins-agree}
+use Rattle.slots.proofs.Laws.{and-next}
+use Rattle.set_rules.specs.Words.{fits}
+use Rattle.sets.specs.Bins.{fitSlots}
+use Rattle.sets.proofs.Sized.{few}
 use Rattle.sets.proofs.fit.fit_set.Statement.{statement}
 use Rattle.sets.proofs.fit.fit_set.Tie as tie
 
 fit-tables-requires : tie.Need-fit-tables-requires
 fit-tables-requires c κs = search needs
 
-returns : tie.Need-returns
-returns c =
-    let at-tables = c .before in
-    no-tables _ (at-tables .fit-tables .ensures) (not-true (at-tables .fit-tables .result) (c .if1 .taken))
-
 cast-bins-before : tie.Need-cast-bins-before
 cast-bins-before c =
     let at-tables = c .before in
     let a = at-tables .before .before .before .before .before .before .args in
-    omega (arith, few (now (a .lengths)) (sym (at-tables .fit-tables .ensures) ∙ not-false (at-tables .fit-tables .result) (c .if1 .left)))
+    omega (arith, few (now (a .lengths)) (sym (at-tables .fit-tables .ensures) ∙ c .if1 .taken))
 
 bins-before-requires : tie.Need-bins-before-requires
 bins-before-requires c κs = search needs
 
-returns-2 : tie.Need-returns-2
-returns-2 c =
-    let at-all = c .before in
-    let at-tables = at-all .before .before in
-    bins-differ
-    _
-    (at-tables .fit-tables .ensures)
-    (not-false (at-tables .fit-tables .result) (at-all .before .if1 .left))
-    (at-all .bins-before .ensures)
-    (c .if2 .taken)
-
 fit-slots-requires : tie.Need-fit-slots-requires
 fit-slots-requires c κs = search needs
 
-returns-3 : tie.Need-returns-3
-returns-3 c =
-    let at-all = c .before .before in
-    let at-tables = at-all .before .before in
-    bins-agree
-    _
-    (at-tables .fit-tables .ensures)
-    (not-false (at-tables .fit-tables .result) (at-all .before .if1 .left))
-    (at-all .bins-before .ensures)
-    (c .before .if2 .left)
-    (c .fit-slots .ensures)
+returns : tie.Need-returns
+unfolding fits fitSlots
+returns c =
+    let c1 = c .before in
+    let c2 = c1 .before in
+    let a = c2 .before .before .before .before .before .before .before .args in
+    rw (← c2 .before .fit-tables .ensures, ← c .fit-slots .ensures)
+    (and-next _ (c2 .if1 .came) (λ w. (w .0 .taken, w .2 ∙ ap (eqb (length (now (a .bins)))) (w .1 .ensures))) (λ w. (w .0 .left, w .1)) (rw (c1 .if2 .taken)))
+
+returns-2 : tie.Need-returns-2
+unfolding fits
+returns-2 c =
+    let c1 = c .before in
+    let a = c1 .before .before .before .before .before .before .before .args in
+    rw (← c1 .before .fit-tables .ensures)
+    (and-next _ (c1 .if1 .came) (λ w. (w .0 .taken, w .2 ∙ ap (eqb (length (now (a .bins)))) (w .1 .ensures))) (λ w. (w .0 .left, w .1)) (rw (c .if2 .left)))
 
 pub fit-set-spec : {M : Type 1} → statement M
 fit-set-spec =
     tie.close
     (tie.spec
     fit-tables-requires
-    returns
     cast-bins-before
     bins-before-requires
-    returns-2
     fit-slots-requires
-    returns-3)
+    returns
+    returns-2)

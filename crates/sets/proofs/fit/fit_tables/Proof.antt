@@ -1,15 +1,16 @@
--- Each way out closes by the reads and the tests that led there.
+-- Their number is bounded first, for the number of the last; the three tests in a row are the model's.
+use mathlib.Core.Path.{_∙_}
+use mathlib.Core.Logic.{⊎-elim}
 use borrow.Author.Needs.{needs}
-use borrow.Author.Tests.{not-true, not-false}
-use Rattle.sets.proofs.Sized.{no-table, too-many, no-power-first, not-doubled, last-short}
+use borrow.Author.Tests.{ltb-true, ltb-false, le-leb}
+use Rattle.slots.proofs.Laws.{and-next}
+use Rattle.set_rules.specs.Words.{fitTables}
+use Rattle.sets.proofs.Sized.{no-table, too-many}
 use Rattle.sets.proofs.fit.fit_tables.Statement.{statement}
 use Rattle.sets.proofs.fit.fit_tables.Tie as tie
 
 returns : tie.Need-returns
-returns c = no-table _ (c .if1 .taken)
-
-returns-2 : tie.Need-returns-2
-returns-2 c = too-many _ (c .before .if1 .left) (c .if2 .taken)
+returns c = ⊎-elim (λ w. no-table _ (w .taken)) (λ w. too-many _ (w .0 .left) (ltb-true _ _ (w .1 .taken))) (c .if1 .came)
 
 cast-last : tie.Need-cast-last
 cast-last c = search needs
@@ -23,66 +24,43 @@ length-at-requires c κs = search needs
 is-power-requires : tie.Need-is-power-requires
 is-power-requires c κs = search needs
 
-returns-3 : tie.Need-returns-3
-returns-3 c =
-    let at-power = c .before in
-    let at-first = at-power .before in
-    let at-most = at-first .before in
-    no-power-first _ (at-most .before .if1 .left) (at-most .if2 .left) (at-first .length-at .ensures) (at-power .is-power .ensures) (not-true (at-power .is-power .result) (c .if3 .taken))
-
 doubled-requires : tie.Need-doubled-requires
 doubled-requires c κs = search needs
-
-returns-4 : tie.Need-returns-4
-returns-4 c =
-    let at-doubled = c .before in
-    let at-if3 = at-doubled .before in
-    let at-power = at-if3 .before in
-    let at-first = at-power .before in
-    let at-most = at-first .before in
-    not-doubled
-    _
-    (at-most .before .if1 .left)
-    (at-most .if2 .left)
-    (at-first .length-at .ensures)
-    (at-power .is-power .ensures)
-    (not-false (at-power .is-power .result) (at-if3 .if3 .left))
-    (at-doubled .doubled .ensures)
-    (not-true (at-doubled .doubled .result) (c .if4 .taken))
 
 length-at-requires-2 : tie.Need-length-at-requires-2
 length-at-requires-2 c κs = search needs
 
-returns-5 : tie.Need-returns-5
-returns-5 c =
-    let at-doubled = c .before .before in
-    let at-if3 = at-doubled .before in
-    let at-power = at-if3 .before in
+returns-2 : tie.Need-returns-2
+unfolding fitTables
+returns-2 c =
+    let c1 = c .before in
+    let c2 = c1 .before in
+    let at-power = c2 .before in
     let at-first = at-power .before in
     let at-most = at-first .before in
-    last-short
-    _
-    (at-most .before .if1 .left)
-    (at-most .if2 .left)
-    (at-first .length-at .ensures)
-    (at-power .is-power .ensures)
-    (not-false (at-power .is-power .result) (at-if3 .if3 .left))
-    (at-doubled .doubled .ensures)
-    (c .length-at2 .ensures)
-    (not-false (at-doubled .doubled .result) (c .before .if4 .left))
+    rw (le-leb _ _ (at-most .before .if1 .left), le-leb _ 8 (ltb-false 8 _ (at-most .if2 .left)), ← at-first .length-at .ensures, ← at-power .is-power .ensures, ← c .length-at2 .ensures)
+    (and-next _ (c2 .if3 .came) (λ w. (w .0 .taken, w .2 ∙ w .1 .ensures)) (λ w. (w .0 .left, w .1)) (rw (c1 .if4 .taken)))
+
+returns-3 : tie.Need-returns-3
+unfolding fitTables
+returns-3 c =
+    let c1 = c .before in
+    let at-power = c1 .before in
+    let at-first = at-power .before in
+    let at-most = at-first .before in
+    rw (le-leb _ _ (at-most .before .if1 .left), le-leb _ 8 (ltb-false 8 _ (at-most .if2 .left)), ← at-first .length-at .ensures, ← at-power .is-power .ensures)
+    (and-next _ (c1 .if3 .came) (λ w. (w .0 .taken, w .2 ∙ w .1 .ensures)) (λ w. (w .0 .left, w .1)) (rw (c .if4 .left)))
 
 pub fit-tables-spec : {M : Type 1} → statement M
 fit-tables-spec =
     tie.close
     (tie.spec
     returns
-    returns-2
     cast-last
     sub-last
     length-at-requires
     is-power-requires
-    returns-3
     doubled-requires
-    returns-4
     length-at-requires-2
-    returns-5)
+    returns-2
+    returns-3)

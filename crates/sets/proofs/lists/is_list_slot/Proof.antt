@@ -1,85 +1,60 @@
--- Each way out closes by the reads and the tests that led there.
+-- The five reads, each asked in a row, are the model's.
+use mathlib.Core.Path.{_≡_, refl}
+use denote.Ref.{now}
+use lib.Dec.{eqb}
 use borrow.Author.Tests.{eq-eqb, ne-eqb}
-use Rattle.set_rules.specs.Accepting.{isListSlot}
 use borrow.Author.Needs.{needs}
+use Rattle.slots.specs.Words.{null, _and_}
+use Rattle.slots.proofs.Laws.{and-next}
+use Rattle.set_rules.specs.Accepting.{isListSlot}
 use Rattle.sets.proofs.lists.is_list_slot.Statement.{statement}
 use Rattle.sets.proofs.lists.is_list_slot.Tie as tie
 
 get-requires : tie.Need-get-requires
 get-requires c κs = search needs
 
-returns : tie.Need-returns
-unfolding isListSlot
-returns c =
-    let c1 = c .before in
-    rw (← c1 .get .ensures, ne-eqb _ _ (c .if1 .taken))
-
 get-requires-2 : tie.Need-get-requires-2
 get-requires-2 c κs = search needs
-
-returns-2 : tie.Need-returns-2
-unfolding isListSlot
-returns-2 c =
-    let c1 = c .before in
-    let c2 = c1 .before in
-    let c3 = c2 .before in
-    rw (← c3 .get .ensures, eq-eqb _ _ (c2 .if1 .left), ← c1 .get2 .ensures, ne-eqb _ _ (c .if2 .taken))
 
 get-requires-3 : tie.Need-get-requires-3
 get-requires-3 c κs = search needs
 
-returns-3 : tie.Need-returns-3
-unfolding isListSlot
-returns-3 c =
-    let c1 = c .before in
-    let c2 = c1 .before in
-    let c3 = c2 .before in
-    let c4 = c3 .before in
-    let c5 = c4 .before in
-    rw (← c5 .get .ensures, eq-eqb _ _ (c4 .if1 .left), ← c3 .get2 .ensures, eq-eqb _ _ (c2 .if2 .left), ← c1 .get3 .ensures, ne-eqb _ _ (c .if3 .taken))
-
 get-requires-4 : tie.Need-get-requires-4
 get-requires-4 c κs = search needs
-
-returns-4 : tie.Need-returns-4
-unfolding isListSlot
-returns-4 c =
-    let c1 = c .before in
-    let c2 = c1 .before in
-    let c3 = c2 .before in
-    let c4 = c3 .before in
-    let c5 = c4 .before in
-    let c6 = c5 .before in
-    let c7 = c6 .before in
-    rw (← c7 .get .ensures, eq-eqb _ _ (c6 .if1 .left), ← c5 .get2 .ensures, eq-eqb _ _ (c4 .if2 .left), ← c3 .get3 .ensures, eq-eqb _ _ (c2 .if3 .left), ← c1 .get4 .ensures, ne-eqb _ _ (c .if4 .taken))
 
 get-requires-5 : tie.Need-get-requires-5
 get-requires-5 c κs = search needs
 
-returns-5 : tie.Need-returns-5
+-- What is asked of the slot is what the last `&&` is asked.
+asked : (c : tie.Joined3)
+    → let c5 = c .before .before .before in
+    let a = c5 .before .before .before .before .before .before .args in
+    c .if3 .if4 and eqb (c5 .get5 .result) null ≡ isListSlot (now (a .cells)) (a .x)
 unfolding isListSlot
-returns-5 c =
-    let c1 = c .before in
-    let c2 = c1 .before in
-    let c3 = c2 .before in
-    let c4 = c3 .before in
-    let c5 = c4 .before in
-    let c6 = c5 .before in
-    let c7 = c6 .before in
-    let c8 = c7 .before in
-    rw (← c8 .get .ensures, eq-eqb _ _ (c7 .if1 .left), ← c6 .get2 .ensures, eq-eqb _ _ (c5 .if2 .left), ← c4 .get3 .ensures, eq-eqb _ _ (c3 .if3 .left), ← c2 .get4 .ensures, eq-eqb _ _ (c1 .if4 .left), ← c .get5 .ensures)
+asked c =
+    let c5 = c .before .before .before in
+    let c4 = c5 .before in
+    let c3 = c4 .before in
+    let c2 = c3 .before in
+    rw (← c2 .before .get .ensures, ← c2 .get2 .ensures, ← c3 .get3 .ensures, ← c4 .get4 .ensures, ← c5 .get5 .ensures)
+    (and-next _ (c .before .before .if1 .came) (λ w. (eq-eqb _ _ (w .0 .taken), w .1)) (λ w. (ne-eqb _ _ (w .0 .left), w .1))
+    (and-next _ (c .before .if2 .came) (λ w. (w .0 .taken, w .1)) (λ w. (w .0 .left, w .1))
+    (and-next _ (c .if3 .came) (λ w. (w .0 .taken, w .1)) (λ w. (w .0 .left, w .1)) refl)))
+
+returns : tie.Need-returns
+returns c = rw (← asked (c .before), c .if4 .taken)
+
+returns-2 : tie.Need-returns-2
+returns-2 c = rw (← asked (c .before), c .if4 .left)
 
 pub is-list-slot-spec : {M : Type 1} → statement M
 is-list-slot-spec =
     tie.close
     (tie.spec
     get-requires
-    returns
     get-requires-2
-    returns-2
     get-requires-3
-    returns-3
     get-requires-4
-    returns-4
     get-requires-5
-    returns-5)
+    returns
+    returns-2)

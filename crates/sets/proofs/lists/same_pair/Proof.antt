@@ -1,4 +1,4 @@
--- Each way out closes by the reads and the tests that led there.
+-- The hashes decide, and the keys where they are the same.
 use borrow.Author.Tests.{eq-eqb, ne-eqb}
 use Rattle.set_rules.specs.Accepting.{samePair}
 use borrow.Author.Needs.{needs}
@@ -11,29 +11,27 @@ name-requires c κs = search needs
 name-requires-2 : tie.Need-name-requires-2
 name-requires-2 c κs = search needs
 
-returns : tie.Need-returns
-unfolding samePair
-returns c =
-    let c1 = c .before in
-    let c2 = c1 .before in
-    rw (← c2 .name .ensures, ← c1 .name2 .ensures, ne-eqb _ _ (c .if1 .taken))
-
 name-requires-3 : tie.Need-name-requires-3
 name-requires-3 c κs = search needs
 
 name-requires-4 : tie.Need-name-requires-4
 name-requires-4 c κs = search needs
 
+returns : tie.Need-returns
+unfolding samePair
+returns c =
+    let c1 = c .before in
+    let c2 = c1 .before in
+    let c3 = c2 .before in
+    rw (← c3 .before .name .ensures, ← c3 .name2 .ensures, eq-eqb _ _ (c2 .if1 .taken), ← c1 .name3 .ensures, ← c .name4 .ensures)
+
 returns-2 : tie.Need-returns-2
 unfolding samePair
 returns-2 c =
     let c1 = c .before in
-    let c2 = c1 .before in
-    let c3 = c2 .before in
-    let c4 = c3 .before in
-    rw (← c4 .name .ensures, ← c3 .name2 .ensures, eq-eqb _ _ (c2 .if1 .left), ← c1 .name3 .ensures, ← c .name4 .ensures)
+    rw (← c1 .before .name .ensures, ← c1 .name2 .ensures, ne-eqb _ _ (c .if1 .left))
 
 pub same-pair-spec : {M : Type 1} → statement M
 same-pair-spec =
     tie.close
-    (tie.spec name-requires name-requires-2 returns name-requires-3 name-requires-4 returns-2)
+    (tie.spec name-requires name-requires-2 name-requires-3 name-requires-4 returns returns-2)

@@ -1,15 +1,20 @@
--- Each way out closes by the reads and the tests that led there.
-use borrow.Author.Tests.{not-true, not-false}
-use Rattle.sets.proofs.Placing.{too-deep, wrong-base, wrong-level, right-levels}
+-- The four tests in a row are the model's; the first bounds the depth for the third.
+use mathlib.Core.Path.{_≡_, _∙_}
+use mathlib.Core.Bool.{Bool}
+use denote.Ref.{now}
+use native.Mathlib.Omega.{arith}
+use lib.ListN.{getD}
+use borrow.Author.Tests.{lt-ltb, le-ltb}
 use borrow.Author.Needs.{needs}
+use Rattle.slots.specs.Words.{_and_}
+use Rattle.slots.proofs.Laws.{and-next, and-held}
+use Rattle.tree_rules.specs.Check.{inRange}
+use Rattle.set_rules.specs.Cursor.{baseFine, fine}
 use Rattle.sets.proofs.place.fine.Statement.{statement}
 use Rattle.sets.proofs.place.fine.Tie as tie
 
 add-table : tie.Need-add-table
 add-table c = search needs
-
-returns : tie.Need-returns
-returns c = too-deep _ _ _ _ _ _ (c .if1 .taken)
 
 length-at-requires : tie.Need-length-at-requires
 length-at-requires c κs = search needs
@@ -20,90 +25,42 @@ index-at-requires c κs = search needs
 base-fine-requires : tie.Need-base-fine-requires
 base-fine-requires c κs = search needs
 
-returns-2 : tie.Need-returns-2
-returns-2 c =
-    let at-base = c .before in
-    let at-index = at-base .before in
-    let at-length = at-index .before in
-    let at-deep = at-length .before in
-    wrong-base
-    _
-    _
-    _
-    _
-    _
-    _
-    (at-deep .if1 .left)
-    (at-length .length-at .ensures)
-    (at-index .index-at .ensures)
-    (at-base .base-fine .ensures)
-    (not-true (at-base .base-fine .result) (c .if2 .taken))
-
 levels-fine-requires : tie.Need-levels-fine-requires
-levels-fine-requires c κs = search needs
-
-returns-3 : tie.Need-returns-3
-returns-3 c =
-    let at-levels = c .before in
-    let at-if2 = at-levels .before in
-    let at-base = at-if2 .before in
-    let at-index = at-base .before in
-    let at-length = at-index .before in
-    let at-deep = at-length .before in
-    wrong-level
-    _
-    _
-    _
-    _
-    _
-    _
-    (at-deep .if1 .left)
-    (at-length .length-at .ensures)
-    (at-index .index-at .ensures)
-    (at-base .base-fine .ensures)
-    (not-false (at-base .base-fine .result) (at-if2 .if2 .left))
-    (at-levels .levels-fine .ensures)
-    (not-true (at-levels .levels-fine .result) (c .if3 .taken))
+levels-fine-requires c κs =
+    let c1 = c .before in
+    omega (arith, and-held (c .if2 .taken) (c1 .if1 .came) (λ w. w .1 ∙ le-ltb _ _ (w .0 .left)) .0 .taken, c1 .before .before .pre)
 
 in-range-requires : tie.Need-in-range-requires
 in-range-requires c κs = search needs
 
-returns-4 : tie.Need-returns-4
-returns-4 c =
-    let at-if3 = c .before in
-    let at-levels = at-if3 .before in
-    let at-if2 = at-levels .before in
-    let at-base = at-if2 .before in
-    let at-index = at-base .before in
-    let at-length = at-index .before in
-    let at-deep = at-length .before in
-    right-levels
-    _
-    _
-    _
-    _
-    _
-    _
-    (at-deep .if1 .left)
-    (at-length .length-at .ensures)
-    (at-index .index-at .ensures)
-    (at-base .base-fine .ensures)
-    (not-false (at-base .base-fine .result) (at-if2 .if2 .left))
-    (at-levels .levels-fine .ensures)
-    (not-false (at-levels .levels-fine .result) (at-if3 .if3 .left))
-    (c .in-range .ensures)
+-- What is asked of the cursor is what the last `&&` is asked.
+asked : (c : tie.Joined2) {s : Bool}
+    → let a = c .before .before .before .args in
+    s ≡ c .if2 .if3 and inRange (a .n) (a .last)
+    → s ≡ fine (now (a .lengths)) (a .n) (a .base) (a .depth) (now (a .indexes)) (a .last)
+unfolding fine
+asked c e =
+    let a = c .before .before .before .args in
+    and-next {b = baseFine (getD (now (a .lengths)) (a .base) 0) (a .depth) (getD (now (a .indexes)) 0 0)} _ (c .before .if1 .came)
+    (λ w. (lt-ltb _ _ (w .0 .taken), rw (← w .1 .ensures, ← w .2 .ensures) (w .4 ∙ w .3 .ensures)))
+    (λ w. (le-ltb _ _ (w .0 .left), w .1))
+    (and-next _ (c .if2 .came) (λ w. (w .0 .taken, w .2 ∙ w .1 .ensures)) (λ w. (w .0 .left, w .1)) e)
+
+returns : tie.Need-returns
+returns c = asked (c .before .before) (rw (c .before .if3 .taken) (c .in-range .ensures))
+
+returns-2 : tie.Need-returns-2
+returns-2 c = asked (c .before) (rw (c .if3 .left))
 
 pub fine-spec : {M : Type 1} → statement M
 fine-spec =
     tie.close
     (tie.spec
     add-table
-    returns
     length-at-requires
     index-at-requires
     base-fine-requires
-    returns-2
     levels-fine-requires
-    returns-3
     in-range-requires
-    returns-4)
+    returns
+    returns-2)

@@ -1,10 +1,12 @@
 -- Each way out is a law of the model at that depth, which falls with each call.
+use mathlib.Core.Path.{ap, _∙_}
 use denote.Ref.{now}
 use native.Mathlib.Omega.{arith}
 use borrow.Author.Needs.{needs}
-use borrow.Author.Tests.{not-false, not-true}
+use Rattle.slots.proofs.Laws.{and-next}
+use Rattle.set_rules.specs.Accepting.{treeHome}
 use Rattle.sets.proofs.Steps.{home-null, home-zero, home-on}
-use Prim.Native.Nat.{ℕ, _<_}
+use Prim.Native.Nat.{ℕ, _<_, _-_}
 use borrow.Fn.Kinds.{In}
 use borrow.Fn.PlainCycle.{Measures, is, falls, and}
 use Rattle.sets.proofs.trees.tree_home.Reads as tree-home
@@ -49,14 +51,6 @@ tree-home-returns-2 t c =
 tree-home-is-home-requires : (t : ℕ) → tree-home-lts.Need-is-home-requires (tree-home-calls t) (tree-home-at t) tree-home.Post
 tree-home-is-home-requires t c κs = search needs
 
-tree-home-returns-3 : (t : ℕ) → tree-home-lts.Need-returns-3 (tree-home-calls t) (tree-home-at t) tree-home.Post
-tree-home-returns-3 t c =
-    let c1 = c .before in
-    let c2 = c1 .before in
-    let c3 = c2 .before in
-    let c4 = c3 .before .before .before in
-    rw (home-on (now (c4 .args .names)) (now (c4 .args .cells)) (c4 .args .length) (c4 .args .i) (c4 .args .x) (c4 .args .depth) (c3 .if1 .left) (c2 .if2 .left), ← c1 .is-home .ensures, not-true (c1 .is-home .result) (c .if3 .taken))
-
 tree-home-get-requires : (t : ℕ) → tree-home-lts.Need-get-requires (tree-home-calls t) (tree-home-at t) tree-home.Post
 tree-home-get-requires t c κs = search needs
 
@@ -72,17 +66,6 @@ tree-home-tree-home-requires t c κs =
     let c5 = c4 .before .before .before in
     omega (arith, c5 .pre .0, c3 .if2 .left)
 
-tree-home-returns-4 : (t : ℕ) → tree-home-lts.Need-returns-4 (tree-home-calls t) (tree-home-at t) tree-home.Post
-tree-home-returns-4 t c =
-    let c1 = c .before in
-    let c2 = c1 .before in
-    let c3 = c2 .before in
-    let c4 = c3 .before in
-    let c5 = c4 .before in
-    let c6 = c5 .before in
-    let c7 = c6 .before .before .before in
-    rw (home-on (now (c7 .args .names)) (now (c7 .args .cells)) (c7 .args .length) (c7 .args .i) (c7 .args .x) (c7 .args .depth) (c6 .if1 .left) (c5 .if2 .left), ← c4 .is-home .ensures, not-false (c4 .is-home .result) (c3 .if3 .left), ← c2 .get .ensures, ← c1 .tree-home .ensures, not-true (c1 .tree-home .result) (c .if4 .taken))
-
 tree-home-get-requires-2 : (t : ℕ) → tree-home-lts.Need-get-requires-2 (tree-home-calls t) (tree-home-at t) tree-home.Post
 tree-home-get-requires-2 t c κs = search needs
 
@@ -91,28 +74,30 @@ tree-home-sub-tree-home-2 t c = search needs
 
 tree-home-tree-home-requires-2 : (t : ℕ) → tree-home-lts.Need-tree-home-requires-2 (tree-home-calls t) (tree-home-at t) tree-home.Post
 tree-home-tree-home-requires-2 t c κs =
-    let c1 = c .before in
-    let c2 = c1 .before in
-    let c3 = c2 .before in
-    let c4 = c3 .before in
-    let c5 = c4 .before in
-    let c6 = c5 .before in
-    let c7 = c6 .before in
-    let c8 = c7 .before .before .before in
-    omega (arith, c8 .pre .0, c6 .if2 .left)
+    let c1 = c .before .before .before .before in
+    omega (arith, c1 .before .before .before .before .pre .0, c1 .if2 .left)
 
-tree-home-returns-5 : (t : ℕ) → tree-home-lts.Need-returns-5 (tree-home-calls t) (tree-home-at t) tree-home.Post
-tree-home-returns-5 t c =
+tree-home-returns-3 : (t : ℕ) → tree-home-lts.Need-returns-3 (tree-home-calls t) (tree-home-at t) tree-home.Post
+tree-home-returns-3 t c =
     let c1 = c .before in
     let c2 = c1 .before in
     let c3 = c2 .before in
     let c4 = c3 .before in
     let c5 = c4 .before in
     let c6 = c5 .before in
-    let c7 = c6 .before in
-    let c8 = c7 .before in
-    let c9 = c8 .before .before .before in
-    rw (home-on (now (c9 .args .names)) (now (c9 .args .cells)) (c9 .args .length) (c9 .args .i) (c9 .args .x) (c9 .args .depth) (c8 .if1 .left) (c7 .if2 .left), ← c6 .is-home .ensures, not-false (c6 .is-home .result) (c5 .if3 .left), ← c4 .get .ensures, ← c3 .tree-home .ensures, not-false (c3 .tree-home .result) (c2 .if4 .left), ← c1 .get2 .ensures, ← c .tree-home2 .ensures)
+    let a = c6 .before .before .before .args in
+    rw (home-on (now (a .names)) (now (a .cells)) (a .length) (a .i) (a .x) (a .depth) (c6 .if1 .left) (c5 .if2 .left), ← c4 .is-home .ensures, ← c1 .get2 .ensures, ← c .tree-home2 .ensures)
+    (and-next _ (c3 .if3 .came) (λ w. (w .0 .taken, w .3 ∙ w .2 .ensures ∙ ap (treeHome (a .depth - 1) (now (a .names)) (now (a .cells)) (a .length) (a .i)) (w .1 .ensures))) (λ w. (w .0 .left, w .1)) (rw (c2 .if4 .taken)))
+
+tree-home-returns-4 : (t : ℕ) → tree-home-lts.Need-returns-4 (tree-home-calls t) (tree-home-at t) tree-home.Post
+tree-home-returns-4 t c =
+    let c3 = c .before in
+    let c4 = c3 .before in
+    let c5 = c4 .before in
+    let c6 = c5 .before in
+    let a = c6 .before .before .before .args in
+    rw (home-on (now (a .names)) (now (a .cells)) (a .length) (a .i) (a .x) (a .depth) (c6 .if1 .left) (c5 .if2 .left), ← c4 .is-home .ensures)
+    (and-next _ (c3 .if3 .came) (λ w. (w .0 .taken, w .3 ∙ w .2 .ensures ∙ ap (treeHome (a .depth - 1) (now (a .names)) (now (a .cells)) (a .length) (a .i)) (w .1 .ensures))) (λ w. (w .0 .left, w .1)) (rw (c .if4 .left)))
 
 pub +tree-home-spec : {M : Type 1} → statement M
 +tree-home-spec = close μ-tree-home λ t. tree-home-lts.spec (tree-home-calls t)
@@ -121,12 +106,11 @@ pub +tree-home-spec : {M : Type 1} → statement M
     (tree-home-returns t)
     (tree-home-returns-2 t)
     (tree-home-is-home-requires t)
-    (tree-home-returns-3 t)
     (tree-home-get-requires t)
     (tree-home-sub-tree-home t)
     (tree-home-tree-home-requires t)
-    (tree-home-returns-4 t)
     (tree-home-get-requires-2 t)
     (tree-home-sub-tree-home-2 t)
     (tree-home-tree-home-requires-2 t)
-    (tree-home-returns-5 t)
+    (tree-home-returns-3 t)
+    (tree-home-returns-4 t)

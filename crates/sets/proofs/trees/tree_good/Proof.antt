@@ -1,79 +1,49 @@
--- Each way out closes by the reads and the tests that led there.
-use borrow.Author.Tests.{eq-eqb, ne-eqb, not-false, not-true}
-use Rattle.set_rules.specs.Accepting.{treeGood}
+-- The six tests in a row are the model's.
+use mathlib.Core.Path.{_≡_, ap, _∙_}
+use mathlib.Core.Bool.{Bool, not}
+use denote.Ref.{now}
+use lib.Dec.{eqb}
+use borrow.Author.Tests.{eq-eqb, ne-eqb}
 use borrow.Author.Needs.{needs}
+use Rattle.slots.specs.Words.{null, _and_}
+use Rattle.slots.proofs.Laws.{pick-not, and-next}
+use Rattle.tree_rules.specs.Find.{slotsOf}
+use Rattle.set_rules.specs.Accepting.{treeHome, treeGood}
 use Rattle.sets.proofs.trees.tree_good.Statement.{statement}
 use Rattle.sets.proofs.trees.tree_good.Tie as tie
-
-returns : tie.Need-returns
-unfolding treeGood
-returns c =
-    rw (eq-eqb _ _ (c .if1 .taken))
-
-returns-2 : tie.Need-returns-2
-unfolding treeGood
-returns-2 c =
-    let c1 = c .before in
-    rw (ne-eqb _ _ (c1 .if1 .left), eq-eqb _ _ (c .if2 .taken))
-
-returns-3 : tie.Need-returns-3
-unfolding treeGood
-returns-3 c =
-    let c1 = c .before in
-    let c2 = c1 .before in
-    rw (ne-eqb _ _ (c2 .if1 .left), ne-eqb _ _ (c1 .if2 .left), ne-eqb _ _ (c .if3 .taken))
 
 chain-fine-requires : tie.Need-chain-fine-requires
 chain-fine-requires c κs = search needs
 
-returns-4 : tie.Need-returns-4
-unfolding treeGood
-returns-4 c =
-    let c1 = c .before in
-    let c2 = c1 .before in
-    let c3 = c2 .before in
-    let c4 = c3 .before in
-    rw (ne-eqb _ _ (c4 .if1 .left), ne-eqb _ _ (c3 .if2 .left), eq-eqb _ _ (c2 .if3 .left), ← c1 .chain-fine .ensures, not-true (c1 .chain-fine .result) (c .if4 .taken))
-
 chain-own-requires : tie.Need-chain-own-requires
 chain-own-requires c κs = search needs
-
-returns-5 : tie.Need-returns-5
-unfolding treeGood
-returns-5 c =
-    let c1 = c .before in
-    let c2 = c1 .before in
-    let c3 = c2 .before in
-    let c4 = c3 .before in
-    let c5 = c4 .before in
-    let c6 = c5 .before in
-    rw (ne-eqb _ _ (c6 .if1 .left), ne-eqb _ _ (c5 .if2 .left), eq-eqb _ _ (c4 .if3 .left), ← c3 .chain-fine .ensures, not-false (c3 .chain-fine .result) (c2 .if4 .left), ← c1 .chain-own .ensures, not-true (c1 .chain-own .result) (c .if5 .taken))
 
 tree-home-requires : tie.Need-tree-home-requires
 tree-home-requires c κs = search needs
 
-returns-6 : tie.Need-returns-6
+-- What is asked of the tree is what the last `&&` is asked.
+asked : (c : tie.Joined4) {s : Bool}
+    → let a = c .before .before .before .before .before .before .args in
+    s ≡ c .if4 .if5 and treeHome (slotsOf (now (a .names))) (now (a .names)) (now (a .cells)) (a .length) (a .i) (a .root)
+    → s ≡ treeGood (now (a .names)) (now (a .cells)) (a .length) (a .i) (a .root) (a .first) (a .count) (a .m)
 unfolding treeGood
-returns-6 c =
-    let c1 = c .before in
-    let c2 = c1 .before in
-    let c3 = c2 .before in
-    let c4 = c3 .before in
-    let c5 = c4 .before in
-    let c6 = c5 .before in
-    let c7 = c6 .before in
-    rw (ne-eqb _ _ (c7 .if1 .left), ne-eqb _ _ (c6 .if2 .left), eq-eqb _ _ (c5 .if3 .left), ← c4 .chain-fine .ensures, not-false (c4 .chain-fine .result) (c3 .if4 .left), ← c2 .chain-own .ensures, not-false (c2 .chain-own .result) (c1 .if5 .left), ← c .tree-home .ensures)
+asked c e =
+    let c3 = c .before in
+    let c2 = c3 .before in
+    let a = c2 .before .before .before .before .args in
+    rw (← pick-not (eqb (a .root) null), ← pick-not (eqb (a .first) null))
+    (and-next _ (c2 .before .if1 .came) (λ w. (ap not (ne-eqb _ _ (w .0 .taken)), w .1)) (λ w. (ap not (eq-eqb _ _ (w .0 .left)), w .1))
+    (and-next _ (c2 .if2 .came) (λ w. (w .0 .taken, w .1)) (λ w. (w .0 .left, w .1))
+    (and-next _ (c3 .if3 .came) (λ w. (w .0 .taken, w .2 ∙ w .1 .ensures)) (λ w. (w .0 .left, w .1))
+    (and-next _ (c .if4 .came) (λ w. (w .0 .taken, w .2 ∙ w .1 .ensures)) (λ w. (w .0 .left, w .1)) e))))
+
+returns : tie.Need-returns
+returns c = asked (c .before .before) (rw (c .before .if5 .taken) (c .tree-home .ensures))
+
+returns-2 : tie.Need-returns-2
+returns-2 c = asked (c .before) (rw (c .if5 .left))
 
 pub tree-good-spec : {M : Type 1} → statement M
 tree-good-spec =
     tie.close
-    (tie.spec
-    returns
-    returns-2
-    returns-3
-    chain-fine-requires
-    returns-4
-    chain-own-requires
-    returns-5
-    tree-home-requires
-    returns-6)
+    (tie.spec chain-fine-requires chain-own-requires tree-home-requires returns returns-2)

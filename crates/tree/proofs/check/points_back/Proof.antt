@@ -8,30 +8,18 @@ use Rattle.tree.proofs.check.points_back.Tie as tie
 get-requires : tie.Need-get-requires
 get-requires c κs = search needs
 
-returns : tie.Need-returns
-unfolding pointsBack
-returns c =
-    let c1 = c .before in
-    rw (← c1 .get .ensures, eq-eqb _ _ (c .if1 .taken))
-
 get-requires-2 : tie.Need-get-requires-2
 get-requires-2 c κs = search needs
+
+returns : tie.Need-returns
+unfolding pointsBack
+returns c = rw (← c .before .get .ensures, eq-eqb _ _ (c .if1 .taken))
 
 returns-2 : tie.Need-returns-2
 unfolding pointsBack
 returns-2 c =
     let c1 = c .before in
-    let c2 = c1 .before in
-    let c3 = c2 .before in
-    rw (← c3 .get .ensures, ne-eqb _ _ (c2 .if1 .left), ← c1 .get2 .ensures, eq-eqb _ _ (c .if2 .taken))
-
-returns-3 : tie.Need-returns-3
-unfolding pointsBack
-returns-3 c =
-    let c1 = c .before in
-    let c2 = c1 .before in
-    let c3 = c2 .before in
-    rw (← c3 .get .ensures, ne-eqb _ _ (c2 .if1 .left), ← c1 .get2 .ensures, ne-eqb _ _ (c .if2 .left))
+    rw (← c1 .before .get .ensures, ne-eqb _ _ (c1 .if1 .left), ← c .get2 .ensures)
 
 pub points-back-spec : {M : Type 1} → statement M
-points-back-spec = tie.close (tie.spec get-requires returns get-requires-2 returns-2 returns-3)
+points-back-spec = tie.close (tie.spec get-requires get-requires-2 returns returns-2)
