@@ -1,22 +1,28 @@
 #!/usr/bin/env python3
-"""A model of the script program on plain dictionaries and lists, written from docs/RULES.md and apart from the Rattle code. How many
-nodes a find looks at is the one thing that they do not tell: a plain red-black tree stands beside them for it.
+"""A model of the index and the script program on plain dictionaries and lists, written from docs/RULES.md and apart from the Rattle code.
+How many nodes a find looks at is the one thing that they do not tell: a plain red-black tree stands beside them for it.
 
     model.py draw                            writes the longest call script, drawn from a fixed seed
     model.py answer [SLOTS LINES] <script    writes the answers that the rules give to a script, byte for byte
     model.py count [SLOTS LINES] <script     writes how often each answer comes, and how often tree and journal become full
+    model.py calls                           writes the drill's list of calls, with replaces among them, drawn from a fixed seed
+    model.py words SLOTS LINES <calls        writes the word that the rules give to each call of such a list
+    model.py tell SLOTS LINES <calls         writes how often each call is answered by each number
 
 SLOTS and LINES are the capacities of tree and journal: 512 and 512 where they are not given, as in the script program.
-The drill has 512 and 1024, so that a line is left for a remove from a full tree.
+The drill has 512 and 1024, so that a line is left for a remove from a full tree; its list of calls has 64 and 128. A call of that list
+is four numbers: kind, hash, key, place. Kind 1 is an insert, 2 a remove, 3 a replace, 4 a rollback to the mark that is the place. A word is
+value + 2 ** 32 * number.
 """
 import sys
 
-# The capacities of the drill.
+# The capacities of the drill, and those of its list of calls.
 SLOTS, LINES = 512, 1024
+CALL_SLOTS, CALL_LINES = 64, 128
 
 
 class Refused(Exception):
-    """A refusal, by its number."""
+    """A refusal, by its number, and the slot that comes with it, if any."""
 
 
 class Node:
@@ -143,7 +149,7 @@ class Index:
         self.tree = Tree()
         self.held = {}  # (hash, key) -> [slot, place]
         self.chain = []  # pairs, the first one first
-        self.journal = []  # (kind, pair, place), kind 1 an insert and 2 a remove
+        self.journal = []  # (kind, pair, place), kind 1 an insert, 2 a remove and 3 a replace, with the place that it had
 
     def lowest_free(self):
         taken = {slot for slot, _ in self.held.values()}
@@ -164,7 +170,7 @@ class Index:
 
     def insert(self, pair, place):
         if pair in self.held:
-            raise Refused(3)
+            raise Refused(3, self.held[pair][0])
         if len(self.held) == self.slots:
             raise Refused(5)
         if len(self.journal) == self.lines:
@@ -180,6 +186,16 @@ class Index:
         self.journal.append((2, pair, self.held[pair][1]))
         return self.take(pair)
 
+    def replace(self, pair, place):
+        if pair not in self.held:
+            raise Refused(4)
+        if len(self.journal) == self.lines:
+            raise Refused(6)
+        slot, old = self.held[pair]
+        self.journal.append((3, pair, old))
+        self.held[pair][1] = place
+        return slot
+
     def rollback(self, mark):
         if mark > len(self.journal):
             raise Refused(7)
@@ -188,8 +204,10 @@ class Index:
             kind, pair, place = self.journal.pop()
             if kind == 1:
                 self.take(pair)
-            else:
+            elif kind == 2:
                 self.add(pair, place)
+            else:
+                self.held[pair][1] = place
         return count
 
 
@@ -409,6 +427,102 @@ class Drawing:
         return self.script
 
 
+def made(index, call):
+    """The word that answers a call of four numbers."""
+    kind, hash, key, place = call
+    try:
+        if kind == 1:
+            return index.insert((hash, key), place)
+        if kind == 2:
+            return index.remove((hash, key))
+        if kind == 3:
+            return index.replace((hash, key), place)
+        return index.rollback(place)
+    except Refused as refused:
+        number, *slot = refused.args
+        return (slot or [0])[0] + (number << 32)
+
+
+class Calls:
+    """A list of calls that is drawn call by call, with the index that it runs on at hand."""
+
+    def __init__(self, seed, count):
+        self.dice, self.count = Dice(seed), count
+        self.index = Index(CALL_SLOTS, CALL_LINES)
+        self.calls = []
+        hashes = [0, 1, 2, 3, 1 << 40, (1 << 64) - 1]
+        self.pairs = [(h, (1 << 64) - 1 - k if k % 5 == 0 else k) for h in hashes for k in range(14)]
+
+    def say(self, kind, pair, place):
+        self.calls.append((kind, *pair, place))
+        made(self.index, self.calls[-1])
+
+    def place(self):
+        return self.dice.below(1 << 31) * 2 + 1 if self.dice.below(20) else self.dice.one_of([0, (1 << 32) - 1])
+
+    def present(self):
+        return self.dice.one_of(self.index.chain or self.pairs)
+
+    def absent(self):
+        return self.dice.one_of([pair for pair in self.pairs if pair not in self.index.held])
+
+    def replace(self):
+        """A replace, mostly of a pair that is there; now and then by the place that it has."""
+        which = self.dice.below(12)
+        pair = self.absent() if which == 0 else self.present()
+        same = which == 1 and pair in self.index.held
+        self.say(3, pair, self.index.held[pair][1] if same else self.place())
+
+    def back(self, most):
+        length = len(self.index.journal)
+        self.say(4, (0, 0), length - self.dice.below(min(most, length) + 1))
+
+    def any(self, inserts):
+        """One call: so many in ten are inserts, mostly of pairs that are not there."""
+        which = self.dice.below(10)
+        if which < inserts:
+            self.say(1, self.absent() if self.dice.below(8) else self.present(), self.place())
+        elif which == inserts:
+            self.say(2, self.present() if self.dice.below(8) else self.absent(), 0)
+        elif which == inserts + 1 and self.dice.below(6) == 0:
+            self.back(9)
+        else:
+            self.replace()
+
+    def draw(self):
+        """Up to a full tree, on to a full journal, some calls that it refuses, and back by more or less, again and again."""
+        while len(self.calls) < self.count:
+            while len(self.index.held) < CALL_SLOTS and len(self.index.journal) < CALL_LINES:
+                self.any(6)
+            while len(self.index.journal) < CALL_LINES:
+                self.any(2)
+            for _ in range(6):
+                self.any(3)
+            self.say(4, (0, 0), CALL_LINES + 1 + self.dice.below(1 << 20))
+            self.back(self.dice.one_of([3, 20, 70, CALL_LINES]))
+        return self.calls[: self.count]
+
+
+def numbers(text):
+    """The calls of a list, four numbers to a line."""
+    return [tuple(int(word) for word in line.split()) for line in text.decode().splitlines()]
+
+
+def tells(calls, slots, lines):
+    """How often each kind of call is answered by each number, and how often tree and journal become full."""
+    index, tally = Index(slots, lines), {}
+    for call in calls:
+        full, ended = len(index.held) == slots, len(index.journal) == lines
+        same = call[0] == 3 and index.held.get(call[1:3], [0, None])[1] == call[3]
+        rows = ["kind %d answered %d" % (call[0], made(index, call) >> 32)]
+        rows += ["tree becomes full"] * (not full and len(index.held) == slots)
+        rows += ["journal becomes full"] * (not ended and len(index.journal) == lines)
+        rows += ["replaces by the place that is there"] * same
+        for row in rows:
+            tally[row] = tally.get(row, 0) + 1
+    return ["calls %d" % len(calls)] + ["%s %d" % row for row in sorted(tally.items())]
+
+
 def counts(script, slots, lines):
     index, tally, full, out_of_lines = Index(slots, lines), {}, 0, 0
     for line in script_lines(script):
@@ -435,6 +549,13 @@ def main():
         out = [said for line in script_lines(sys.stdin.buffer.read()) for said in answer(index, line)]
     elif words[:1] == ["count"] and len(sizes) == 2:
         out = counts(sys.stdin.buffer.read(), *sizes)
+    elif words == ["calls"]:
+        out = ["%d %d %d %d" % call for call in Calls(20240522, 1000).draw()]
+    elif words[:1] == ["words"] and len(sizes) == 2:
+        index = Index(*sizes)
+        out = ["%d" % made(index, call) for call in numbers(sys.stdin.buffer.read())]
+    elif words[:1] == ["tell"] and len(sizes) == 2:
+        out = tells(numbers(sys.stdin.buffer.read()), *sizes)
     else:
         sys.exit(__doc__)
     sys.stdout.write("".join(line + "\n" for line in out))

@@ -10,7 +10,8 @@
  *   names    u64, 2n      per slot: hash, key
  *   cells    u32, 7n      per slot: place, state (0 free, 1 black, 2 red), parent, left, right, prev, next
  *   head     u32, 3       root, first, count
- *   lines    u64, 1 + 4c  the journal: its length, then per line: kind (1 insert, 2 remove), hash, key, place
+ *   lines    u64, 1 + 4c  the journal: its length, then per line: kind (1 insert, 2 remove, 3 replace), hash, key, place;
+ *                         in a replace line the new place + 2^32 * the old one
  *   lengths  u32, 1 to 8  of a frozen set: the tables' lengths
  *   bins     u32          of a frozen set: all tables' bins in a row: 0 empty, 1 Moved, 2 + slot a list,
  *                         4098 + header a tree
@@ -79,6 +80,11 @@ uint64_t oz_insert(uint64_t *names, size_t names_len, uint32_t *cells, size_t ce
 /* The pair leaves the tree, and the journal has one line more; answers the slot freed. Refusals 1, 2, 4, 6. */
 uint64_t oz_remove(uint64_t *names, size_t names_len, uint32_t *cells, size_t cells_len, uint32_t *head,
                    size_t head_len, uint64_t *lines, size_t lines_len, uint64_t hash, uint64_t key);
+
+/* The pair's place is this one from now on, and nothing else in the tree is another; the journal has one line more, with
+ * both places, where they are equal too; answers the slot that has the pair. Refusals 1, 2, 4, 6. */
+uint64_t oz_replace(const uint64_t *names, size_t names_len, uint32_t *cells, size_t cells_len, const uint32_t *head,
+                    size_t head_len, uint64_t *lines, size_t lines_len, uint64_t hash, uint64_t key, uint32_t place);
 
 /* Undoes the journal's lines from the last down to number mark; answers how many. To come back to a state, keep the
  * journal's length then, lines[0]: it is the mark. Refusals 1, 2, 7, 8. */

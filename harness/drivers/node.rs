@@ -84,9 +84,9 @@ pub mod driver {
         slot(Tn::find_tree_node(root, hash, &Name { key, slot: 0 }, guard()))
     }
 
-    /// Runs a search of the source that may load so many links: the slot that it answers, none where it loads more, and at how many nodes it
-    /// has read the hash. At the node that has the pair it loads no link, at any other one link, or the left and then the right one; `own`
-    /// says which links are a node's.
+    /// Runs a search of the source that may load so many links: the slot that it answers, none where it loads more, and at how many nodes
+    /// it has read the hash. At the node that has the pair it loads no link, at any other one link, or the left and then the right one;
+    /// `own` says which links are a node's.
     #[cfg(feature = "trace")]
     pub(crate) fn searched(limit: usize, own: impl Fn(&usize) -> bool, search: impl FnOnce() -> u32) -> (Option<u32>, usize) {
         seize::trace::start(limit);
@@ -296,6 +296,16 @@ pub mod driver {
             self.nodes[at as usize] = null();
             self.count -= 1;
             (at, removal)
+        }
+
+        /// The slot that has the pair, its value changed as the source's map changes that of a node that is there; null where none has it.
+        pub fn replace(&mut self, hash: u64, key: u64, place: u32) -> u32 {
+            let p = Tn::find_tree_node(self.root(), hash, &Name { key, slot: 0 }, guard());
+            if !p.is_null() {
+                let old = node(p).node.value.swap(Shared::boxed(place, &COLLECTOR), O, guard());
+                unsafe { drop(old.into_box()) };
+            }
+            slot(p)
         }
 
         /// The side of its parent that a slot stands on, or the root.

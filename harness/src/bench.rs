@@ -78,7 +78,9 @@ fn main() {
         rng.shuffle(&mut there);
         let absent: Vec<(u64, u64)> = there.iter().map(|(h, _)| (*h, rng.next())).collect();
         let strange: Vec<(u64, u64)> = there.iter().map(|_| (rng.next(), rng.next())).collect();
-        for (name, pairs, found) in [("find, hit", &there, true), ("find, miss", &strange, false), ("find, miss on an equal hash", &absent, false)] {
+        for (name, pairs, found) in
+            [("find, hit", &there, true), ("find, miss", &strange, false), ("find, miss on an equal hash", &absent, false)]
+        {
             // Asked in a drawn order, as names come; and in one short order again and again, which a processor learns by heart.
             let drawn: Vec<(u64, u64)> = (0..ASKED).map(|_| pairs[order_rng.below(size as u64) as usize]).collect();
             for (order, pairs) in [("", &drawn), (", in one order again and again", pairs)] {

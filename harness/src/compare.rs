@@ -1,9 +1,9 @@
 //! The comparisons with the source's own routines, after every operation every link, colour, root, first and count.
 use harness::oz::{self, Index, NULL};
 use harness::rng::Rng;
-use harness::MESSAGES;
 use harness::sets;
 use harness::source::{By, Removal, Tables, Tree, Walk};
+use harness::MESSAGES;
 use seize::trace;
 use std::collections::{BTreeMap, HashSet};
 use std::panic::{catch_unwind, AssertUnwindSafe};
@@ -13,6 +13,7 @@ use std::panic::{catch_unwind, AssertUnwindSafe};
 enum Op {
     Insert(u64, u64, u32),
     Remove(u64, u64),
+    Replace(u64, u64, u32),
 }
 
 #[derive(Default)]
@@ -20,9 +21,11 @@ struct Counts {
     finds: u64,
     inserts: u64,
     removes: u64,
+    replaces: u64,
     present: u64,
     full: u64,
     absent: u64,
+    unplaced: u64,
     whole: u64,
     early: u64,
 }
@@ -52,7 +55,7 @@ impl Pair {
     fn step(&mut self, op: Op, counts: &mut Counts) -> Result<(), String> {
         self.ours.forget();
         let slots = self.ours.slots();
-        let (Op::Insert(hash, key, _) | Op::Remove(hash, key)) = op;
+        let (Op::Insert(hash, key, _) | Op::Remove(hash, key) | Op::Replace(hash, key, _)) = op;
         let there = self.find(hash, key)?;
         counts.finds += 1;
         match op {
@@ -90,6 +93,20 @@ impl Pair {
                     counts.whole += (how == Removal::Whole) as u64;
                     counts.early += (how == Removal::Drivers) as u64;
                 }
+            }
+            Op::Replace(hash, key, place) => {
+                let before = self.ours.clone();
+                let answer = self.ours.replace(hash, key, place);
+                let at = self.theirs.replace(hash, key, place);
+                let wanted = if at == NULL { (4, 0) } else { (0, at) };
+                if (answer.number, answer.value) != wanted {
+                    return Err(format!("answer {answer:?}, wanted {wanted:?}"));
+                }
+                if !self.ours.only_place(&before, hash, key, place) {
+                    return Err(format!("more than the place of slot {there} and a line: {before:?} to {:?}", self.ours));
+                }
+                counts.replaces += 1;
+                counts.unplaced += (at == NULL) as u64;
             }
         }
         match self.theirs.differs(&self.ours) {
@@ -224,8 +241,9 @@ fn exhaustive(n: usize, by: By, counts: &mut Counts, report: &mut Report) -> (us
     (orders.len(), trees.len())
 }
 
-/// Random scripts: pairs out of few or many hashes, inserts and removes in phases that grow and shrink the tree.
+/// Random scripts: pairs out of few or many hashes, inserts and removes in phases that grow and shrink the tree, and replaces all along.
 fn random(rng: &mut Rng, by: By, scripts: usize, pairs: u64, length: usize, counts: &mut Counts, report: &mut Report) {
+    let mut places = Rng::new(9);
     for _ in 0..scripts {
         let slots = if rng.below(4) == 0 { 1 + rng.below(pairs) } else { pairs } as usize;
         let hashes = [1, 2, 5, pairs, u64::MAX][rng.below(5) as usize];
@@ -248,6 +266,10 @@ fn random(rng: &mut Rng, by: By, scripts: usize, pairs: u64, length: usize, coun
                 let pair = if there.is_empty() || rng.below(8) == 0 { any } else { there[rng.below(there.len() as u64) as usize] };
                 there.retain(|p| *p != pair);
                 script.push(Op::Remove(pair.0, pair.1));
+            }
+            if places.below(3) == 0 {
+                let pair = if there.is_empty() || places.below(8) == 0 { any } else { there[places.below(there.len() as u64) as usize] };
+                script.push(Op::Replace(pair.0, pair.1, places.next() as u32));
             }
         }
         if run(slots, by, &script, counts).is_err() {
@@ -343,7 +365,10 @@ fn damaged(rng: &mut Rng, trees: usize, report: &mut Report) -> Damage {
             (9, _) if visits > slots => {
                 d.nines += 1;
                 d.nines_ending += 1;
-                let entry = report.smallest.entry("known: more visits than slots, yet the source's check ends".into()).or_insert((usize::MAX, String::new()));
+                let entry = report
+                    .smallest
+                    .entry("known: more visits than slots, yet the source's check ends".into())
+                    .or_insert((usize::MAX, String::new()));
                 if slots < entry.0 {
                     *entry = (slots, say(format!("ours 9, source {theirs:?}")));
                 }
@@ -413,8 +438,8 @@ fn damage_set(rng: &mut Rng, s: &mut oz::Set) {
 }
 
 /// A whole walk of an accepted set by the exports alone, from start at table t until Done: how many slots it gives, or what is wrong with
-/// them. A slot is to be given once exactly if it is in use and lookup from t of its pair answers it, and else not at all; from table 0 every
-/// slot in use is.
+/// them. A slot is to be given once exactly if it is in use and lookup from t of its pair answers it, and else not at all; from table 0
+/// every slot in use is.
 fn whole_walk(s: &oz::Set, t: usize) -> Result<u64, String> {
     let n = s.names.len() / 2;
     let mut times = vec![0u32; n];
@@ -500,7 +525,10 @@ fn frozen(rng: &mut Rng, count: usize, damage: bool, report: &mut Report) -> Fro
                     (_, (Some(NULL), 0)) if first_null(ends_in(t, hash)) => {
                         f.null_first += 1;
                         f.null_first_slots += ((ours.number, ours.value) != (0, NULL)) as u64;
-                        let entry = report.smallest.entry("known: lookup in a tree whose first is null".into()).or_insert((usize::MAX, String::new()));
+                        let entry = report
+                            .smallest
+                            .entry("known: lookup in a tree whose first is null".into())
+                            .or_insert((usize::MAX, String::new()));
                         if size < entry.0 {
                             *entry = (size, format!("{s:?} lookup from {t} of {hash} {key}: ours {ours:?}, source Nothing without a look"));
                         }
@@ -555,7 +583,10 @@ fn main() {
         let (orders, trees) = exhaustive(n, by, &mut counts, &mut report);
         finds += counts.finds;
         println!("{by:?}: {orders} insert orders of {n} pairs, {trees} distinct trees, all removal orders of each");
-        println!("  finds with looks {}, inserts {}, removes {}, of these by remove_tree_node whole {}", counts.finds, counts.inserts, counts.removes, counts.whole);
+        println!(
+            "  finds with looks {}, inserts {}, removes {}, of these by remove_tree_node whole {}",
+            counts.finds, counts.inserts, counts.removes, counts.whole
+        );
         let mut rng = Rng::new(1);
         for (name, scripts, pairs, length) in [("up to 60 pairs", many(4000), 60, 250), ("several hundred pairs", many(300), 700, 3000)] {
             let mut counts = Counts::default();
@@ -563,22 +594,49 @@ fn main() {
             finds += counts.finds;
             println!("{by:?}: {scripts} random scripts over {name}");
             println!(
-                "  finds with looks {}, inserts {} (present {}, full {}), removes {} (absent {}), of these by remove_tree_node whole {}, by the driver {}{}",
-                counts.finds, counts.inserts, counts.present, counts.full, counts.removes, counts.absent, counts.whole, counts.early,
+                "  finds with looks {}, inserts {} (present {}, full {}), removes {} (absent {}), of these by remove_tree_node whole {}, \
+                 by the driver {}{}",
+                counts.finds,
+                counts.inserts,
+                counts.present,
+                counts.full,
+                counts.removes,
+                counts.absent,
+                counts.whole,
+                counts.early,
                 if by == By::Bin { " after remove_tree_node returned early" } else { "" }
             );
+            println!("  replaces {} (absent {}), with no other word of the tree changed than a place", counts.replaces, counts.unplaced);
         }
     }
     let d = damaged(&mut Rng::new(2), many(200_000), &mut report);
     println!("damaged trees {} (sound still {})", d.trees, d.sound);
-    println!("  check: passes {}, fails by test {:?}, 9 in ours {} (the source runs on {}, ends after more visits than slots {})", d.passes, d.fails, d.nines, d.nines - d.nines_ending, d.nines_ending);
-    println!("  finds with looks {}: slots {}, Nothing {}, 9 in ours where the source runs on {}", d.finds, d.hits, d.nothings, d.find_nines);
+    println!(
+        "  check: passes {}, fails by test {:?}, 9 in ours {} (the source runs on {}, ends after more visits than slots {})",
+        d.passes,
+        d.fails,
+        d.nines,
+        d.nines - d.nines_ending,
+        d.nines_ending
+    );
+    println!(
+        "  finds with looks {}: slots {}, Nothing {}, 9 in ours where the source runs on {}",
+        d.finds, d.hits, d.nothings, d.find_nines
+    );
     for (name, damage) in [("sets", false), ("damaged sets", true)] {
         let f = frozen(&mut Rng::new(4), many(20_000), damage, &mut report);
         lookups += f.lookups - f.null_first;
         println!("{name} {} (accepted {}; {} more that the source's types cannot hold)", f.sets, f.accepted, f.unbuilt);
-        println!("  lookups with looks {}: slots {}, 9 in ours where the source runs on {}", f.lookups - f.null_first, f.hits, f.lookup_nines);
-        println!("  beside these, where ours looks into a tree with null first {}, of these with another answer {}", f.null_first, f.null_first_slots);
+        println!(
+            "  lookups with looks {}: slots {}, 9 in ours where the source runs on {}",
+            f.lookups - f.null_first,
+            f.hits,
+            f.lookup_nines
+        );
+        println!(
+            "  beside these, where ours looks into a tree with null first {}, of these with another answer {}",
+            f.null_first, f.null_first_slots
+        );
         println!("  walks {} ({} to the end), steps {}, entries {}", f.walks, f.dones, f.steps, f.entries);
         println!("  whole walks of the {} accepted {}, from every table, {} slots given, each entry once", f.accepted, f.wholes, f.given);
     }

@@ -3,17 +3,135 @@ pub const NULL: u32 = u32::MAX;
 
 mod c {
     extern "C" {
-        pub fn oz_find(names: *const u64, names_len: usize, cells: *const u32, cells_len: usize, head: *const u32, head_len: usize, hash: u64, key: u64) -> u64;
-        pub fn oz_fresh(names: *mut u64, names_len: usize, cells: *mut u32, cells_len: usize, head: *mut u32, head_len: usize, lines: *mut u64, lines_len: usize) -> u64;
-        pub fn oz_insert(names: *mut u64, names_len: usize, cells: *mut u32, cells_len: usize, head: *mut u32, head_len: usize, lines: *mut u64, lines_len: usize, hash: u64, key: u64, place: u32) -> u64;
-        pub fn oz_remove(names: *mut u64, names_len: usize, cells: *mut u32, cells_len: usize, head: *mut u32, head_len: usize, lines: *mut u64, lines_len: usize, hash: u64, key: u64) -> u64;
-        pub fn oz_rollback(names: *mut u64, names_len: usize, cells: *mut u32, cells_len: usize, head: *mut u32, head_len: usize, lines: *mut u64, lines_len: usize, mark: u32) -> u64;
-        pub fn oz_check(names: *const u64, names_len: usize, cells: *const u32, cells_len: usize, head: *const u32, head_len: usize) -> u64;
-        pub fn oz_sound(names: *const u64, names_len: usize, cells: *const u32, cells_len: usize, head: *const u32, head_len: usize) -> u64;
-        pub fn oz_accept(lengths: *const u32, lengths_len: usize, bins: *const u32, bins_len: usize, heads: *const u32, heads_len: usize, names: *const u64, names_len: usize, cells: *const u32, cells_len: usize) -> u64;
-        pub fn oz_lookup(lengths: *const u32, lengths_len: usize, bins: *const u32, bins_len: usize, heads: *const u32, heads_len: usize, names: *const u64, names_len: usize, cells: *const u32, cells_len: usize, table: u32, hash: u64, key: u64) -> u64;
-        pub fn oz_start(lengths: *const u32, lengths_len: usize, bins: *const u32, bins_len: usize, heads: *const u32, heads_len: usize, names: *const u64, names_len: usize, cells: *const u32, cells_len: usize, table: u32, cursor: *mut u32, cursor_len: usize) -> u64;
-        pub fn oz_walk(lengths: *const u32, lengths_len: usize, bins: *const u32, bins_len: usize, heads: *const u32, heads_len: usize, names: *const u64, names_len: usize, cells: *const u32, cells_len: usize, cursor: *mut u32, cursor_len: usize) -> u64;
+        pub fn oz_find(
+            names: *const u64,
+            names_len: usize,
+            cells: *const u32,
+            cells_len: usize,
+            head: *const u32,
+            head_len: usize,
+            hash: u64,
+            key: u64,
+        ) -> u64;
+        pub fn oz_fresh(
+            names: *mut u64,
+            names_len: usize,
+            cells: *mut u32,
+            cells_len: usize,
+            head: *mut u32,
+            head_len: usize,
+            lines: *mut u64,
+            lines_len: usize,
+        ) -> u64;
+        pub fn oz_insert(
+            names: *mut u64,
+            names_len: usize,
+            cells: *mut u32,
+            cells_len: usize,
+            head: *mut u32,
+            head_len: usize,
+            lines: *mut u64,
+            lines_len: usize,
+            hash: u64,
+            key: u64,
+            place: u32,
+        ) -> u64;
+        pub fn oz_remove(
+            names: *mut u64,
+            names_len: usize,
+            cells: *mut u32,
+            cells_len: usize,
+            head: *mut u32,
+            head_len: usize,
+            lines: *mut u64,
+            lines_len: usize,
+            hash: u64,
+            key: u64,
+        ) -> u64;
+        pub fn oz_replace(
+            names: *const u64,
+            names_len: usize,
+            cells: *mut u32,
+            cells_len: usize,
+            head: *const u32,
+            head_len: usize,
+            lines: *mut u64,
+            lines_len: usize,
+            hash: u64,
+            key: u64,
+            place: u32,
+        ) -> u64;
+        pub fn oz_rollback(
+            names: *mut u64,
+            names_len: usize,
+            cells: *mut u32,
+            cells_len: usize,
+            head: *mut u32,
+            head_len: usize,
+            lines: *mut u64,
+            lines_len: usize,
+            mark: u32,
+        ) -> u64;
+        pub fn oz_check(names: *const u64, names_len: usize, cells: *const u32, cells_len: usize, head: *const u32, head_len: usize)
+            -> u64;
+        pub fn oz_sound(names: *const u64, names_len: usize, cells: *const u32, cells_len: usize, head: *const u32, head_len: usize)
+            -> u64;
+        pub fn oz_accept(
+            lengths: *const u32,
+            lengths_len: usize,
+            bins: *const u32,
+            bins_len: usize,
+            heads: *const u32,
+            heads_len: usize,
+            names: *const u64,
+            names_len: usize,
+            cells: *const u32,
+            cells_len: usize,
+        ) -> u64;
+        pub fn oz_lookup(
+            lengths: *const u32,
+            lengths_len: usize,
+            bins: *const u32,
+            bins_len: usize,
+            heads: *const u32,
+            heads_len: usize,
+            names: *const u64,
+            names_len: usize,
+            cells: *const u32,
+            cells_len: usize,
+            table: u32,
+            hash: u64,
+            key: u64,
+        ) -> u64;
+        pub fn oz_start(
+            lengths: *const u32,
+            lengths_len: usize,
+            bins: *const u32,
+            bins_len: usize,
+            heads: *const u32,
+            heads_len: usize,
+            names: *const u64,
+            names_len: usize,
+            cells: *const u32,
+            cells_len: usize,
+            table: u32,
+            cursor: *mut u32,
+            cursor_len: usize,
+        ) -> u64;
+        pub fn oz_walk(
+            lengths: *const u32,
+            lengths_len: usize,
+            bins: *const u32,
+            bins_len: usize,
+            heads: *const u32,
+            heads_len: usize,
+            names: *const u64,
+            names_len: usize,
+            cells: *const u32,
+            cells_len: usize,
+            cursor: *mut u32,
+            cursor_len: usize,
+        ) -> u64;
     }
 }
 
@@ -41,24 +159,86 @@ pub fn find(names: &[u64], cells: &[u32], head: &[u32], hash: u64, key: u64) -> 
 }
 
 pub fn fresh(names: &mut [u64], cells: &mut [u32], head: &mut [u32], lines: &mut [u64]) -> Answer {
-    answer(unsafe { c::oz_fresh(names.as_mut_ptr(), names.len(), cells.as_mut_ptr(), cells.len(), head.as_mut_ptr(), head.len(), lines.as_mut_ptr(), lines.len()) })
+    answer(unsafe {
+        c::oz_fresh(
+            names.as_mut_ptr(),
+            names.len(),
+            cells.as_mut_ptr(),
+            cells.len(),
+            head.as_mut_ptr(),
+            head.len(),
+            lines.as_mut_ptr(),
+            lines.len(),
+        )
+    })
 }
 
 pub fn insert(names: &mut [u64], cells: &mut [u32], head: &mut [u32], lines: &mut [u64], hash: u64, key: u64, place: u32) -> Answer {
     answer(unsafe {
-        c::oz_insert(names.as_mut_ptr(), names.len(), cells.as_mut_ptr(), cells.len(), head.as_mut_ptr(), head.len(), lines.as_mut_ptr(), lines.len(), hash, key, place)
+        c::oz_insert(
+            names.as_mut_ptr(),
+            names.len(),
+            cells.as_mut_ptr(),
+            cells.len(),
+            head.as_mut_ptr(),
+            head.len(),
+            lines.as_mut_ptr(),
+            lines.len(),
+            hash,
+            key,
+            place,
+        )
     })
 }
 
 pub fn remove(names: &mut [u64], cells: &mut [u32], head: &mut [u32], lines: &mut [u64], hash: u64, key: u64) -> Answer {
     answer(unsafe {
-        c::oz_remove(names.as_mut_ptr(), names.len(), cells.as_mut_ptr(), cells.len(), head.as_mut_ptr(), head.len(), lines.as_mut_ptr(), lines.len(), hash, key)
+        c::oz_remove(
+            names.as_mut_ptr(),
+            names.len(),
+            cells.as_mut_ptr(),
+            cells.len(),
+            head.as_mut_ptr(),
+            head.len(),
+            lines.as_mut_ptr(),
+            lines.len(),
+            hash,
+            key,
+        )
+    })
+}
+
+pub fn replace(names: &[u64], cells: &mut [u32], head: &[u32], lines: &mut [u64], hash: u64, key: u64, place: u32) -> Answer {
+    answer(unsafe {
+        c::oz_replace(
+            names.as_ptr(),
+            names.len(),
+            cells.as_mut_ptr(),
+            cells.len(),
+            head.as_ptr(),
+            head.len(),
+            lines.as_mut_ptr(),
+            lines.len(),
+            hash,
+            key,
+            place,
+        )
     })
 }
 
 pub fn rollback(names: &mut [u64], cells: &mut [u32], head: &mut [u32], lines: &mut [u64], mark: u32) -> Answer {
     answer(unsafe {
-        c::oz_rollback(names.as_mut_ptr(), names.len(), cells.as_mut_ptr(), cells.len(), head.as_mut_ptr(), head.len(), lines.as_mut_ptr(), lines.len(), mark)
+        c::oz_rollback(
+            names.as_mut_ptr(),
+            names.len(),
+            cells.as_mut_ptr(),
+            cells.len(),
+            head.as_mut_ptr(),
+            head.len(),
+            lines.as_mut_ptr(),
+            lines.len(),
+            mark,
+        )
     })
 }
 
@@ -72,25 +252,77 @@ pub fn sound(names: &[u64], cells: &[u32], head: &[u32]) -> Answer {
 
 pub fn accept(lengths: &[u32], bins: &[u32], heads: &[u32], names: &[u64], cells: &[u32]) -> Answer {
     answer(unsafe {
-        c::oz_accept(lengths.as_ptr(), lengths.len(), bins.as_ptr(), bins.len(), heads.as_ptr(), heads.len(), names.as_ptr(), names.len(), cells.as_ptr(), cells.len())
+        c::oz_accept(
+            lengths.as_ptr(),
+            lengths.len(),
+            bins.as_ptr(),
+            bins.len(),
+            heads.as_ptr(),
+            heads.len(),
+            names.as_ptr(),
+            names.len(),
+            cells.as_ptr(),
+            cells.len(),
+        )
     })
 }
 
 pub fn lookup(lengths: &[u32], bins: &[u32], heads: &[u32], names: &[u64], cells: &[u32], table: u32, hash: u64, key: u64) -> Answer {
     answer(unsafe {
-        c::oz_lookup(lengths.as_ptr(), lengths.len(), bins.as_ptr(), bins.len(), heads.as_ptr(), heads.len(), names.as_ptr(), names.len(), cells.as_ptr(), cells.len(), table, hash, key)
+        c::oz_lookup(
+            lengths.as_ptr(),
+            lengths.len(),
+            bins.as_ptr(),
+            bins.len(),
+            heads.as_ptr(),
+            heads.len(),
+            names.as_ptr(),
+            names.len(),
+            cells.as_ptr(),
+            cells.len(),
+            table,
+            hash,
+            key,
+        )
     })
 }
 
 pub fn start(lengths: &[u32], bins: &[u32], heads: &[u32], names: &[u64], cells: &[u32], table: u32, cursor: &mut [u32]) -> Answer {
     answer(unsafe {
-        c::oz_start(lengths.as_ptr(), lengths.len(), bins.as_ptr(), bins.len(), heads.as_ptr(), heads.len(), names.as_ptr(), names.len(), cells.as_ptr(), cells.len(), table, cursor.as_mut_ptr(), cursor.len())
+        c::oz_start(
+            lengths.as_ptr(),
+            lengths.len(),
+            bins.as_ptr(),
+            bins.len(),
+            heads.as_ptr(),
+            heads.len(),
+            names.as_ptr(),
+            names.len(),
+            cells.as_ptr(),
+            cells.len(),
+            table,
+            cursor.as_mut_ptr(),
+            cursor.len(),
+        )
     })
 }
 
 pub fn walk(lengths: &[u32], bins: &[u32], heads: &[u32], names: &[u64], cells: &[u32], cursor: &mut [u32]) -> Answer {
     answer(unsafe {
-        c::oz_walk(lengths.as_ptr(), lengths.len(), bins.as_ptr(), bins.len(), heads.as_ptr(), heads.len(), names.as_ptr(), names.len(), cells.as_ptr(), cells.len(), cursor.as_mut_ptr(), cursor.len())
+        c::oz_walk(
+            lengths.as_ptr(),
+            lengths.len(),
+            bins.as_ptr(),
+            bins.len(),
+            heads.as_ptr(),
+            heads.len(),
+            names.as_ptr(),
+            names.len(),
+            cells.as_ptr(),
+            cells.len(),
+            cursor.as_mut_ptr(),
+            cursor.len(),
+        )
     })
 }
 
@@ -148,6 +380,25 @@ impl Index {
 
     pub fn remove(&mut self, hash: u64, key: u64) -> Answer {
         remove(&mut self.names, &mut self.cells, &mut self.head, &mut self.lines, hash, key)
+    }
+
+    pub fn replace(&mut self, hash: u64, key: u64, place: u32) -> Answer {
+        replace(&self.names, &mut self.cells, &self.head, &mut self.lines, hash, key, place)
+    }
+
+    /// Whether, after a replace, nothing but the place of the pair and one line are others than before: no name, link, colour or chain
+    /// word, nor the header. Where no slot has the pair, nothing at all.
+    pub fn only_place(&self, before: &Index, hash: u64, key: u64, place: u32) -> bool {
+        let has = |i: &usize| before.cells[7 * i + STATE] != 0 && before.names[2 * i..2 * i + 2] == [hash, key];
+        let mut wanted = before.clone();
+        if let Some(i) = (0..before.slots()).find(has) {
+            let at = 1 + 4 * before.lines[0] as usize;
+            let places = place as u64 | (before.cells[7 * i + PLACE] as u64) << 32;
+            wanted.cells[7 * i + PLACE] = place;
+            wanted.lines[at..at + 4].copy_from_slice(&[3, hash, key, places]);
+            wanted.lines[0] += 1;
+        }
+        *self == wanted
     }
 
     pub fn rollback(&mut self, mark: u32) -> Answer {

@@ -107,11 +107,11 @@ fn live(rng: &mut Rng) -> Live {
                 ix.forget();
             }
             let (h, k) = (rng.below(3), rng.below(slots as u64 + 1));
-            if rng.below(4) == 0 {
-                ix.remove(h, k);
-            } else {
-                ix.insert(h, k, rng.next() as u32);
-            }
+            match rng.below(5) {
+                0 => ix.remove(h, k),
+                1 => ix.replace(h, k, rng.next() as u32),
+                _ => ix.insert(h, k, rng.next() as u32),
+            };
         }
     }
     resize(&mut ix.lines, 1 + 4 * capacity, 0);
@@ -156,7 +156,12 @@ fn live(rng: &mut Rng) -> Live {
     resize(&mut ix.cells, b, NULL);
     resize(&mut ix.head, c, NULL);
     resize(&mut ix.lines, d, 0);
-    Live { names: Lent::new(&ix.names, G64), cells: Lent::new(&ix.cells, G32), head: Lent::new(&ix.head, G32), lines: Lent::new(&ix.lines, G64) }
+    Live {
+        names: Lent::new(&ix.names, G64),
+        cells: Lent::new(&ix.cells, G32),
+        head: Lent::new(&ix.head, G32),
+        lines: Lent::new(&ix.lines, G64),
+    }
 }
 
 #[derive(Default)]
@@ -189,13 +194,20 @@ impl Tally {
     }
 }
 
+/// Whether a replace that answered this slot has changed no name, no word of the header and no cell but the slot's place.
+fn placed(before: &Live, after: &Live, slot: u32) -> bool {
+    let at = GUARD + 7 * slot as usize + oz::PLACE;
+    let others = |l: &Live| [&l.cells.all[..at], &l.cells.all[at + 1..]].concat();
+    before.names == after.names && before.head == after.head && others(before) == others(after)
+}
+
 fn live_calls(rng: &mut Rng, tally: &mut Tally) {
     let mut l = live(rng);
     let mut before = l.clone();
     for _ in 0..8 {
         let (h, k) = if rng.below(4) == 0 { (word64(rng, 3), word64(rng, 9)) } else { (rng.below(3), rng.below(8)) };
-        let (name, answer) = match rng.below(19) / 2 {
-            9 => ("fresh", oz::fresh(l.names.lend(), l.cells.lend(), l.head.lend(), l.lines.lend())),
+        let (name, answer) = match rng.below(21) / 2 {
+            10 => ("fresh", oz::fresh(l.names.lend(), l.cells.lend(), l.head.lend(), l.lines.lend())),
             0 => ("find", oz::find(l.names.get(), l.cells.get(), l.head.get(), h, k)),
             1 => ("check", oz::check(l.names.get(), l.cells.get(), l.head.get())),
             2 => {
@@ -204,10 +216,15 @@ fn live_calls(rng: &mut Rng, tally: &mut Tally) {
             }
             3 | 4 => ("insert", oz::insert(l.names.lend(), l.cells.lend(), l.head.lend(), l.lines.lend(), h, k, 5)),
             5 | 6 => ("remove", oz::remove(l.names.lend(), l.cells.lend(), l.head.lend(), l.lines.lend(), h, k)),
+            7 => ("replace", oz::replace(l.names.get(), l.cells.lend(), l.head.get(), l.lines.lend(), h, k, word32(rng, 9))),
             _ => ("rollback", oz::rollback(l.names.lend(), l.cells.lend(), l.head.lend(), l.lines.lend(), word32(rng, 3))),
         };
-        let writes = matches!(name, "fresh" | "insert" | "remove" | "rollback") && answer.number == 0;
-        let fine = if writes { l.guarded() } else { l == before };
+        let writes = matches!(name, "fresh" | "insert" | "remove" | "replace" | "rollback") && answer.number == 0;
+        let fine = match name {
+            "replace" if writes => l.guarded() && placed(&before, &l, answer.value),
+            _ if writes => l.guarded(),
+            _ => l == before,
+        };
         tally.note(name, answer, l.names.len / 2, fine);
         if writes {
             before = l.clone();
@@ -244,7 +261,8 @@ fn set_calls(rng: &mut Rng, tally: &mut Tally) {
         let i = rng.below(tables as u64) as usize;
         lengths[i] = word32(rng, 16);
     }
-    let (a, b, c, d, e) = (length(rng, tables), length(rng, bins_len), length(rng, 3 * headers), length(rng, 2 * slots), length(rng, 7 * slots));
+    let (a, b, c, d, e) =
+        (length(rng, tables), length(rng, bins_len), length(rng, 3 * headers), length(rng, 2 * slots), length(rng, 7 * slots));
     resize(&mut lengths, a, 0);
     resize(&mut bins, b, 0);
     resize(&mut heads, c, NULL);
@@ -258,7 +276,8 @@ fn near_calls(rng: &mut Rng, tally: &mut Tally) {
     let mut s = sets::small(rng);
     let n = s.names.len() as u64 / 2;
     for _ in 0..rng.below(4) {
-        let words: &mut Vec<u32> = [&mut s.bins, &mut s.heads, &mut s.cells, &mut s.lengths].into_iter().nth(rng.below(4) as usize).unwrap();
+        let words: &mut Vec<u32> =
+            [&mut s.bins, &mut s.heads, &mut s.cells, &mut s.lengths].into_iter().nth(rng.below(4) as usize).unwrap();
         if !words.is_empty() {
             let i = rng.below(words.len() as u64) as usize;
             words[i] = word32(rng, n + 3);
@@ -311,7 +330,8 @@ fn contents(ix: &Index) -> Vec<(u64, u64, u32)> {
     all
 }
 
-/// Demand 3: any calls after a mark, then a rollback to it; below the mark and past the length the journal is garbage.
+/// Demand 3: any calls, replaces among them, after a mark, then a rollback to it; below the mark and past the length the journal is
+/// garbage.
 fn demand3(rng: &mut Rng) -> (u64, Result<u64, String>) {
     let slots = 1 + rng.below(12) as usize;
     let capacity = rng.below(24) as usize;
@@ -333,7 +353,7 @@ fn demand3(rng: &mut Rng) -> (u64, Result<u64, String>) {
     let calls = rng.below(60);
     for _ in 0..calls {
         let (h, k) = (rng.below(2), rng.below(pairs));
-        match rng.below(10) {
+        match rng.below(13) {
             0 => {
                 let length = ix.lines[0];
                 let mark = m as u64 + rng.below(length - m as u64 + 2);
@@ -341,6 +361,9 @@ fn demand3(rng: &mut Rng) -> (u64, Result<u64, String>) {
             }
             1..=4 => {
                 ix.remove(h, k);
+            }
+            5..=7 => {
+                ix.replace(h, k, rng.next() as u32);
             }
             _ => {
                 ix.insert(h, k, rng.next() as u32);
@@ -386,7 +409,10 @@ fn main() {
         println!("  {name} answered {number}: {count}");
     }
     println!("words touched outside or by a refused call: {}", tally.touched);
-    println!("finds and lookups with looks {}; more looks than slots, none on a hit, or some where there are none: {}", tally.searches, tally.strange);
+    println!(
+        "finds and lookups with looks {}; more looks than slots, none on a hit, or some where there are none: {}",
+        tally.searches, tally.strange
+    );
     let runs = calls / 100;
     let (mut made, mut undone, mut wrong) = (0, 0, 0);
     for _ in 0..runs {

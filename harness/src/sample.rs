@@ -15,8 +15,8 @@ use harness::oz::{self, Index, NULL};
 use harness::rng::Rng;
 use harness::source::{By, Tree};
 use seize::trace;
-use std::path::Path;
 use std::panic::{catch_unwind, AssertUnwindSafe};
+use std::path::Path;
 
 fn say(kind: u32, numbers: &[u64]) {
     let mut line = kind.to_string();
@@ -53,7 +53,8 @@ fn of_source(tree: &Tree, slots: usize) -> Index {
     ix
 }
 
-/// What an insert answers by the source: the number of a refusal or 0, and the slot. The new one's is the lowest free slot, by docs/RULES.md, section 4.
+/// What an insert answers by the source: the number of a refusal or 0, and the slot. The new one's is the lowest free slot, by
+/// docs/RULES.md, section 4.
 fn insert(tree: &mut Tree, slots: usize, hash: u64, key: u64, place: u32) -> (u32, u32) {
     let before = of_source(tree, slots);
     let there = tree.find(hash, key);
@@ -205,7 +206,8 @@ fn main() {
     }
     let mut rng = Rng::new(6);
     for slots in [1, 2, 3, 7, 7, 12, 12, 16] {
-        let ops: Vec<(bool, u64, u64)> = (0..12 + 4 * slots).map(|k| (rng.below(8) < if k < 2 * slots { 6 } else { 3 }, rng.below(3), rng.below(10))).collect();
+        let ops: Vec<(bool, u64, u64)> =
+            (0..12 + 4 * slots).map(|k| (rng.below(8) < if k < 2 * slots { 6 } else { 3 }, rng.below(3), rng.below(10))).collect();
         script(&mut rng, slots, &ops);
     }
     let mut tests = [0; 9];

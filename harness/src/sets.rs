@@ -6,7 +6,8 @@ use std::collections::BTreeSet;
 /// Tables of so many lengths from the first on; about so many entries.
 pub fn draw(rng: &mut Rng, tables: usize, first: u32, entries: usize, spare: usize) -> Set {
     let lengths: Vec<u32> = (0..tables).map(|k| first << k).collect();
-    let mut s = Set { bins: vec![0; lengths.iter().sum::<u32>() as usize], lengths, heads: Vec::new(), names: Vec::new(), cells: Vec::new() };
+    let mut s =
+        Set { bins: vec![0; lengths.iter().sum::<u32>() as usize], lengths, heads: Vec::new(), names: Vec::new(), cells: Vec::new() };
     let moved = rng.below(5);
     for k in 0..tables - 1 {
         for i in 0..s.lengths[k] {

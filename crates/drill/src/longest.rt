@@ -2,28 +2,22 @@
 // call by call. After every call its words are copied, and the copy is rolled back to a mark that varies with the cut. A second index
 // runs only the calls whose lines stand below that mark: no rollback comes up in it. The two have to hold the same pairs and places and
 // the same words of a journal. Then the copy is rolled back to 0, and all of the script runs again on it.
+use crate::entries::same_entries;
 use crate::steps::all;
-use crate::steps::is_empty;
+use crate::steps::back_to_start;
+use crate::steps::is_refused;
 use crate::steps::is_sound;
 use crate::steps::length;
 use crate::steps::line_end;
+use crate::steps::mark_of;
 use crate::steps::more;
 use crate::steps::one;
 use crate::steps::undid;
 use console::feed::blank;
 use console::feed::feed;
-use index::find::Found;
-use index::find::find;
 use index::fresh::fresh;
-use index::rollback::RolledBack;
 use index::rollback::rollback;
-use slots::FREE;
-use slots::HASH;
-use slots::KEY;
-use slots::PLACE;
-use slots::STATE;
 use slots::get;
-use slots::name;
 use slots::put;
 use trials::play::Met;
 use trials::play::agrees;
@@ -78,45 +72,6 @@ fn run_kept(
     }
 }
 
-// Whether slot i is free, or its pair has the same place in the other tree.
-fn is_held(
-    names: &[u64],
-    cells: &[u32],
-    i: u32,
-    other_names: &[u64],
-    other_cells: &[u32],
-    other_head: &[u32],
-) -> bool {
-    if get(cells, i, STATE) == FREE {
-        return true;
-    }
-    let hash = name(names, i, HASH);
-    let key = name(names, i, KEY);
-    match find(other_names, other_cells, other_head, hash, key) {
-        Found::At(slot, _) => get(other_cells, slot, PLACE) == get(cells, i, PLACE),
-        _ => false,
-    }
-}
-
-// Whether two sound trees have the same entries: the other has each entry of the one, and their counts are the same.
-fn same_entries(
-    names: &[u64],
-    cells: &[u32],
-    head: &[u32],
-    other_names: &[u64],
-    other_cells: &[u32],
-    other_head: &[u32],
-) -> bool {
-    let mut i: u32 = 0;
-    while i < SLOTS {
-        if !is_held(names, cells, i, other_names, other_cells, other_head) {
-            return false;
-        }
-        i += 1;
-    }
-    get(head, 0, 2) == get(other_head, 0, 2)
-}
-
 // Whether an index is what a second one is that ran to mark m and no further: both sound, with the same pairs and places, and with the
 // same words of the journal. The second has written no line past the mark, so those of the first have to be zero.
 fn as_at_mark(
@@ -151,17 +106,17 @@ fn as_at_mark(
     );
     let rules = is_sound(names, cells, head);
     let rules_then = is_sound(&names_then, &cells_then, &head_then);
-    let entries = same_entries(names, cells, head, &names_then, &cells_then, &head_then);
+    let entries = same_entries(
+        SLOTS,
+        names,
+        cells,
+        head,
+        &names_then,
+        &cells_then,
+        &head_then,
+    );
     let journal = same_names(lines, &lines_then);
     all(rules, rules_then, entries, journal)
-}
-
-// The mark for a cut, up to the journal's length; 0 at every eighth.
-fn mark_of(cut: u32, length: u32) -> u32 {
-    if cut % 8 == 0 {
-        return 0;
-    }
-    cut % 65536 * 37 % (length % 65536 + 1)
 }
 
 // Rolls back to the cut's mark: whether as many lines are undone as there were above it, and the index is as it was at the mark.
@@ -183,20 +138,6 @@ fn back_to_mark(
     all(undone, same, length(lines) == m, true)
 }
 
-// Rolls back the rest: whether it is accepted, and nothing is left.
-fn back_to_start(
-    names: &mut [u64],
-    cells: &mut [u32],
-    head: &mut [u32],
-    lines: &mut [u64],
-) -> bool {
-    let count = length(lines);
-    let rolled = rollback(names, cells, head, lines, 0);
-    let undone = undid(rolled, count);
-    let empty = is_empty(names, cells, head, lines);
-    all(undone, empty, true, true)
-}
-
 // Whether all of the script runs again with every answer right.
 fn again(
     script: &[u8],
@@ -209,21 +150,6 @@ fn again(
 ) -> bool {
     let met = play(script, 65536, answers, names, cells, head, lines, out);
     all(met.same, met.at == answers.len(), true, true)
-}
-
-// Whether a mark past the journal's length is refused as such.
-fn is_refused(
-    past: u32,
-    names: &mut [u64],
-    cells: &mut [u32],
-    head: &mut [u32],
-    lines: &mut [u64],
-) -> bool {
-    let mark = more(length(lines), more(past % 1024, 1));
-    match rollback(names, cells, head, lines, mark) {
-        RolledBack::BadMark => true,
-        _ => false,
-    }
 }
 
 // A call, and whether its answer is the one expected from a place on.

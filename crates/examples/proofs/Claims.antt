@@ -28,7 +28,8 @@ use Rattle.index_rules.proofs.Sounding.{sound-yes}
 use Rattle.index_rules.proofs.Claims.{claims as demanded}
 use Rattle.index_rules.specs.Calls.{after}
 use Rattle.index_rules.specs.Insert.{freeFrom, lowestFree, soughtIn, fronted, grown, inserts}
-use Rattle.index_rules.specs.Remove.{unchained, wiped, shrunk, removes}
+use Rattle.index_rules.specs.Present.{wherePresent}
+use Rattle.index_rules.specs.Remove.{unchained, wiped, shrunk, afterRemove, removes}
 use Rattle.set_rules.specs.Words.{begins, doubling, doubled, fitTables, binOf, bini}
 use Rattle.set_rules.specs.Words.{fits as setFits}
 use Rattle.set_rules.specs.Accepting.{isHome, isListSlot, samePair, unlike, listSlotFine, listFine, wellPlaced as mayStand, ownFine, binAsks, belowFine, binFine, tableFine, isBlank, headersFine, allHeld, accepted, accepts}
@@ -70,12 +71,12 @@ unfolding tables listSlots cell begins doubling doubled fitTables setFits binOf 
 walk-done = refl
 
 pub claims : Claims
-unfolding empty zeros freeSlots drawn drawnFrom chainOf chainFrom cell write nameOf rename roomy chained tally linksIn decided looked searched found stands reached follows risen allCalm levelled rises coloured level capped settled tucked eased sunk deletionTurn balancedDeletion descended hooked inserted spotted raised straightened lifted insertionTurn insertionTurns balancedInsertion replaced lowered traded replacement spliced detached dropped leftmost removed hung turned rotated after fitsJournal fitsIndex lined appended freeFrom lowestFree soughtIn fronted grown inserts fits unchained wiped shrunk removes isCleared slotFine slotsFine rule1 rule2 rule3 rule4 rule5 rule6 rule7 sound
+unfolding empty zeros freeSlots drawn drawnFrom chainOf chainFrom cell write nameOf rename roomy chained tally linksIn decided looked searched found stands reached follows risen allCalm levelled rises coloured level capped settled tucked eased sunk deletionTurn balancedDeletion descended hooked inserted spotted raised straightened lifted insertionTurn insertionTurns balancedInsertion replaced lowered traded replacement spliced detached dropped leftmost removed hung turned rotated after fitsJournal fitsIndex lined appended freeFrom lowestFree soughtIn fronted grown inserts fits unchained wiped shrunk wherePresent afterRemove removes isCleared slotFine slotsFine rule1 rule2 rule3 rule4 rule5 rule6 rule7 sound
 claims =
     record {
       empty-find = empty-find;
       empty-remove = λ ix fit h e hash key.
-          demanded .remove ix hash key .four .1 (fit, (h, demanded .find-sound (ix .live) (fit .tree) h hash key .none .0 (ap (λ (s : Search). s .answer) (empty-find (ix .live) (fit .tree) h e hash key))));
+          demanded .remove ix hash key .asks .four .1 (fit, (h, demanded .find-sound (ix .live) (fit .tree) h hash key .none .0 (ap (λ (s : Search). s .answer) (empty-find (ix .live) (fit .tree) h e hash key))));
       three-tree = refl;
       three-chain = refl;
       four-tree = refl;

@@ -18,6 +18,7 @@ claims =
       sound-one = λ t a b p q. p ∙ sym q;
       insert-one = λ ix hash key place a b p q. p ∙ sym q;
       remove-one = λ ix hash key a b p q. p ∙ sym q;
+      replace-one = λ ix hash key place a b p q. p ∙ sym q;
       fresh-one = λ ix a b p q. p ∙ sym q;
       rollback-one = λ ix mark a b p q. p ∙ sym q;
       accept-one = λ s a b p q. p ∙ sym q;

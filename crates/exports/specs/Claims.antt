@@ -15,6 +15,7 @@ use Rattle.index_rules.specs.Check.{checks}
 use Rattle.index_rules.specs.Sound.{sounds}
 use Rattle.index_rules.specs.Insert.{inserts}
 use Rattle.index_rules.specs.Remove.{removes}
+use Rattle.index_rules.specs.Replace.{replaces}
 use Rattle.index_rules.specs.Rollback.{rolls}
 use Rattle.index_rules.specs.Fresh.{freshes}
 use Rattle.set_rules.specs.Words.{Set}
@@ -55,6 +56,7 @@ pub record Claims : Type 0 where
   pub sound-one : (t : Live) → OneAnswer (λ (r : ℕ). r ≡ answerWord (sounds t))
   pub insert-one : (ix : Index) (hash key place : ℕ) → OneAnswer (λ (r : Worded). r ≡ worded (inserts ix hash key place))
   pub remove-one : (ix : Index) (hash key : ℕ) → OneAnswer (λ (r : Worded). r ≡ worded (removes ix hash key))
+  pub replace-one : (ix : Index) (hash key place : ℕ) → OneAnswer (λ (r : Worded). r ≡ worded (replaces ix hash key place))
   pub fresh-one : (ix : Index) → OneAnswer (λ (r : Worded). r ≡ worded (freshes ix))
   pub rollback-one : (ix : Index) (mark : ℕ) → OneAnswer (λ (r : Worded). r ≡ worded (rolls ix mark))
   pub accept-one : (s : Set) → OneAnswer (λ (r : ℕ). r ≡ answerWord (accepts s))

@@ -3,12 +3,14 @@ use crate::words::word;
 use index::fresh::fresh;
 use index::insert::insert;
 use index::remove::remove;
+use index::replace::replace;
 use index::rollback::rollback;
 ghost use mathlib.Core.Path.{_≡_};
 ghost use Rattle.index_rules.specs.Index.{lent};
 ghost use Rattle.index_rules.specs.Fresh.{freshes};
 ghost use Rattle.index_rules.specs.Insert.{inserts};
 ghost use Rattle.index_rules.specs.Remove.{removes};
+ghost use Rattle.index_rules.specs.Replace.{replaces};
 ghost use Rattle.index_rules.specs.Rollback.{rolls};
 ghost use Rattle.exports.specs.Words.{Worded, worded};
 
@@ -60,6 +62,24 @@ pub extern "C" fn oz_remove(
 {
     let removed = remove(names, cells, head, lines, hash, key);
     word(removed.answer())
+}
+
+// A pair has another place, and the journal takes a line with both.
+#[no_mangle]
+pub extern "C" fn oz_replace(
+    names: &[u64],
+    cells: &mut [u32],
+    head: &[u32],
+    lines: &mut [u64],
+    hash: u64,
+    key: u64,
+    place: u32,
+) -> u64
+    ensures { λ r. ⌜ record { word = r; left = lent (now (names .entry)) (now (cells .exit)) (now (head .entry)) (now (lines .exit)) }
+        ≡ worded (replaces (lent (now (names .entry)) (now (cells .entry)) (now (head .entry)) (now (lines .entry))) hash key place) ⌝ }
+{
+    let replaced = replace(names, cells, head, lines, hash, key, place);
+    word(replaced.answer())
 }
 
 // The journal's lines above the mark are undone and cleared.

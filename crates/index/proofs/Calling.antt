@@ -8,7 +8,7 @@ use Rattle.slots.specs.Words.{pick}
 use Rattle.slots.specs.Answers.{Answer, Value, some, none}
 use Rattle.slots.proofs.Laws.{told-apart}
 use Rattle.index_rules.specs.Index.{Outcome}
-use Rattle.index.specs.Calls.{fitnessOf, insertedOf, removedOf}
+use Rattle.index.specs.Calls.{fitnessOf, insertedOf, removedOf, replacedOf}
 use Rattle.index.specs.Fresh.{freshOf}
 use Rattle.index.specs.Calling.{Call, outcomeOf, Calling}
 use Rattle.index.specs.declared.fit_index.Fitness.{Fitness}
@@ -18,7 +18,9 @@ use Rattle.index.specs.declared.fresh.Freshness.the-variants.{Made, Unfi
 use Rattle.index.specs.declared.insert.Inserted.{Inserted}
 use Rattle.index.specs.declared.insert.Inserted.the-variants.{At as InsertAt, Unfit as InsertUnfit, Damaged as InsertDamaged, Present, Full, JournalFull as InsertJournalFull}
 use Rattle.index.specs.declared.remove.Removed.{Removed}
-use Rattle.index.specs.declared.remove.Removed.the-variants.{At as RemoveAt, Unfit as RemoveUnfit, Damaged as RemoveDamaged, Absent, JournalFull as RemoveJournalFull}
+use Rattle.index.specs.declared.remove.Removed.the-variants.{At as RemoveAt, Unfit as RemoveUnfit, Damaged as RemoveDamaged, Absent as RemoveAbsent, JournalFull as RemoveJournalFull}
+use Rattle.index.specs.declared.replace.Replaced.{Replaced}
+use Rattle.index.specs.declared.replace.Replaced.the-variants.{At as ReplaceAt, Unfit as ReplaceUnfit, Damaged as ReplaceDamaged, Absent as ReplaceAbsent, JournalFull as ReplaceJournalFull}
 
 abbrev insertBack : ℕ → Value → Inserted
 insertBack number (some slot) = pick (eqb number 0) (InsertAt slot) (Present slot)
@@ -39,17 +41,32 @@ inserted-one-to-one = told-apart insertedOf (λ a. insertBack (a .number) (a .va
 abbrev removeBack : ℕ → Value → Removed
 removeBack number (some slot) = RemoveAt slot
 removeBack number none =
-    pick (eqb number 1) RemoveUnfit (pick (eqb number 2) RemoveDamaged (pick (eqb number 4) Absent RemoveJournalFull))
+    pick (eqb number 1) RemoveUnfit (pick (eqb number 2) RemoveDamaged (pick (eqb number 4) RemoveAbsent RemoveJournalFull))
 
 remove-back : (r : Removed) → removeBack (removedOf r .number) (removedOf r .value) ≡ r
 remove-back (RemoveAt slot) = refl
 remove-back RemoveUnfit = refl
 remove-back RemoveDamaged = refl
-remove-back Absent = refl
+remove-back RemoveAbsent = refl
 remove-back RemoveJournalFull = refl
 
 removed-one-to-one : (a b : Removed) → removedOf a ≡ removedOf b → a ≡ b
 removed-one-to-one = told-apart removedOf (λ a. removeBack (a .number) (a .value)) remove-back
+
+abbrev replaceBack : ℕ → Value → Replaced
+replaceBack number (some slot) = ReplaceAt slot
+replaceBack number none =
+    pick (eqb number 1) ReplaceUnfit (pick (eqb number 2) ReplaceDamaged (pick (eqb number 4) ReplaceAbsent ReplaceJournalFull))
+
+replace-back : (r : Replaced) → replaceBack (replacedOf r .number) (replacedOf r .value) ≡ r
+replace-back (ReplaceAt slot) = refl
+replace-back ReplaceUnfit = refl
+replace-back ReplaceDamaged = refl
+replace-back ReplaceAbsent = refl
+replace-back ReplaceJournalFull = refl
+
+replaced-one-to-one : (a b : Replaced) → replacedOf a ≡ replacedOf b → a ≡ b
+replaced-one-to-one = told-apart replacedOf (λ a. replaceBack (a .number) (a .value)) replace-back
 
 abbrev freshBack : ℕ → Freshness
 freshBack number = pick (eqb number 0) Made FreshUnfit
@@ -90,6 +107,8 @@ calling =
       insert-one = λ ix hash key p c d. one insertedOf inserted-one-to-one _ c d;
       removed-one-to-one = removed-one-to-one;
       remove-one = λ ix hash key c d. one removedOf removed-one-to-one _ c d;
+      replaced-one-to-one = replaced-one-to-one;
+      replace-one = λ ix hash key p c d. one replacedOf replaced-one-to-one _ c d;
       freshness-one-to-one = freshness-one-to-one;
       fresh-one = λ ix c d. one freshOf freshness-one-to-one _ c d;
       fitness-one-to-one = fitness-one-to-one;

@@ -9,7 +9,9 @@ pub mod Room
 pub mod Driving
 pub mod Asking
 pub mod Inserting
+pub mod Presenting
 pub mod Removing
+pub mod Replacing
 pub mod Freshening
 pub mod Calling
 pub mod Undoing

@@ -3,7 +3,7 @@ use mathlib.Core.Path.{_≡_, refl, ap, sym, _∙_}
 use mathlib.Core.Logic.{_≢_}
 use mathlib.Core.Bool.{Bool, true, false}
 use mathlib.Core.List.{List, [], _∷_, _++_}
-use Prim.Native.Nat.{ℕ, zero, suc, _+_, _-_, _<_, _≤_}
+use Prim.Native.Nat.{ℕ, zero, suc, _+_, _-_, _/_, _%_, _<_, _≤_}
 use native.Mathlib.Decide.{decLt}
 use native.Mathlib.Numerals.{add-one, sub-one}
 use native.Mathlib.Omega.{arith}
@@ -11,13 +11,14 @@ use lib.ListN.{length, getD, set, take, length-set, List·getD-eq-default}
 use lib.Seq.{getD-set-same, take-suc, take-suc-set, take-all, take-length}
 use lib.Dec.{eqb, ltb}
 use borrow.Author.Tests.{eq-eqb, ne-eqb, lt-ltb, le-ltb}
-use Rattle.slots.specs.Words.{null, pick, place, cell}
+use Rattle.slots.specs.Words.{null, pick, place, cell, write}
 use Rattle.slots.specs.Answers.{Value, some, none}
-use Rattle.index_rules.specs.Live.{Live, countOf}
+use Rattle.index_rules.specs.Live.{Live, lentTree, countOf}
 use Rattle.index_rules.specs.Index.{lineWord, kindWord, hashWord, keyWord, placeWord}
 use Rattle.index_rules.specs.Insert.{freeFrom, lowestFree, soughtIn, headed, grown}
 use Rattle.index_rules.specs.Remove.{shrunk}
-use Rattle.index_rules.specs.Rollback.{Undo, stays, misfit, takenBack, putBack, undone, unrolled}
+use Rattle.index_rules.specs.Replace.{placedAt}
+use Rattle.index_rules.specs.Rollback.{Undo, stays, misfit, takenBack, putBack, placedBack, undone, unrolled}
 use Rattle.index.specs.Frees.{slotOf}
 use Rattle.index.specs.Rolls.{undoOf}
 use Rattle.index.specs.declared.lines.Undoing.{Undoing}
@@ -56,7 +57,21 @@ module _ (t : Live) (hash key p : ℕ) where
       unfolding lowestFree
       put-done h g = let w = slot-some (freeFrom (slotsOf (t .names)) (t .cells) 0) x v in rw (s, w .0, lt-ltb p 4294967296 h, ← w .1, ← g)
 
--- A line of kind 1, of kind 2, of another kind.
+-- A replace line: its pair is not there, has another place than the new one, or has the old one again.
+module _ (t : Live) (hash key w : ℕ) where
+  pub place-absent : soughtIn t hash key ≡ none → misfit ≡ placedBack t (soughtIn t hash key) w
+  place-absent s = rw s
+
+  module _ {x own : ℕ} (s : soughtIn t hash key ≡ some x) (e : own ≡ cell (t .cells) x place) where
+    pub place-other : own ≢ w % 4294967296 → misfit ≡ placedBack t (soughtIn t hash key) w
+    place-other n = rw (s, ← e, ne-eqb own (w % 4294967296) n)
+
+    pub place-done : {c : List ℕ} → own ≡ w % 4294967296 → w / 4294967296 < 4294967296 → c ≡ write (t .cells) x place (w / 4294967296)
+        → stays (lentTree (t .names) c (t .head)) ≡ placedBack t (soughtIn t hash key) w
+    unfolding placedAt
+    place-done h l g = rw (s, ← e, eq-eqb own (w % 4294967296) h, lt-ltb (w / 4294967296) 4294967296 l, ← g)
+
+-- A line of kind 1, of kind 2, of kind 3, of another kind.
 module _ (t : Live) (lines : List ℕ) (k : ℕ) {kind hash key p : ℕ}
     (e1 : kind ≡ lineWord lines k kindWord) (e2 : hash ≡ lineWord lines k hashWord) (e3 : key ≡ lineWord lines k keyWord) (e4 : p ≡ lineWord lines k placeWord) where
   pub line-insert : kind ≡ 1 → {o : Undo} → o ≡ takenBack t (soughtIn t hash key) p → o ≡ undone t lines k
@@ -67,9 +82,13 @@ module _ (t : Live) (lines : List ℕ) (k : ℕ) {kind hash key p : ℕ}
   unfolding undone
   line-remove n h e = rw (← e1, ← e2, ← e3, ← e4, ne-eqb kind 1 n, eq-eqb kind 2 h) e
 
-  pub line-other : kind ≢ 1 → kind ≢ 2 → misfit ≡ undone t lines k
+  pub line-replace : kind ≢ 1 → kind ≢ 2 → kind ≡ 3 → {o : Undo} → o ≡ placedBack t (soughtIn t hash key) p → o ≡ undone t lines k
   unfolding undone
-  line-other n m = rw (← e1, ne-eqb kind 1 n, ne-eqb kind 2 m)
+  line-replace n m h e = rw (← e1, ← e2, ← e3, ← e4, ne-eqb kind 1 n, ne-eqb kind 2 m, eq-eqb kind 3 h) e
+
+  pub line-other : kind ≢ 1 → kind ≢ 2 → kind ≢ 3 → misfit ≡ undone t lines k
+  unfolding undone
+  line-other n m h = rw (← e1, ne-eqb kind 1 n, ne-eqb kind 2 m, ne-eqb kind 3 h)
 
 -- A header with a count below null has its three words, and a line that is undone adds at most one to the count.
 counted : (h : List ℕ) (a b c : ℕ) → getD h 2 null < null → getD (headed h a b c) 2 null ≡ c
@@ -114,9 +133,19 @@ module _ (t u : Live) (l : countOf t < null) where
       go false true e = omega (arith, same-count (countOf t + 1) e (grown-count (lowestFree t) hash key p))
       go false false e = absurd (not-stays e)
 
+  place-count : (v : Value) (w : ℕ) → placedBack t v w ≡ stays u → countOf u ≤ countOf t + 1
+  unfolding placedAt
+  place-count none w e = absurd (not-stays e)
+  place-count (some x) w e = go (eqb (cell (t .cells) x place) (w % 4294967296)) (ltb (w / 4294967296) 4294967296) e
+    where
+      go : (a b : Bool) → pick a (pick b (stays (placedAt t x (w / 4294967296))) misfit) misfit ≡ stays u → countOf u ≤ countOf t + 1
+      go true true e = omega (arith, same-count (countOf t) e refl)
+      go true false e = absurd (not-stays e)
+      go false b e = absurd (not-stays e)
+
   undone-count : (lines : List ℕ) (k : ℕ) → undone t lines k ≡ stays u → countOf u ≤ countOf t + 1
   unfolding undone
-  undone-count lines k e = go (eqb (lineWord lines k kindWord) 1) (eqb (lineWord lines k kindWord) 2) e
+  undone-count lines k e = go (eqb (lineWord lines k kindWord) 1) (eqb (lineWord lines k kindWord) 2) (eqb (lineWord lines k kindWord) 3) e
     where
       hash : ℕ
       hash = lineWord lines k hashWord
@@ -127,10 +156,13 @@ module _ (t u : Live) (l : countOf t < null) where
       p : ℕ
       p = lineWord lines k placeWord
 
-      go : (a b : Bool) → pick a (takenBack t (soughtIn t hash key) p) (pick b (putBack t (soughtIn t hash key) hash key p) misfit) ≡ stays u → countOf u ≤ countOf t + 1
-      go true b e = back-count (soughtIn t hash key) p e
-      go false true e = put-count (soughtIn t hash key) hash key p e
-      go false false e = absurd (not-stays e)
+      go : (a b d : Bool)
+          → pick a (takenBack t (soughtIn t hash key) p) (pick b (putBack t (soughtIn t hash key) hash key p) (pick d (placedBack t (soughtIn t hash key) p) misfit)) ≡ stays u
+          → countOf u ≤ countOf t + 1
+      go true b d e = back-count (soughtIn t hash key) p e
+      go false true d e = put-count (soughtIn t hash key) hash key p e
+      go false false true e = place-count (soughtIn t hash key) p e
+      go false false false e = absurd (not-stays e)
 
 -- A turn of the undoing: c lines are left, and what they leave decides the whole.
 pub record Turn (t₀ : Live) (lines : List ℕ) (m count : ℕ) (t : Live) (c : ℕ) : Type 0 where

@@ -1,4 +1,4 @@
--- Of insert, remove and fresh beside their contracts: their answers are told apart by their numbers and values, and each entry point has
+-- Of insert, remove, replace and fresh beside their contracts: their answers are told apart by their numbers and values, and each entry point has
 -- one outcome, the answer with all that is left in the lent slices.
 use mathlib.Core.Path.{_≡_}
 use mathlib.Core.List.{List}
@@ -7,13 +7,15 @@ use Rattle.slots.specs.Answers.{Answer, OneAnswer}
 use Rattle.index_rules.specs.Index.{Index, Outcome, fitsIndex}
 use Rattle.index_rules.specs.Insert.{inserts}
 use Rattle.index_rules.specs.Remove.{removes}
+use Rattle.index_rules.specs.Replace.{replaces}
 use Rattle.index_rules.specs.Fresh.{freshes}
-use Rattle.index.specs.Calls.{fitnessOf, insertedOf, removedOf}
+use Rattle.index.specs.Calls.{fitnessOf, insertedOf, removedOf, replacedOf}
 use Rattle.index.specs.Fresh.{freshOf}
 use Rattle.index.specs.declared.fit_index.Fitness.{Fitness}
 use Rattle.index.specs.declared.fresh.Freshness.{Freshness}
 use Rattle.index.specs.declared.insert.Inserted.{Inserted}
 use Rattle.index.specs.declared.remove.Removed.{Removed}
+use Rattle.index.specs.declared.replace.Replaced.{Replaced}
 
 -- What a call returns, and the words of the four slices after it.
 pub record Call (A : Type 0) : Type 0 where
@@ -35,6 +37,8 @@ pub record Calling : Type 0 where
   pub insert-one : (ix : Index) (hash key p : ℕ) → OneAnswer (λ c. outcomeOf insertedOf c ≡ inserts ix hash key p)
   pub removed-one-to-one : (a b : Removed) → removedOf a ≡ removedOf b → a ≡ b
   pub remove-one : (ix : Index) (hash key : ℕ) → OneAnswer (λ c. outcomeOf removedOf c ≡ removes ix hash key)
+  pub replaced-one-to-one : (a b : Replaced) → replacedOf a ≡ replacedOf b → a ≡ b
+  pub replace-one : (ix : Index) (hash key p : ℕ) → OneAnswer (λ c. outcomeOf replacedOf c ≡ replaces ix hash key p)
   pub freshness-one-to-one : (a b : Freshness) → freshOf a ≡ freshOf b → a ≡ b
   pub fresh-one : (ix : Index) → OneAnswer (λ c. outcomeOf freshOf c ≡ freshes ix)
   pub fitness-one-to-one : (a b : Fitness) → fitnessOf a ≡ fitnessOf b → a ≡ b

@@ -101,6 +101,6 @@ pub fn insert(
         return asked;
     };
     grow(names, cells, head, x, hash, key, place);
-    append(lines, INSERT, hash, key, place);
+    append(lines, INSERT, hash, key, place as u64);
     Inserted::At(x)
 }

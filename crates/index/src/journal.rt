@@ -5,7 +5,7 @@ use slots::wide;
 ghost use mathlib.Core.Path.{_≡_};
 ghost use lib.ListN.{set};
 ghost use lib.Dec.{eqb};
-ghost use Rattle.index_rules.specs.Index.{fitsJournal, lengthOf, linesOf, lineWord, lined};
+ghost use Rattle.index_rules.specs.Index.{fitsJournal, lengthOf, linesOf, lineWord, lined, bothPlaces};
 ghost use Rattle.index_rules.specs.Rollback.{blanked};
 ghost use Rattle.index.specs.Frees.{appendedIf};
 
@@ -22,6 +22,11 @@ pub const LINE_PLACE: u32 = 3;
 pub const INSERT: u64 = 1;
 
 pub const REMOVE: u64 = 2;
+
+pub const REPLACE: u64 = 3;
+
+// So many places there are: a place is below it, and in the one word of a replace line the old place counts so many times.
+pub const MOST_PLACES: u64 = 4294967296;
 
 // How many lines there are.
 pub fn length_of(lines: &[u64]) -> u64
@@ -87,16 +92,23 @@ fn put_line(lines: &mut [u64], k: usize, kind: u64, hash: u64, key: u64, place: 
     put_wide(lines, at + 3, place);
 }
 
-// Each accepted insert or remove appends a line. Nothing where the length passes the limit.
-pub fn append(lines: &mut [u64], kind: u64, hash: u64, key: u64, place: u32)
+// Each accepted insert, remove or replace appends a line. Nothing where the length passes the limit.
+pub fn append(lines: &mut [u64], kind: u64, hash: u64, key: u64, place: u64)
     ensures { λ _. ⌜ now (lines .exit) ≡ appendedIf (now (lines .entry)) kind hash key place ⌝ }
 {
     let length = length_of(lines);
     if (MOST_LINES as u64) < length {
         return;
     }
-    put_line(lines, length as usize, kind, hash, key, place as u64);
+    put_line(lines, length as usize, kind, hash, key, place);
     put_wide(lines, 0, length + 1);
+}
+
+// Both places of a replace line in one word: the new place, and the old one above its 32 bits.
+pub(crate) fn both_places(new: u32, old: u32) -> u64
+    ensures { λ r. ⌜ r ≡ bothPlaces new old ⌝ }
+{
+    new as u64 + MOST_PLACES * old as u64
 }
 
 // So many lines from m on are cleared to zero.

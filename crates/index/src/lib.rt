@@ -10,10 +10,12 @@ pub mod fresh;
 pub mod grow;
 pub mod journal;
 pub mod shrink;
-// insert and remove: a pair with its place joins the tree or leaves it, and the journal takes a line.
+// insert, remove and replace: a pair joins the tree, leaves it or has another place, and the journal takes a line.
 pub mod insert;
+mod present;
 pub mod remove;
-// rollback: what the journal's lines took in or out is taken back.
+pub mod replace;
+// rollback: what the journal's lines took in, out or elsewhere is taken back.
 mod backup;
 mod lines;
 pub mod rollback;

@@ -7,13 +7,16 @@ use crate::journal::LINE_HASH;
 use crate::journal::LINE_KEY;
 use crate::journal::LINE_KIND;
 use crate::journal::LINE_PLACE;
+use crate::journal::MOST_PLACES;
 use crate::journal::REMOVE;
+use crate::journal::REPLACE;
 use crate::journal::line_word;
 use crate::shrink::shrink;
 use slots::NULL;
 use slots::PLACE;
 use slots::ROOT;
 use slots::get;
+use slots::put;
 use slots::word;
 use tree::find::Found;
 use tree::find::find_tree_node;
@@ -23,7 +26,7 @@ ghost use lib.ListN.{length, getD};
 ghost use Rattle.slots.specs.Words.{null, mostNames};
 ghost use Rattle.index_rules.specs.Live.{lentTree};
 ghost use Rattle.index_rules.specs.Insert.{soughtIn};
-ghost use Rattle.index_rules.specs.Rollback.{takenBack, putBack, undone, unrolled};
+ghost use Rattle.index_rules.specs.Rollback.{takenBack, putBack, placedBack, undone, unrolled};
 ghost use Rattle.index.specs.Rolls.{undoOf};
 
 // What comes of undoing: it is done, or a line does not fit.
@@ -82,13 +85,39 @@ fn put_back(
         let Free::At(x) = free else {
             return Undoing::Misfit;
         };
-        if 4294967296 <= place {
+        if MOST_PLACES <= place {
             return Undoing::Misfit;
         }
         grow(names, cells, head, x, hash, key, place as u32);
         return Undoing::Done;
     };
     Undoing::Misfit
+}
+
+// A replace line is undone by the old place: its pair is there with the new one. Misfit where it is not.
+fn place_back(
+    names: &[u64],
+    cells: &mut [u32],
+    head: &[u32],
+    hash: u64,
+    key: u64,
+    places: u64,
+) -> Undoing
+    ensures { λ r. ⌜ undoOf r (lentTree (now (names .entry)) (now (cells .exit)) (now (head .entry)))
+        ≡ placedBack (lentTree (now (names .entry)) (now (cells .entry)) (now (head .entry)))
+        (soughtIn (lentTree (now (names .entry)) (now (cells .entry)) (now (head .entry))) hash key) places ⌝ }
+{
+    let root = word(head, ROOT, NULL);
+    let found = find_tree_node(names, cells, root, hash, key);
+    let Found::At(x, _) = found else {
+        return Undoing::Misfit;
+    };
+    let own = get(cells, x, PLACE);
+    if own as u64 != places % MOST_PLACES {
+        return Undoing::Misfit;
+    }
+    put(cells, x, PLACE, (places / MOST_PLACES) as u32);
+    Undoing::Done
 }
 
 // Line k is undone. Misfit where it does not fit; the slices are then left anyhow.
@@ -113,6 +142,9 @@ fn undo_line(
     }
     if kind == REMOVE {
         return put_back(names, cells, head, hash, key, place);
+    }
+    if kind == REPLACE {
+        return place_back(names, cells, head, hash, key, place);
     }
     Undoing::Misfit
 }

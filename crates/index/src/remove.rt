@@ -1,22 +1,14 @@
 // remove: a pair leaves the tree, and the journal takes a line.
-use crate::fit_index::Fitness;
-use crate::fit_index::fit_index;
 use crate::journal::REMOVE;
 use crate::journal::append;
-use crate::journal::is_full;
+use crate::present::Presence;
+use crate::present::present;
 use crate::shrink::shrink;
-use crate::sound::Soundness;
-use crate::sound::sound;
-use slots::NULL;
 use slots::PLACE;
-use slots::ROOT;
 use slots::answer::Answer;
 use slots::answer::given;
 use slots::answer::refused;
 use slots::get;
-use slots::word;
-use tree::find::Found;
-use tree::find::find_tree_node;
 ghost use mathlib.Core.Path.{_≡_};
 ghost use Rattle.slots.specs.Coded.{answerOf};
 ghost use Rattle.index_rules.specs.Index.{lent, outcome};
@@ -47,29 +39,19 @@ impl Removed {
     }
 }
 
-// What remove answers, before anything is written: the tests 1, 2, 4, 6 in turn, else the slot that the pair frees.
+// What remove answers, before anything is written: a refusal, else the slot that the pair frees.
 fn ask(names: &[u64], cells: &[u32], head: &[u32], lines: &[u64], hash: u64, key: u64) -> Removed
     ensures { λ r. ⌜ removedOf r
         ≡ removes (lent (now (names .entry)) (now (cells .entry)) (now (head .entry)) (now (lines .entry))) hash key .answer ⌝ }
 {
-    let fitness = fit_index(names, cells, head, lines);
-    let Fitness::Fit = fitness else {
-        return Removed::Unfit;
-    };
-    let verdict = sound(names, cells, head);
-    let Soundness::Yes = verdict else {
-        return Removed::Damaged;
-    };
-    let root = word(head, ROOT, NULL);
-    let found = find_tree_node(names, cells, root, hash, key);
-    let Found::At(x, _) = found else {
-        return Removed::Absent;
-    };
-    let full = is_full(lines);
-    if full {
-        return Removed::JournalFull;
+    let presence = present(names, cells, head, lines, hash, key);
+    match presence {
+        Presence::At(x) => Removed::At(x),
+        Presence::Unfit => Removed::Unfit,
+        Presence::Damaged => Removed::Damaged,
+        Presence::Absent => Removed::Absent,
+        Presence::JournalFull => Removed::JournalFull,
     }
-    Removed::At(x)
 }
 
 // The pair (hash, key) leaves the tree, and the journal takes a line. A refusal writes nothing.
@@ -90,6 +72,6 @@ pub fn remove(
     };
     let place = get(cells, x, PLACE);
     shrink(names, cells, head, x);
-    append(lines, REMOVE, hash, key, place);
+    append(lines, REMOVE, hash, key, place as u64);
     Removed::At(x)
 }

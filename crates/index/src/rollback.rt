@@ -22,9 +22,9 @@ use slots::answer::refused;
 use slots::word;
 ghost use mathlib.Core.Path.{_≡_};
 ghost use Rattle.slots.specs.Coded.{answerOf};
-ghost use Prim.Native.Nat.{_+_, _≤_, _<_};
+ghost use Prim.Native.Nat.{_+_, _*_, _≤_, _<_};
 ghost use lib.ListN.{length, getD};
-ghost use Rattle.slots.specs.Words.{null, mostNames};
+ghost use Rattle.slots.specs.Words.{null, fields, mostSlots, mostNames};
 ghost use Rattle.index_rules.specs.Live.{Live, lentTree};
 ghost use Rattle.index_rules.specs.Index.{lent, outcome};
 ghost use Rattle.index_rules.specs.Rollback.{unrolled, rolls};
@@ -84,7 +84,7 @@ fn undo(
     count: u32,
 ) -> Undoing
     requires { ⌜ length (now names) ≤ mostNames ⌝ }
-    requires { ⌜ length (now cells) ≤ 28672 ⌝ }
+    requires { ⌜ length (now cells) ≤ fields * mostSlots ⌝ }
     requires { ⌜ length (now head) ≡ 3 ⌝ }
     requires { ⌜ getD (now head) 2 null + count < null ⌝ }
     ensures { λ r. ⌜ undoOf r (lentTree (now (names .exit)) (now (cells .exit)) (now (head .exit)))

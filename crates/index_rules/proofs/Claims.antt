@@ -5,6 +5,7 @@ use Rattle.index_rules.proofs.Sounding.{sound-claims}
 use Rattle.index_rules.proofs.Finding.{find-sound-claims, hold-claims}
 use Rattle.index_rules.proofs.Inserting.{insert-claims}
 use Rattle.index_rules.proofs.Removing.{remove-claims}
+use Rattle.index_rules.proofs.Replacing.{replace-claims}
 use Rattle.index_rules.proofs.Rolling.{rollback-claims}
 use Rattle.index_rules.proofs.Freshing.{freshes-claims}
 use Rattle.index_rules.proofs.Demanding.{demand-three}
@@ -19,6 +20,7 @@ claims =
       holds = hold-claims;
       insert = insert-claims;
       remove = remove-claims;
+      replace = replace-claims;
       rollback = rollback-claims;
       fresh = freshes-claims;
       demand3 = λ ix fit h words calls allowed. demand-three ix h fit words calls allowed;

@@ -1,5 +1,5 @@
 -- Demand 3: after any calls the lines from the mark up fit, and undoing them leaves what the tree held at the mark.
--- An accepted insert or remove appends a line that takes it back, a rollback undoes the last of them, and a refused call changes nothing.
+-- An accepted insert, remove or replace appends a line that takes it back, a rollback undoes the last of them, and a refused call changes nothing.
 use mathlib.Core.Path.{_≡_, refl, ap, sym, _∙_, subst}
 use mathlib.Core.Logic.{_≢_, _⊎_, inl, inr}
 use mathlib.Core.List.{List, [], _∷_}
@@ -16,17 +16,19 @@ use Rattle.index_rules.specs.Sound.{Sound}
 use Rattle.index_rules.specs.Index.{Index, FitIndex, lengthOf, lineWord, at, kindWord, hashWord, keyWord, placeWord}
 use Rattle.index_rules.specs.Insert.{inserts}
 use Rattle.index_rules.specs.Remove.{removes}
+use Rattle.index_rules.specs.Replace.{replaces}
 use Rattle.index_rules.specs.Rollback.{rolls}
-use Rattle.index_rules.specs.Contents.{Entry, entry, entryOf, contents, put, without, In, Lacks}
-use Rattle.index_rules.specs.Undoing.{lineEntry, Undoes, back, insertLine, removeLine}
-use Rattle.index_rules.specs.Calls.{Call, insertCall, removeCall, rollbackCall, after, Allowed, nothing, inserting, removing, rolling, Places, OneLine, BackTo}
+use Rattle.index_rules.specs.Contents.{Entry, entry, entryOf, contents, put, without, withPlace, In, Lacks}
+use Rattle.index_rules.specs.Undoing.{lineEntry, Undoes, back, insertLine, removeLine, replaceLine}
+use Rattle.index_rules.specs.Calls.{Call, insertCall, removeCall, replaceCall, rollbackCall, after, Allowed, nothing, inserting, removing, replacing, rolling, Places, OneLine, BackTo}
 use Rattle.index_rules.specs.Claims.{Demand3}
-use Rattle.index_rules.proofs.Listing.{ascends-map, in-put, without-put, put-all, without-in, lacks-without, put-without, length-without}
+use Rattle.index_rules.proofs.Listing.{ascends-map, in-put, without-put, put-all, without-in, lacks-without, put-without, length-without, with-all, in-with, with-again}
 use Rattle.index_rules.proofs.Undoing.{undoes-one, undoes-cut, SameLine, undoes-frame}
 use Rattle.index_rules.proofs.Holding.{stands-in, lacks-of}
 use Rattle.index_rules.proofs.Unrolling.{tree-one, contents-most}
 use Rattle.index_rules.proofs.Inserting.{insert-claims, insert-settled}
 use Rattle.index_rules.proofs.Removing.{remove-claims, remove-settled}
+use Rattle.index_rules.proofs.Replacing.{replace-claims, replace-settled}
 use Rattle.index_rules.proofs.Rolling.{rollback-claims, rollback-settled}
 
 -- Undoing leaves 32-bit places.
@@ -34,6 +36,8 @@ undoes-places : {n m k : ℕ} {lines : List ℕ} {l l′ : List Entry} → Undoe
 undoes-places (back e) p = p
 undoes-places {lines = lines} (insertLine {k} {l} h q i u) p = undoes-places u (λ e j. p e (without-in (lineWord lines k hashWord) (lineWord lines k keyWord) l e j))
 undoes-places {lines = lines} (removeLine {k} {l} h q i f w u) p = undoes-places u (put-all (λ (e : Entry). e .at < 4294967296) (lineEntry lines k) l w p)
+undoes-places {lines = lines} (replaceLine {k} {new} {old} {l} h q w a b i u) p =
+    undoes-places u (with-all (λ (e : Entry). e .at < 4294967296) (lineWord lines k hashWord) (lineWord lines k keyWord) old l b p)
 
 -- A line more leaves the lines below as they were.
 line-same : {lines lines′ : List ℕ} {kind hash key p : ℕ} → OneLine lines lines′ kind hash key p → (k : ℕ) → k < lengthOf lines → SameLine lines lines′ k
@@ -105,7 +109,7 @@ module _ (ix : Index) (h : Sound (ix .live)) where
   remove-good : (jx : Index) (hash key : ℕ) → Good jx → (x : ℕ) → removes jx hash key .answer ≡ given x → Good (removes jx hash key .left)
   remove-good jx hash key g x q =
       let claim = remove-claims jx hash key in
-      let r = claim .accepted x .0 q in
+      let r = claim .asks .accepted x .0 q in
       let d = claim .done x q (g .sound) in
       let s = d .0 in
       let o = d .4 in
@@ -135,6 +139,39 @@ module _ (ix : Index) (h : Sound (ix .live)) where
         kept = λ j a b. o .below j a (omega (arith, g .above)) ∙ g .kept j a b;
         undoes = subst (λ (i : ℕ). Undoes slotCount lines′ mark i (contents s) (contents h)) (sym len) all;
         places = subst (λ (l : List Entry). Places l) (sym (d .2)) (λ e j. g .places e (without-in hash key (contents (g .sound)) e j));
+      }
+
+  replace-good : (jx : Index) (hash key p : ℕ) → p < 4294967296 → Good jx → (x : ℕ) → replaces jx hash key p .answer ≡ given x → Good (replaces jx hash key p .left)
+  replace-good jx hash key p small g x q =
+      let claim = replace-claims jx hash key p in
+      let r = claim .asks .accepted x .0 q in
+      let d = claim .done x q (g .sound) in
+      let s = d .0 in
+      let o = d .5 in
+      let old = cell (jx .live .cells) x place in
+      let stands : Stands x (g .sound .tree) = subst (λ (u : Tree). Stands x u) (tree-one (g .fit .tree) (r .1 .0) (g .sound)) (r .1 .1) in
+      let is : entryOf (jx .live) x ≡ entry hash key old = λ i. entry (r .1 .2 i .hash) (r .1 .2 i .key) old in
+      let was : In (entry hash key old) (contents (g .sound)) = subst (λ (e : Entry). In e (contents (g .sound))) is (stands-in (g .sound) x stands) in
+      let rises = ascends-map (jx .live) (g .sound .t4) in
+      let lines′ = replaces jx hash key p .left .lines in
+      let k = lengthOf (jx .lines) in
+      let here : In (entry (lineWord lines′ k hashWord) (lineWord lines′ k keyWord) p) (contents s) =
+      rw (o .hashes, o .keys, d .2) (in-with (entry hash key old) (contents (g .sound)) rises was p) in
+      let again : withPlace (lineWord lines′ k hashWord) (lineWord lines′ k keyWord) old (contents s) ≡ contents (g .sound) =
+      rw (o .hashes, o .keys, d .2) (with-again (entry hash key old) (contents (g .sound)) rises was p) in
+      let older : Undoes slotCount lines′ mark k (contents (g .sound)) (contents h) = undoes-frame lines′ (λ j a b. line-same o j b) (g .undoes) in
+      let all : Undoes slotCount lines′ mark (suc k) (contents s) (contents h) =
+      replaceLine (g .above) (o .kinds) (o .places) small (g .places (entry hash key old) was) here
+      (subst (λ (l : List Entry). Undoes slotCount lines′ mark k l (contents h)) (sym again) older) in
+      let len : lengthOf lines′ ≡ suc k = o .count ∙ add-one k in
+      record {
+        fit = d .1;
+        sound = s;
+        capacity = d .6 ∙ g .capacity;
+        above = omega (arith, o .count, g .above);
+        kept = λ j a b. o .below j a (omega (arith, g .above)) ∙ g .kept j a b;
+        undoes = subst (λ (i : ℕ). Undoes slotCount lines′ mark i (contents s) (contents h)) (sym len) all;
+        places = subst (λ (l : List Entry). Places l) (sym (d .2)) (with-all (λ (e : Entry). e .at < 4294967296) hash key p (contents (g .sound)) small (g .places));
       }
 
   -- A rollback to a mark above: the lines above it are undone, and the rest still fit.
@@ -175,8 +212,13 @@ module _ (ix : Index) (h : Sound (ix .live)) where
   calls-good (removeCall hash key ∷ cs) (removing a) jx g = calls-good cs a (removes jx hash key .left) (go (remove-settled jx hash key))
     where
       go : (removes jx hash key .answer .number ≢ 0) ⊎ ((x : ℕ) × (removes jx hash key .answer ≡ given x)) → Good (removes jx hash key .left)
-      go (inl n) = stay (remove-claims jx hash key .nothing-written n) g
+      go (inl n) = stay (remove-claims jx hash key .asks .nothing-written n) g
       go (inr r) = remove-good jx hash key g (r .0) (r .1)
+  calls-good (replaceCall hash key p ∷ cs) (replacing small a) jx g = calls-good cs a (replaces jx hash key p .left) (go (replace-settled jx hash key p))
+    where
+      go : (replaces jx hash key p .answer .number ≢ 0) ⊎ ((x : ℕ) × (replaces jx hash key p .answer ≡ given x)) → Good (replaces jx hash key p .left)
+      go (inl n) = stay (replace-claims jx hash key p .asks .nothing-written n) g
+      go (inr r) = replace-good jx hash key p small g (r .0) (r .1)
   calls-good (rollbackCall m ∷ cs) (rolling w a) jx g = calls-good cs a (rolls jx m .left) (go (rollback-settled jx m))
     where
       go : (rolls jx m .answer .number ≢ 0) ⊎ ((c : ℕ) × (rolls jx m .answer ≡ given c)) → Good (rolls jx m .left)

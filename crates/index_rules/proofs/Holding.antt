@@ -25,13 +25,13 @@ map-append t [] b = refl
 map-append t (x ∷ a) b = ap (λ (l : List Entry). entryOf t x ∷ l) (map-append t a b)
 
 -- An entry is its pair and its place.
-entry-is : (t u : Live) (k : ℕ) → pairOf (u .names) k ≡ pairOf (t .names) k → cell (u .cells) k place ≡ cell (t .cells) k place → entryOf u k ≡ entryOf t k
+pub entry-is : (t u : Live) (k : ℕ) → pairOf (u .names) k ≡ pairOf (t .names) k → cell (u .cells) k place ≡ cell (t .cells) k place → entryOf u k ≡ entryOf t k
 entry-is t u k e f = λ i. entry (e i .hash) (e i .key) (f i)
 
-entry-as : (u : Live) (k hash key p : ℕ) → pairOf (u .names) k ≡ pair hash key → cell (u .cells) k place ≡ p → entryOf u k ≡ entry hash key p
+pub entry-as : (u : Live) (k hash key p : ℕ) → pairOf (u .names) k ≡ pair hash key → cell (u .cells) k place ≡ p → entryOf u k ≡ entry hash key p
 entry-as u k hash key p e f = λ i. entry (e i .hash) (e i .key) (f i)
 
-map-same : (t u : Live) (l : List ℕ) → ((k : ℕ) → 1 ≤ times k l → Alike t u k) → map (entryOf u) l ≡ map (entryOf t) l
+pub map-same : (t u : Live) (l : List ℕ) → ((k : ℕ) → 1 ≤ times k l → Alike t u k) → map (entryOf u) l ≡ map (entryOf t) l
 map-same t u [] h = refl
 map-same t u (x ∷ l) h =
     let k = h x (omega (arith, times-head x l)) in

@@ -14,9 +14,12 @@ pub mod Listing
 pub mod Undoing
 pub mod Journal
 pub mod Holding
+pub mod Placing
 pub mod Unrolling
 pub mod Inserting
+pub mod Present
 pub mod Removing
+pub mod Replacing
 pub mod Rolling
 pub mod Freshing
 pub mod Demanding

@@ -13,7 +13,7 @@ use Rattle.slots.specs.Pairs.{Pair, pair, pairOf, Less, before}
 use Rattle.slots.proofs.Order.{less-irreflexive, less-transitive, before-less}
 use Rattle.tree_rules.specs.Tree.{Below, Rising}
 use Rattle.index_rules.specs.Live.{Live}
-use Rattle.index_rules.specs.Contents.{Entry, entryOf, put, isPair, without, In, first, later, Lacks, empty, other}
+use Rattle.index_rules.specs.Contents.{Entry, entry, entryOf, put, isPair, without, withPlace, In, first, later, Lacks, empty, other}
 
 abbrev pub pairIn : Entry → Pair
 pairIn e = pair (e .hash) (e .key)
@@ -93,6 +93,17 @@ pub without-at : (e : Entry) (a b : List Entry) → Ascends (a ++ (e ∷ b)) →
 unfolding without
 without-at e [] b r = rw (is-pair (e .hash) (e .key) e refl refl)
 without-at e (x ∷ a) b (step h r) = rw (not-pair (e .hash) (e .key) x (less-other e x (above-mid e a b h))) (ap (λ (l : List Entry). x ∷ l) (without-at e a b r))
+
+-- To give its pair another place.
+lower-lacks : (e : Entry) (a b : List Entry) → Ascends (a ++ (e ∷ b)) → Lacks (e .hash) (e .key) a
+lower-lacks e [] b r = empty
+lower-lacks e (x ∷ a) b (step h r) = other (less-other e x (above-mid e a b h)) (lower-lacks e a b r)
+
+with-at : (e : Entry) (p : ℕ) (a b : List Entry) → Lacks (e .hash) (e .key) a
+    → withPlace (e .hash) (e .key) p (a ++ (e ∷ b)) ≡ a ++ (entry (e .hash) (e .key) p ∷ b)
+unfolding withPlace
+with-at e p [] b n = rw (is-pair (e .hash) (e .key) e refl refl)
+with-at e p (x ∷ a) b (other n k) = rw (not-pair (e .hash) (e .key) x n) (ap (λ (l : List Entry). x ∷ l) (with-at e p a b k))
 
 pub in-at : (e : Entry) (a b : List Entry) → In e (a ++ (e ∷ b))
 in-at e [] b = first
@@ -181,6 +192,24 @@ without-in hash key (y ∷ l) x i = go (isPair hash key y) i (λ j. without-in h
     go true j again = later j
     go false j again = rest again (in-case j y (without hash key l) refl)
 
+pub with-all : (P : Entry → Type 0) (hash key p : ℕ) (l : List Entry) → P (entry hash key p) → ((x : Entry) → In x l → P x)
+    → (x : Entry) → In x (withPlace hash key p l) → P x
+unfolding withPlace
+with-all P hash key p [] q h x i = h x i
+with-all P hash key p (y ∷ l) q h x i = go (isPair hash key y) i (λ j. with-all P hash key p l q (λ z w. h z (later w)) x j)
+  where
+    head : (x ≡ entry hash key p) ⊎ In x l → P x
+    head (inl e) = rw e q
+    head (inr j) = h x (later j)
+
+    rest : (In x (withPlace hash key p l) → P x) → (x ≡ y) ⊎ In x (withPlace hash key p l) → P x
+    rest again (inl e) = h x (subst (λ (r : Entry). In r (y ∷ l)) (sym e) first)
+    rest again (inr j) = again j
+
+    go : (b : Bool) → In x (pick b (entry hash key p ∷ l) (y ∷ withPlace hash key p l)) → (In x (withPlace hash key p l) → P x) → P x
+    go true j again = head (in-case j (entry hash key p) l refl)
+    go false j again = rest again (in-case j y (withPlace hash key p l) refl)
+
 -- To take an entry of a rising list out: its pair is gone, and to put it back gives the list again.
 module _ (e : Entry) (l : List Entry) (r : Ascends l) (i : In e l) where
   split-at : Placed e l
@@ -201,6 +230,20 @@ module _ (e : Entry) (l : List Entry) (r : Ascends l) (i : In e l) where
   pub length-without : suc (length (without (e .hash) (e .key) l)) ≡ length l
   length-without =
       omega (arith, ap length less, ap length (split-at .is), length-append (split-at .lower) (split-at .upper), length-append (split-at .lower) (e ∷ split-at .upper))
+
+  -- To give its pair another place: it is there with that one, and to give it its own again gives the list back.
+  moves : (p : ℕ) → withPlace (e .hash) (e .key) p l ≡ split-at .lower ++ (entry (e .hash) (e .key) p ∷ split-at .upper)
+  moves p =
+      ap (withPlace (e .hash) (e .key) p) (split-at .is) ∙ with-at e p (split-at .lower) (split-at .upper) (lower-lacks e (split-at .lower) (split-at .upper) rises)
+
+  pub in-with : (p : ℕ) → In (entry (e .hash) (e .key) p) (withPlace (e .hash) (e .key) p l)
+  in-with p = rw (moves p) (in-at (entry (e .hash) (e .key) p) (split-at .lower) (split-at .upper))
+
+  pub with-again : (p : ℕ) → withPlace (e .hash) (e .key) (e .at) (withPlace (e .hash) (e .key) p l) ≡ l
+  with-again p =
+      ap (withPlace (e .hash) (e .key) (e .at)) (moves p)
+      ∙ with-at (entry (e .hash) (e .key) p) (e .at) (split-at .lower) (split-at .upper) (lower-lacks e (split-at .lower) (split-at .upper) rises)
+      ∙ sym (split-at .is)
 
 -- Two rising lists with the same entries are one list.
 above-in : {e x : Entry} {l : List Entry} → Above e l → In x l → Less (pairIn e) (pairIn x)

@@ -1,233 +1,69 @@
--- remove, by cases: the tests in the rules' order settle which, and each answer is given in one of them only.
-use mathlib.Core.Path.{_≡_, refl, ap, sym, _∙_, subst}
-use mathlib.Core.Logic.{_≢_, _⊎_, inl, inr}
-use mathlib.Core.Bool.{Bool, true, false, false≢true}
+-- remove: the slot that has the pair leaves, and a line of kind 2 says so.
+use mathlib.Core.Path.{_≡_, ap, sym, _∙_, subst}
+use mathlib.Core.Logic.{_≢_, _⊎_}
 use Prim.Native.Nat.{ℕ, _<_}
-use native.Mathlib.Decide.{ℕ-discrete}
 use native.Mathlib.Omega.{arith}
 use lib.ListN.{length}
-use borrow.Author.Tests.{eq-eqb, ne-eqb}
 use Rattle.slots.specs.Words.{place, cell}
 use Rattle.slots.specs.Pairs.{Pair, pair, pairOf}
-use Rattle.slots.specs.Answers.{Answer, some, none, given, refused}
-use Rattle.slots.proofs.Laws.{number}
+use Rattle.slots.specs.Answers.{given}
 use Rattle.tree_rules.specs.Tree.{Tree}
 use Rattle.redblack.specs.Balance.{OneFewer}
-use Rattle.redblack.specs.Holding.{Has, Stands}
-use Rattle.index_rules.specs.Sound.{Sound, sound}
-use Rattle.index_rules.specs.Index.{Index, FitIndex, Outcome, outcome, fitsIndex, lengthOf, linesOf, at}
-use Rattle.index_rules.specs.Insert.{soughtIn}
-use Rattle.index_rules.specs.Remove.{removes}
+use Rattle.redblack.specs.Holding.{Stands}
+use Rattle.index_rules.specs.Sound.{Sound}
+use Rattle.index_rules.specs.Index.{Index, FitIndex, lengthOf, linesOf, at}
+use Rattle.index_rules.specs.Remove.{afterRemove, removes}
 use Rattle.index_rules.specs.Contents.{contents, without}
 use Rattle.index_rules.specs.Calls.{Frees, OneLine}
 use Rattle.index_rules.specs.Claims.{Removes}
-use Rattle.index_rules.proofs.Sounding.{sound-yes, yes-sound, unsound}
-use Rattle.index_rules.proofs.Journal.{fits-index, index-fits, lines-capacity, one-line}
+use Rattle.index_rules.proofs.Journal.{lines-capacity, one-line}
 use Rattle.index_rules.proofs.Shrinking.{shrunk-fit, shrunk-sound}
-use Rattle.index_rules.proofs.Deciding.{Seen, there, absent, seen}
 use Rattle.index_rules.proofs.Holding.{shrunk-contents}
 use Rattle.index_rules.proofs.Unrolling.{tree-one, shrunk-capacity}
-use Rattle.index_rules.proofs.Inserting.{value-inj, unfit-false, unsound-false, sought-at, sought-none}
+use Rattle.index_rules.proofs.Present.{asks-present, present-left, present-settled}
 use Rattle.tree_rules.specs.Find.{slotsOf}
 
 module _ (ix : Index) (hash key : ℕ) where
   -- What an accepted removal leaves, of the very tree h.
-  Leaves : Sound (ix .live) → ℕ → Outcome → Type 0
-  Leaves h x o =
-      (g : Sound (o .left .live)) × FitIndex (o .left) × (contents g ≡ without hash key (contents h)) × OneFewer x (h .chain) (g .chain)
-      × OneLine (ix .lines) (o .left .lines) 2 hash key (cell (ix .live .cells) x place)
-      × (slotsOf (o .left .live .names) ≡ slotsOf (ix .live .names)) × Frees (ix .live) (o .left .live) x
+  Leaves : Sound (ix .live) → ℕ → Index → Type 0
+  Leaves h x jx =
+      (g : Sound (jx .live)) × FitIndex jx × (contents g ≡ without hash key (contents h)) × OneFewer x (h .chain) (g .chain)
+      × OneLine (ix .lines) (jx .lines) 2 hash key (cell (ix .live .cells) x place) × (slotsOf (jx .live .names) ≡ slotsOf (ix .live .names))
+      × Frees (ix .live) (jx .live) x
 
-  unfit-one : fitsIndex ix ≡ false → removes ix hash key ≡ outcome (refused 1) ix
-  unfolding removes
-  unfit-one e = rw e
-
-  damaged-two : fitsIndex ix ≡ true → sound (ix .live) ≡ false → removes ix hash key ≡ outcome (refused 2) ix
-  unfolding removes
-  damaged-two e f = rw (e, f)
-
-  module _ (e : fitsIndex ix ≡ true) (f : sound (ix .live) ≡ true) where
-    absent-four : soughtIn (ix .live) hash key ≡ none → removes ix hash key ≡ outcome (refused 4) ix
-    unfolding removes
-    absent-four s = rw (e, f, s)
-
-    module _ (x : ℕ) (s : soughtIn (ix .live) hash key ≡ some x) where
-      no-line-six : lengthOf (ix .lines) ≡ linesOf (ix .lines) → removes ix hash key ≡ outcome (refused 6) ix
-      unfolding removes
-      no-line-six l = rw (e, f, s, eq-eqb (lengthOf (ix .lines)) (linesOf (ix .lines)) l)
-
-      module _ (l : lengthOf (ix .lines) ≢ linesOf (ix .lines)) where
-        done-given : removes ix hash key .answer ≡ given x
-        unfolding removes
-        done-given = rw (e, f, s, ne-eqb (lengthOf (ix .lines)) (linesOf (ix .lines)) l)
-
-        done-leaves : FitIndex ix → (h : Sound (ix .live)) → Stands x (h .tree) → pairOf (ix .live .names) x ≡ pair hash key
-            → Leaves h x (removes ix hash key)
-        unfolding removes Leaves
-        done-leaves fit h z n =
-            let room : at (lengthOf (ix .lines)) 3 < length (ix .lines) = omega (arith, fit .within, fit .four, lines-capacity fit) in
-            let g = shrunk-sound (fit .tree) h x z in
-            let j = one-line (ix .lines) 2 hash key (cell (ix .live .cells) x place) room in
-            rw (e, f, s, ne-eqb (lengthOf (ix .lines)) (linesOf (ix .lines)) l) (
-              g .sound,
-              record {
-                tree = shrunk-fit (fit .tree) h x z;
-                capacity = fit .capacity;
-                most = fit .most;
-                four = j .long ∙ fit .four;
-                within = omega (arith, j .count, fit .within, lines-capacity fit);
-              },
-              shrunk-contents g ∙ ap (λ (r : Pair). without (r .hash) (r .key) (contents h)) n,
-              g .chain,
-              j,
-              shrunk-capacity (ix .live) x,
-              g .frees,
-            )
-
-  -- The case that the tests come to, with what it says.
-  data Did : Type 0 where
-    one : (FitIndex ix → ⊥) → removes ix hash key ≡ outcome (refused 1) ix → Did
-    two : FitIndex ix → (Sound (ix .live) → ⊥) → removes ix hash key ≡ outcome (refused 2) ix → Did
-    four : FitIndex ix → (h : Sound (ix .live)) → (Has (ix .live .names) (h .tree) hash key → ⊥) → removes ix hash key ≡ outcome (refused 4) ix → Did
-    six : FitIndex ix → (h : Sound (ix .live)) (x : ℕ) → Stands x (h .tree) → pairOf (ix .live .names) x ≡ pair hash key → lengthOf (ix .lines) ≡ linesOf (ix .lines)
-        → removes ix hash key ≡ outcome (refused 6) ix → Did
-    taken : FitIndex ix → (h : Sound (ix .live)) (x : ℕ) → Stands x (h .tree) → pairOf (ix .live .names) x ≡ pair hash key → lengthOf (ix .lines) ≢ linesOf (ix .lines)
-        → removes ix hash key .answer ≡ given x → ((h : Sound (ix .live)) → Stands x (h .tree) → Leaves h x (removes ix hash key)) → Did
-
-  did : Did
-  did = go (fitsIndex ix) refl (sound (ix .live)) refl
-    where
-      line : (f : FitIndex ix) (e : fitsIndex ix ≡ true) (s : sound (ix .live) ≡ true) (h : Sound (ix .live)) (x : ℕ) → Stands x (h .tree) → pairOf (ix .live .names) x ≡ pair hash key
-          → soughtIn (ix .live) hash key ≡ some x → Dec (lengthOf (ix .lines) ≡ linesOf (ix .lines)) → Did
-      line f e s h x z n q (yes l) = six f h x z n l (no-line-six e s x q l)
-      line f e s h x z n q (no l) = taken f h x z n l (done-given e s x q l) (λ k w. done-leaves e s x q l f k w n)
-
-      look : (f : FitIndex ix) (e : fitsIndex ix ≡ true) (s : sound (ix .live) ≡ true) (h : Sound (ix .live)) → Seen h hash key → Did
-      look f e s h (there x z n q) = line f e s h x z n q (ℕ-discrete (lengthOf (ix .lines)) (linesOf (ix .lines)))
-      look f e s h (absent n q) = four f h n (absent-four e s q)
-
-      go : (a : Bool) → fitsIndex ix ≡ a → (b : Bool) → sound (ix .live) ≡ b → Did
-      go false e b s = one (λ f. false≢true (sym e ∙ index-fits ix f)) (unfit-one e)
-      go true e false s = let f = fits-index ix e in two f (unsound (f .tree) s) (damaged-two e s)
-      go true e true s = let f = fits-index ix e in let h = yes-sound (f .tree) s in look f e s h (seen (f .tree) h hash key)
-
-  answer : {o : Outcome} → removes ix hash key ≡ o → removes ix hash key .answer ≡ o .answer
-  answer e = ap (λ (o : Outcome). o .answer) e
-
-  -- An answer given in another case is none.
-  clash : {a : Answer} {o : Outcome} → removes ix hash key ≡ o → removes ix hash key .answer ≡ a → a .number ≡ o .answer .number
-  clash e q = number (sym q ∙ answer e)
-
-  one-then : removes ix hash key .answer ≡ refused 1 → FitIndex ix → ⊥
-  one-then q = go did
-    where
-      go : Did → FitIndex ix → ⊥
-      go (one n e) = n
-      go (two f n e) = absurd (omega (arith, clash e q))
-      go (four f h n e) = absurd (omega (arith, clash e q))
-      go (six f h y z n l e) = absurd (omega (arith, clash e q))
-      go (taken f h y z n l e r) = absurd (omega (arith, number (sym q ∙ e)))
-
-  two-then : removes ix hash key .answer ≡ refused 2 → FitIndex ix × (Sound (ix .live) → ⊥)
-  two-then q = go did
-    where
-      go : Did → FitIndex ix × (Sound (ix .live) → ⊥)
-      go (one n e) = absurd (omega (arith, clash e q))
-      go (two f n e) = (f, n)
-      go (four f h n e) = absurd (omega (arith, clash e q))
-      go (six f h y z n l e) = absurd (omega (arith, clash e q))
-      go (taken f h y z n l e r) = absurd (omega (arith, number (sym q ∙ e)))
-
-  four-then : removes ix hash key .answer ≡ refused 4 → FitIndex ix × ((h : Sound (ix .live)) × (Has (ix .live .names) (h .tree) hash key → ⊥))
-  four-then q = go did
-    where
-      go : Did → FitIndex ix × ((h : Sound (ix .live)) × (Has (ix .live .names) (h .tree) hash key → ⊥))
-      go (one n e) = absurd (omega (arith, clash e q))
-      go (two f n e) = absurd (omega (arith, clash e q))
-      go (four f h n e) = (f, (h, n))
-      go (six f h y z n l e) = absurd (omega (arith, clash e q))
-      go (taken f h y z n l e r) = absurd (omega (arith, number (sym q ∙ e)))
-
-  six-then : removes ix hash key .answer ≡ refused 6
-      → FitIndex ix × ((h : Sound (ix .live)) × Has (ix .live .names) (h .tree) hash key × (lengthOf (ix .lines) ≡ linesOf (ix .lines)))
-  six-then q = go did
-    where
-      go : Did → FitIndex ix × ((h : Sound (ix .live)) × Has (ix .live .names) (h .tree) hash key × (lengthOf (ix .lines) ≡ linesOf (ix .lines)))
-      go (one n e) = absurd (omega (arith, clash e q))
-      go (two f n e) = absurd (omega (arith, clash e q))
-      go (four f h n e) = absurd (omega (arith, clash e q))
-      go (six f h y z n l e) = (f, (h, record { slot = y; stands = z; named = n }, l))
-      go (taken f h y z n l e r) = absurd (omega (arith, number (sym q ∙ e)))
-
-  given-then : (x : ℕ) → removes ix hash key .answer ≡ given x
-      → FitIndex ix × ((h : Sound (ix .live)) × Stands x (h .tree) × (pairOf (ix .live .names) x ≡ pair hash key) × (lengthOf (ix .lines) < linesOf (ix .lines)))
-  given-then x q = go did
-    where
-      go : Did → FitIndex ix × ((h : Sound (ix .live)) × Stands x (h .tree) × (pairOf (ix .live .names) x ≡ pair hash key) × (lengthOf (ix .lines) < linesOf (ix .lines)))
-      go (one n e) = absurd (omega (arith, clash e q))
-      go (two f n e) = absurd (omega (arith, clash e q))
-      go (four f h n e) = absurd (omega (arith, clash e q))
-      go (six f h y z n l e) = absurd (omega (arith, clash e q))
-      go (taken f h y z n l e r) =
-          let w : y ≡ x = value-inj (sym e ∙ q) refl refl in
-          let named = subst (λ (k : ℕ). pairOf (ix .live .names) k ≡ pair hash key) w n in
-          (f, (h, subst (λ (k : ℕ). Stands k (h .tree)) w z, named, omega (arith, f .within, lines-capacity f)))
-
-  nothing-written : removes ix hash key .answer .number ≢ 0 → removes ix hash key .left ≡ ix
-  nothing-written q = go did
-    where
-      left : {o : Outcome} → removes ix hash key ≡ o → removes ix hash key .left ≡ o .left
-      left e = ap (λ (o : Outcome). o .left) e
-
-      go : Did → removes ix hash key .left ≡ ix
-      go (one n e) = left e
-      go (two f n e) = left e
-      go (four f h n e) = left e
-      go (six f h y z n l e) = left e
-      go (taken f h y z n l e r) = absurd (q (number e))
-
-  done : (x : ℕ) → removes ix hash key .answer ≡ given x → (h : Sound (ix .live)) → Leaves h x (removes ix hash key)
-  unfolding Leaves
-  done x q h = go did
-    where
-      go : Did → Leaves h x (removes ix hash key)
-      go (one n e) = absurd (omega (arith, clash e q))
-      go (two f n e) = absurd (omega (arith, clash e q))
-      go (four f h n e) = absurd (omega (arith, clash e q))
-      go (six f h y z n l e) = absurd (omega (arith, clash e q))
-      go (taken f k y z n l e r) =
-          subst (λ (i : ℕ). Leaves h i (removes ix hash key)) (value-inj (sym e ∙ q) refl refl)
-          (r h (subst (λ (u : Tree). Stands y u) (tree-one (f .tree) k h) z))
+  leaves : FitIndex ix → (h : Sound (ix .live)) (x : ℕ) → Stands x (h .tree) → pairOf (ix .live .names) x ≡ pair hash key
+      → lengthOf (ix .lines) < linesOf (ix .lines) → Leaves h x (afterRemove ix hash key x)
+  unfolding Leaves afterRemove
+  leaves fit h x z n l =
+      let room : at (lengthOf (ix .lines)) 3 < length (ix .lines) = omega (arith, fit .within, fit .four, lines-capacity fit) in
+      let g = shrunk-sound (fit .tree) h x z in
+      let j = one-line (ix .lines) 2 hash key (cell (ix .live .cells) x place) room in (
+        g .sound,
+        record {
+          tree = shrunk-fit (fit .tree) h x z;
+          capacity = fit .capacity;
+          most = fit .most;
+          four = j .long ∙ fit .four;
+          within = omega (arith, j .count, fit .within, lines-capacity fit);
+        },
+        shrunk-contents g ∙ ap (λ (r : Pair). without (r .hash) (r .key) (contents h)) n,
+        g .chain,
+        j,
+        shrunk-capacity (ix .live) x,
+        g .frees,
+      )
 
   pub remove-claims : Removes ix hash key
-  unfolding Leaves
-  remove-claims =
-      record {
-        one = (one-then, λ n. answer (unfit-one (unfit-false ix n)));
-        two = (two-then, λ r. answer (damaged-two (index-fits ix (r .0)) (unsound-false ix (r .0) (r .1))));
-        four = (four-then, λ r. (let h = r .1 .0 in answer (absent-four (index-fits ix (r .0)) (sound-yes (r .0 .tree) h) (sought-none (r .0 .tree) h hash key (r .1 .1)))));
-        six = (
-          six-then,
-          λ r. (let h = r .1 .0 in let a = r .1 .1 in
-              answer (no-line-six (index-fits ix (r .0)) (sound-yes (r .0 .tree) h) (a .slot) (sought-at (r .0 .tree) h hash key (a .slot) (a .stands) (a .named)) (r .1 .2))),
-        );
-        accepted = λ x. (
-          given-then x,
-          λ r. (let h = r .1 .0 in
-              done-given (index-fits ix (r .0)) (sound-yes (r .0 .tree) h) x (sought-at (r .0 .tree) h hash key x (r .1 .1) (r .1 .2))
-              (omega (arith, r .1 .3))),
-        );
-        nothing-written = nothing-written;
-        done = done;
-      }
+  unfolding removes Leaves
+  remove-claims = record { asks = asks-present ix hash key (afterRemove ix hash key); done = done }
+    where
+      done : (x : ℕ) → removes ix hash key .answer ≡ given x → (h : Sound (ix .live)) → Leaves h x (removes ix hash key .left)
+      done x q h =
+          let r = asks-present ix hash key (afterRemove ix hash key) .accepted x .0 q in
+          let z = subst (λ (u : Tree). Stands x u) (tree-one (r .0 .tree) (r .1 .0) h) (r .1 .1) in
+          subst (Leaves h x) (sym (present-left ix hash key (afterRemove ix hash key) x q)) (leaves (r .0) h x z (r .1 .2) (r .1 .3))
 
   -- Refused, or given a slot.
   pub remove-settled : (removes ix hash key .answer .number ≢ 0) ⊎ ((x : ℕ) × (removes ix hash key .answer ≡ given x))
-  remove-settled = go did
-    where
-      go : Did → (removes ix hash key .answer .number ≢ 0) ⊎ ((x : ℕ) × (removes ix hash key .answer ≡ given x))
-      go (one n e) = inl (λ q. omega (arith, number (answer e)))
-      go (two f n e) = inl (λ q. omega (arith, number (answer e)))
-      go (four f h n e) = inl (λ q. omega (arith, number (answer e)))
-      go (six f h y z n l e) = inl (λ q. omega (arith, number (answer e)))
-      go (taken f h y z n l e r) = inr (y, e)
+  unfolding removes
+  remove-settled = present-settled ix hash key (afterRemove ix hash key)

@@ -2,14 +2,15 @@
 use mathlib.Core.Path.{_≡_}
 use mathlib.Core.List.{List, [], _∷_}
 use mathlib.Core.Logic.{_≢_}
-use Prim.Native.Nat.{ℕ, _+_, _<_, _≤_}
+use Prim.Native.Nat.{ℕ, _+_, _*_, _<_, _≤_}
 use lib.ListN.{length, getD}
-use Rattle.slots.specs.Words.{place, state, free, cell}
+use Rattle.slots.specs.Words.{place, state, free, fields, cell}
 use Rattle.slots.specs.Pairs.{pair, pairOf}
 use Rattle.index_rules.specs.Live.{Live}
 use Rattle.index_rules.specs.Index.{Index, Outcome, lengthOf, lineWord, at, kindWord, hashWord, keyWord, placeWord}
 use Rattle.index_rules.specs.Insert.{inserts}
 use Rattle.index_rules.specs.Remove.{removes}
+use Rattle.index_rules.specs.Replace.{replaces}
 use Rattle.index_rules.specs.Rollback.{rolls}
 use Rattle.index_rules.specs.Contents.{Entry, In}
 use Rattle.tree_rules.specs.Find.{slotsOf}
@@ -17,14 +18,17 @@ use Rattle.tree_rules.specs.Find.{slotsOf}
 pub data Call : Type 0 where
   insertCall : ℕ → ℕ → ℕ → Call
   removeCall : ℕ → ℕ → Call
+  replaceCall : ℕ → ℕ → ℕ → Call
   rollbackCall : ℕ → Call
 
 abbrev pub called : Call → Index → Outcome
 called (insertCall hash key p) ix = inserts ix hash key p
 called (removeCall hash key) ix = removes ix hash key
+called (replaceCall hash key p) ix = replaces ix hash key p
 called (rollbackCall m) ix = rolls ix m
 
--- "Make any inserts and removes on them, refused ones too, and rollbacks to that mark or later ones": what is left of the two.
+-- "Make any inserts and removes on them, refused ones too, and rollbacks to that mark or later ones", and "allows replaces among the calls":
+-- what is left of the two.
 unfoldable pub after : List Call → Index → Index
 after [] ix = ix
 after (c ∷ cs) ix = after cs (called c ix .left)
@@ -34,6 +38,7 @@ pub data Allowed (m : ℕ) : List Call → Type 0 where
   nothing : Allowed m []
   inserting : {hash key p : ℕ} {cs : List Call} → p < 4294967296 → Allowed m cs → Allowed m (insertCall hash key p ∷ cs)
   removing : {hash key : ℕ} {cs : List Call} → Allowed m cs → Allowed m (removeCall hash key ∷ cs)
+  replacing : {hash key p : ℕ} {cs : List Call} → p < 4294967296 → Allowed m cs → Allowed m (replaceCall hash key p ∷ cs)
   rolling : {mark : ℕ} {cs : List Call} → m ≤ mark → Allowed m cs → Allowed m (rollbackCall mark ∷ cs)
 
 -- The places of a tree are 32-bit words, as the slice of cells holds them.
@@ -69,7 +74,15 @@ pub record Frees (t u : Live) (x : ℕ) : Type 0 where
   pub freed : cell (u .cells) x state ≡ free
   pub others : OthersStay t u x
 
--- "Each accepted insert or remove appends one": the length, this line, and every other word as it was.
+-- A replace "writes the new place and nothing else in the tree": every word but the place of slot x is as it was.
+pub record OnlyPlace (t u : Live) (x p : ℕ) : Type 0 where
+  pub names : u .names ≡ t .names
+  pub head : u .head ≡ t .head
+  pub long : length (u .cells) ≡ length (t .cells)
+  pub placed : cell (u .cells) x place ≡ p
+  pub others : (j : ℕ) → j ≢ fields * x + place → getD (u .cells) j 0 ≡ getD (t .cells) j 0
+
+-- "Each accepted insert, remove or replace appends one": the length, this line, and every other word as it was.
 pub record OneLine (lines lines′ : List ℕ) (kind hash key p : ℕ) : Type 0 where
   pub long : length lines′ ≡ length lines
   pub count : lengthOf lines′ ≡ lengthOf lines + 1

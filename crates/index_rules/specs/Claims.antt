@@ -18,14 +18,15 @@ use Rattle.index_rules.specs.Sound.{Sound, T1, T2, T3, T4, T5, T6, T7, r
 use Rattle.tree_rules.specs.Tree.{Tree, slots, times, Rising}
 use Rattle.redblack.specs.Balance.{OneFewer}
 use Rattle.redblack.specs.Holding.{Stands, Has}
-use Rattle.index_rules.specs.Index.{Index, FitIndex, lengthOf, linesOf, at}
+use Rattle.index_rules.specs.Index.{Index, FitIndex, Outcome, lengthOf, linesOf, at, bothPlaces}
 use Rattle.index_rules.specs.Insert.{inserts}
 use Rattle.index_rules.specs.Remove.{removes}
+use Rattle.index_rules.specs.Replace.{replaces}
 use Rattle.index_rules.specs.Rollback.{rolls}
 use Rattle.index_rules.specs.Fresh.{FitLengths, freshes}
-use Rattle.index_rules.specs.Contents.{entry, contents, HoldSame, put, without}
+use Rattle.index_rules.specs.Contents.{entry, contents, HoldSame, put, without, withPlace}
 use Rattle.index_rules.specs.Undoing.{Undoes, Fits}
-use Rattle.index_rules.specs.Calls.{Call, after, Allowed, Places, Lowest, NoneFree, Takes, Frees, OneLine, BackTo}
+use Rattle.index_rules.specs.Calls.{Call, after, Allowed, Places, Lowest, NoneFree, Takes, Frees, OnlyPlace, OneLine, BackTo}
 
 -- find on any words, for any pair.
 pub record Finds (t : Live) (hash key : ℕ) : Type 0 where
@@ -108,18 +109,22 @@ pub record Inserts (ix : Index) (hash key p : ℕ) : Type 0 where
       × OneLine (ix .lines) (inserts ix hash key p .left .lines) 1 hash key p × (slotsOf ((inserts ix hash key p .left .live) .names) ≡ slotsOf (ix .live .names))
       × Takes (ix .live) (inserts ix hash key p .left .live) x hash key p
 
+-- A call on a pair that has to be there, of outcome o on any words.
+pub record AsksPresent (ix : Index) (hash key : ℕ) (o : Outcome) : Type 0 where
+  pub one : (o .answer ≡ refused 1) ↔ (FitIndex ix → ⊥)
+  pub two : (o .answer ≡ refused 2) ↔ (FitIndex ix × (Sound (ix .live) → ⊥))
+  -- 4 Absent, "it is not" there
+  pub four : (o .answer ≡ refused 4) ↔ (FitIndex ix × ((h : Sound (ix .live)) × (Has (ix .live .names) (h .tree) hash key → ⊥)))
+  pub six : (o .answer ≡ refused 6)
+      ↔ (FitIndex ix × ((h : Sound (ix .live)) × Has (ix .live .names) (h .tree) hash key × (lengthOf (ix .lines) ≡ linesOf (ix .lines))))
+  -- accepted exactly else, and it answers the slot that has the pair
+  pub accepted : (x : ℕ) → (o .answer ≡ given x)
+      ↔ (FitIndex ix × ((h : Sound (ix .live)) × Stands x (h .tree) × (pairOf (ix .live .names) x ≡ pair hash key) × (lengthOf (ix .lines) < linesOf (ix .lines))))
+  pub nothing-written : (o .answer .number ≢ 0) → o .left ≡ ix
+
 -- remove on any words.
 pub record Removes (ix : Index) (hash key : ℕ) : Type 0 where
-  pub one : (removes ix hash key .answer ≡ refused 1) ↔ (FitIndex ix → ⊥)
-  pub two : (removes ix hash key .answer ≡ refused 2) ↔ (FitIndex ix × (Sound (ix .live) → ⊥))
-  -- 4 Absent, "it is not" there
-  pub four : (removes ix hash key .answer ≡ refused 4) ↔ (FitIndex ix × ((h : Sound (ix .live)) × (Has (ix .live .names) (h .tree) hash key → ⊥)))
-  pub six : (removes ix hash key .answer ≡ refused 6)
-      ↔ (FitIndex ix × ((h : Sound (ix .live)) × Has (ix .live .names) (h .tree) hash key × (lengthOf (ix .lines) ≡ linesOf (ix .lines))))
-  -- accepted exactly else, and it answers the slot freed
-  pub accepted : (x : ℕ) → (removes ix hash key .answer ≡ given x)
-      ↔ (FitIndex ix × ((h : Sound (ix .live)) × Stands x (h .tree) × (pairOf (ix .live .names) x ≡ pair hash key) × (lengthOf (ix .lines) < linesOf (ix .lines))))
-  pub nothing-written : (removes ix hash key .answer .number ≢ 0) → removes ix hash key .left ≡ ix
+  pub asks : AsksPresent ix hash key (removes ix hash key)
   -- accepted: sound after, with exactly this pair's entry gone; the chain without the slot; exactly one line more, of kind 2, with the
   -- place it had; the slot answered is free
   pub done : (x : ℕ) → removes ix hash key .answer ≡ given x → (h : Sound (ix .live))
@@ -127,6 +132,18 @@ pub record Removes (ix : Index) (hash key : ℕ) : Type 0 where
       × (contents g ≡ without hash key (contents h)) × OneFewer x (h .chain) (g .chain)
       × OneLine (ix .lines) (removes ix hash key .left .lines) 2 hash key (cell (ix .live .cells) x place) × (slotsOf ((removes ix hash key .left .live) .names) ≡ slotsOf (ix .live .names))
       × Frees (ix .live) (removes ix hash key .left .live) x
+
+-- replace on any words, whatever the old place is.
+pub record Replaces (ix : Index) (hash key p : ℕ) : Type 0 where
+  pub asks : AsksPresent ix hash key (replaces ix hash key p)
+  -- accepted: sound after, the same tree and chain, with exactly this pair's place changed; exactly one line more, of kind 3, with both
+  -- places; no other word of the tree is another
+  pub done : (x : ℕ) → replaces ix hash key p .answer ≡ given x → (h : Sound (ix .live))
+      → (g : Sound (replaces ix hash key p .left .live)) × FitIndex (replaces ix hash key p .left)
+      × (contents g ≡ withPlace hash key p (contents h)) × (g .tree ≡ h .tree) × (g .chain ≡ h .chain)
+      × OneLine (ix .lines) (replaces ix hash key p .left .lines) 3 hash key (bothPlaces p (cell (ix .live .cells) x place))
+      × (slotsOf ((replaces ix hash key p .left .live) .names) ≡ slotsOf (ix .live .names))
+      × OnlyPlace (ix .live) (replaces ix hash key p .left .live) x p
 
 -- rollback on any words.
 pub record Rolls (ix : Index) (m : ℕ) : Type 0 where
@@ -160,7 +177,8 @@ pub record Freshes (ix : Index) : Type 0 where
 
 -- Demand 3: "Take a sound tree and a journal within .. limits, and note the journal's length. Make any inserts and removes on them,
 -- refused ones too, and rollbacks to that mark or later ones; nothing else writes the two. A rollback to the mark is then accepted, the tree
--- is sound and holds the very pairs and places it held at the mark, and the journal's kept lines are the old ones."
+-- is sound and holds the very pairs and places it held at the mark, and the journal's kept lines are the old ones." "Demand 3 from now on
+-- allows replaces among the calls."
 pub record Demand3 (ix : Index) (fit : FitIndex ix) (h : Sound (ix .live)) (words : Places (contents h)) (calls : List Call) (allowed : Allowed (lengthOf (ix .lines)) calls) : Type 0 where
   pub accepted : rolls (after calls ix) (lengthOf (ix .lines)) .answer ≡ given (lengthOf (after calls ix .lines) - lengthOf (ix .lines))
   pub sound : Sound (rolls (after calls ix) (lengthOf (ix .lines)) .left .live)
@@ -178,6 +196,7 @@ pub record Claims : Type 0 where
   pub holds : (t : Live) (fit : Fit t) → Contained t fit
   pub insert : (ix : Index) (hash key p : ℕ) → Inserts ix hash key p
   pub remove : (ix : Index) (hash key : ℕ) → Removes ix hash key
+  pub replace : (ix : Index) (hash key p : ℕ) → Replaces ix hash key p
   pub rollback : (ix : Index) (m : ℕ) → Rolls ix m
   pub fresh : (ix : Index) → Freshes ix
   pub demand3 : (ix : Index) (fit : FitIndex ix) (h : Sound (ix .live)) (words : Places (contents h)) (calls : List Call) (allowed : Allowed (lengthOf (ix .lines)) calls)

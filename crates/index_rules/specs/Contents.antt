@@ -55,6 +55,11 @@ unfoldable pub without : ℕ → ℕ → List Entry → List Entry
 without hash key [] = []
 without hash key (x ∷ l) = pick (isPair hash key x) l (x ∷ without hash key l)
 
+-- The list with the place p for a pair, where it stands.
+unfoldable pub withPlace : ℕ → ℕ → ℕ → List Entry → List Entry
+withPlace hash key p [] = []
+withPlace hash key p (x ∷ l) = pick (isPair hash key x) (entry hash key p ∷ l) (x ∷ withPlace hash key p l)
+
 -- The entry stands in the list; no entry of the list has the pair.
 pub data In (e : Entry) : List Entry → Type 0 where
   first : {l : List Entry} → In e (e ∷ l)

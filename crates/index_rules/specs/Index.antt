@@ -1,4 +1,4 @@
--- A live tree with its journal: the words that insert, remove and rollback are lent.
+-- A live tree with its journal: the words that insert, remove, replace and rollback are lent.
 use mathlib.Core.Bool.{Bool}
 use mathlib.Core.List.{List}
 use mathlib.Core.Path.{_≡_}
@@ -50,7 +50,7 @@ fitsJournal lines =
 unfoldable pub fitsIndex : Index → Bool
 fitsIndex ix = fits (ix .live) and fitsJournal (ix .lines)
 
--- "A line is insert (kind 1) or remove (kind 2), with pair and place." Word f of line k.
+-- "A line is insert (kind 1), remove (kind 2) or replace (kind 3), with pair and place; a replace line has both places." Word f of line k.
 abbrev pub kindWord : ℕ
 kindWord = 0
 
@@ -69,11 +69,15 @@ at k f = 1 + 4 * k + f
 abbrev pub lineWord : List ℕ → ℕ → ℕ → ℕ
 lineWord lines k f = getD lines (at k f) 0
 
+-- Both places of a replace line in one word: the new place, and the old one above its 32 bits.
+abbrev pub bothPlaces : ℕ → ℕ → ℕ
+bothPlaces new old = new + 4294967296 * old
+
 -- Line k with these four words.
 unfoldable pub lined : List ℕ → ℕ → ℕ → ℕ → ℕ → ℕ → List ℕ
 lined lines k kind hash key place =
     set (set (set (set lines (at k kindWord) kind) (at k hashWord) hash) (at k keyWord) key) (at k placeWord) place
 
--- "Each accepted insert or remove appends one."
+-- "Each accepted insert, remove or replace appends one."
 unfoldable pub appended : List ℕ → ℕ → ℕ → ℕ → ℕ → List ℕ
 appended lines kind hash key place = set (lined lines (lengthOf lines) kind hash key place) 0 (lengthOf lines + 1)

@@ -4,7 +4,9 @@ pub mod Check
 pub mod Sound
 pub mod Index
 pub mod Insert
+pub mod Present
 pub mod Remove
+pub mod Replace
 pub mod Rollback
 pub mod Fresh
 pub mod Contents

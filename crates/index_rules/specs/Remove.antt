@@ -3,12 +3,11 @@ use mathlib.Core.List.{List}
 use Prim.Native.Nat.{ℕ, _-_}
 use lib.Dec.{eqb}
 use Rattle.slots.specs.Words.{null, pick, place, state, parent, left, right, prev, next, free, cell, write, rename, hashPart, keyPart}
-use Rattle.slots.specs.Answers.{some, none, given, refused}
 use Rattle.redblack.specs.Removal.{removed}
 use Rattle.index_rules.specs.Live.{Live, rootOf, firstOf, countOf}
-use Rattle.index_rules.specs.Sound.{sound}
-use Rattle.index_rules.specs.Index.{Index, index, Outcome, outcome, fitsIndex, lengthOf, linesOf, appended}
-use Rattle.index_rules.specs.Insert.{soughtIn, headed}
+use Rattle.index_rules.specs.Index.{Index, index, Outcome, appended}
+use Rattle.index_rules.specs.Insert.{headed}
+use Rattle.index_rules.specs.Present.{wherePresent}
 use Rattle.tree_rules.specs.Find.{slotsOf}
 
 -- The slot x out of the chain: what stood before it leads to what stood after, and back.
@@ -36,16 +35,10 @@ shrunk t x =
       head = headed (t .head) (gone .root) (newFirst t x) (countOf t - 1);
     }
 
--- "remove 1, 2, 4, 6": a refusal writes nothing.
+-- And a line more, with the place that it had.
+unfoldable pub afterRemove : Index → ℕ → ℕ → ℕ → Index
+afterRemove ix hash key x = let t = ix .live in index (shrunk t x) (appended (ix .lines) 2 hash key (cell (t .cells) x place))
+
+-- "remove 1, 2, 4, 6".
 unfoldable pub removes : Index → ℕ → ℕ → Outcome
-removes ix hash key =
-    let t = ix .live in
-    pick (fitsIndex ix)
-    (pick (sound t)
-    (elim (soughtIn t hash key) [
-      | none ↦ outcome (refused 4) ix
-      | some x ↦ pick (eqb (lengthOf (ix .lines)) (linesOf (ix .lines))) (outcome (refused 6) ix)
-          (outcome (given x) (index (shrunk t x) (appended (ix .lines) 2 hash key (cell (t .cells) x place))))
-    ])
-    (outcome (refused 2) ix))
-    (outcome (refused 1) ix)
+removes ix hash key = wherePresent ix hash key (afterRemove ix hash key)

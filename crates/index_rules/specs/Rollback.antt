@@ -1,6 +1,6 @@
 -- "Rollback to mark m undoes lines from the last down to number m by the same drivers, clears them to zero and sets the length to m."
 use mathlib.Core.List.{List}
-use Prim.Native.Nat.{ℕ, zero, suc, _+_, _-_}
+use Prim.Native.Nat.{ℕ, zero, suc, _+_, _-_, _/_, _%_}
 use lib.ListN.{set}
 use lib.Dec.{eqb, ltb}
 use Rattle.slots.specs.Words.{null, pick, place, cell}
@@ -10,6 +10,7 @@ use Rattle.index_rules.specs.Sound.{sound}
 use Rattle.index_rules.specs.Index.{Index, index, Outcome, outcome, fitsIndex, lengthOf, lineWord, kindWord, hashWord, keyWord, placeWord, lined}
 use Rattle.index_rules.specs.Insert.{lowestFree, soughtIn, grown}
 use Rattle.index_rules.specs.Remove.{shrunk}
+use Rattle.index_rules.specs.Replace.{placedAt}
 
 -- A tree, or that a line does not fit.
 pub data Undo : Type 0 where
@@ -27,6 +28,12 @@ putBack t (some x) hash key p = misfit
 putBack t none hash key p =
     pick (eqb (lowestFree t) null) misfit (pick (ltb p 4294967296) (stays (grown t (lowestFree t) hash key p)) misfit)
 
+-- A replace line is undone by the old place: its pair is there with the new one. A place is a 32-bit word.
+abbrev pub placedBack : Live → Value → ℕ → Undo
+placedBack t (some x) w =
+    pick (eqb (cell (t .cells) x place) (w % 4294967296)) (pick (ltb (w / 4294967296) 4294967296) (stays (placedAt t x (w / 4294967296))) misfit) misfit
+placedBack t none w = misfit
+
 -- Line k undone on the tree t: "no other kind occurs".
 unfoldable pub undone : Live → List ℕ → ℕ → Undo
 undone t lines k =
@@ -34,7 +41,8 @@ undone t lines k =
     let key = lineWord lines k keyWord in
     let p = lineWord lines k placeWord in
     pick (eqb (lineWord lines k kindWord) 1) (takenBack t (soughtIn t hash key) p)
-    (pick (eqb (lineWord lines k kindWord) 2) (putBack t (soughtIn t hash key) hash key p) misfit)
+    (pick (eqb (lineWord lines k kindWord) 2) (putBack t (soughtIn t hash key) hash key p)
+    (pick (eqb (lineWord lines k kindWord) 3) (placedBack t (soughtIn t hash key) p) misfit))
 
 -- So many lines above m undone, from the last down.
 unfoldable pub unrolled : ℕ → Live → List ℕ → ℕ → Undo

@@ -1,11 +1,12 @@
 -- "Lines m and up fit if, read backward, each insert line's pair is there at that point with that place, each remove line's pair is not
--- and there is a free slot, and no other kind occurs." Over contents and the number of free slots, with no driver in it.
+-- and there is a free slot, each replace line's pair is there with the new place, .. and no other kind occurs." Over contents and the
+-- number of free slots, with no driver in it.
 use mathlib.Core.Path.{_≡_}
 use mathlib.Core.List.{List}
 use Prim.Native.Nat.{ℕ, suc, _<_, _≤_}
 use lib.ListN.{length}
-use Rattle.index_rules.specs.Contents.{Entry, entry, put, without, In, Lacks}
-use Rattle.index_rules.specs.Index.{lineWord, kindWord, hashWord, keyWord, placeWord}
+use Rattle.index_rules.specs.Contents.{Entry, entry, put, without, withPlace, In, Lacks}
+use Rattle.index_rules.specs.Index.{lineWord, kindWord, hashWord, keyWord, placeWord, bothPlaces}
 
 -- The entry of line k.
 abbrev pub lineEntry : List ℕ → ℕ → Entry
@@ -22,6 +23,10 @@ pub data Undoes (n : ℕ) (lines : List ℕ) (m : ℕ) : ℕ → List Entry → 
   -- a remove line: its pair is not, and there is a free slot; a place is a 32-bit word
   removeLine : {k : ℕ} {l l′ : List Entry} → m ≤ k → lineWord lines k kindWord ≡ 2 → Lacks (lineWord lines k hashWord) (lineWord lines k keyWord) l
       → length l < n → lineWord lines k placeWord < 4294967296 → Undoes n lines m k (put (lineEntry lines k) l) l′ → Undoes n lines m (suc k) l l′
+  -- a replace line: its pair is there with the new place, and "undoing it writes the old place back"; both are 32-bit words
+  replaceLine : {k new old : ℕ} {l l′ : List Entry} → m ≤ k → lineWord lines k kindWord ≡ 3 → lineWord lines k placeWord ≡ bothPlaces new old
+      → new < 4294967296 → old < 4294967296 → In (entry (lineWord lines k hashWord) (lineWord lines k keyWord) new) l
+      → Undoes n lines m k (withPlace (lineWord lines k hashWord) (lineWord lines k keyWord) old l) l′ → Undoes n lines m (suc k) l l′
 
 -- The lines from m up to the length k fit.
 abbrev pub Fits : ℕ → List ℕ → ℕ → ℕ → List Entry → Type 0

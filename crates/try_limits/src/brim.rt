@@ -1,4 +1,4 @@
-// Runs insert, remove and rollback at their limits: capacity 1 and 4,096, a journal of 0 and of 1,024 lines.
+// Runs insert, remove, replace and rollback at their limits: capacity 1 and 4,096, a journal of 0 and of 1,024 lines.
 use crate::contents::say_entries;
 use index::find::Found;
 use index::find::find;
@@ -7,10 +7,12 @@ use index::insert::Inserted;
 use index::insert::insert;
 use index::remove::Removed;
 use index::remove::remove;
+use index::replace::replace;
 use index::rollback::RolledBack;
 use index::rollback::rollback;
 use index::sound::Soundness;
 use index::sound::sound;
+use slots::NULL;
 use slots::PLACE;
 use slots::answer::Answer;
 use slots::get;
@@ -18,6 +20,7 @@ use slots::name;
 use slots::put_name;
 use trials::print::answer;
 use trials::print::line;
+use trials::print::name as say_name;
 use trials::print::say;
 
 // One line to an answer, so that a line that differs names its call.
@@ -49,6 +52,126 @@ fn print_tree(label: &[u8], names: &[u64], cells: &[u32], head: &[u32]) {
             line(label, b": not sound, count ", get(head, 0, 2));
         }
     }
+}
+
+// A replace of pair (0, key), and its answer.
+fn try_replace(
+    label: &[u8],
+    names: &mut [u64],
+    cells: &mut [u32],
+    head: &mut [u32],
+    lines: &mut [u64],
+    key: u64,
+) {
+    let replaced = replace(names, cells, head, lines, 0, key, 1);
+    print(label, b"slot ", replaced.answer());
+}
+
+// Ends a line with the journal's length and what a tree of one slot holds.
+fn show(names: &[u64], cells: &[u32], head: &[u32], lines: &[u64]) {
+    say_name(b", lines ", name(lines, 0, 0));
+    say_entries(names, cells, head, 1);
+    say(b"\n");
+}
+
+// The place of pair (0, key) is to be another one: what is answered, and what is left.
+fn move_pair(
+    label: &[u8],
+    names: &[u64],
+    cells: &mut [u32],
+    head: &[u32],
+    lines: &mut [u64],
+    key: u64,
+    place: u32,
+) {
+    say(label);
+    let replaced = replace(names, cells, head, lines, 0, key, place);
+    answer(b": ", b"slot ", replaced.answer());
+    show(names, cells, head, lines);
+}
+
+// A rollback: what is answered, and what is left.
+fn move_back(
+    label: &[u8],
+    names: &mut [u64],
+    cells: &mut [u32],
+    head: &mut [u32],
+    lines: &mut [u64],
+    mark: u32,
+) {
+    say(label);
+    let rolled = rollback(names, cells, head, lines, mark);
+    answer(b": ", b"back ", rolled.answer());
+    show(names, cells, head, lines);
+}
+
+// A pair that is not there, then there and with another place.
+fn move_in(names: &mut [u64], cells: &mut [u32], head: &mut [u32], lines: &mut [u64]) {
+    move_pair(b"capacity 1, replace 1", names, cells, head, lines, 1, 11);
+    insert(names, cells, head, lines, 0, 1, 10);
+    move_pair(
+        b"with 1 at place 10, replace 1",
+        names,
+        cells,
+        head,
+        lines,
+        1,
+        NULL,
+    );
+}
+
+// The same place once more, and another.
+fn move_on(names: &[u64], cells: &mut [u32], head: &[u32], lines: &mut [u64]) {
+    move_pair(b"by the same place", names, cells, head, lines, 1, NULL);
+    move_pair(b"by place 0", names, cells, head, lines, 1, 0);
+}
+
+// A pair that is there and one that is not, where no line is left.
+fn move_no_more(names: &[u64], cells: &mut [u32], head: &[u32], lines: &mut [u64]) {
+    move_pair(b"no line left, replace 1", names, cells, head, lines, 1, 7);
+    move_pair(b"no line left, replace 2", names, cells, head, lines, 2, 7);
+}
+
+// All three in turn.
+fn move_about(names: &mut [u64], cells: &mut [u32], head: &mut [u32], lines: &mut [u64]) {
+    move_in(names, cells, head, lines);
+    move_on(names, cells, head, lines);
+    move_no_more(names, cells, head, lines);
+}
+
+// The places of the one pair are taken back, the last first.
+fn one_pair_moved() {
+    let mut names = [0u64; 2];
+    let mut cells = [0u32; 7];
+    let mut head = [0u32; 3];
+    let mut lines = [0u64; 17];
+    fresh(&mut names, &mut cells, &mut head, &mut lines);
+    move_about(&mut names, &mut cells, &mut head, &mut lines);
+    move_back(
+        b"rollback to 3",
+        &mut names,
+        &mut cells,
+        &mut head,
+        &mut lines,
+        3,
+    );
+    move_back(
+        b"rollback to 2",
+        &mut names,
+        &mut cells,
+        &mut head,
+        &mut lines,
+        2,
+    );
+    move_back(
+        b"rollback to 1",
+        &mut names,
+        &mut cells,
+        &mut head,
+        &mut lines,
+        1,
+    );
+    print_tree(b"the tree", &names, &cells, &head);
 }
 
 // The least capacity: one pair fills the tree, and a rollback has to free the slot before it can take the old pair back.
@@ -110,6 +233,14 @@ fn no_line() {
     print_removed(
         b"remove 1",
         remove(&mut names, &mut cells, &mut head, &mut lines, 0, 1),
+    );
+    try_replace(
+        b"replace 1",
+        &mut names,
+        &mut cells,
+        &mut head,
+        &mut lines,
+        1,
     );
     print_rolled(
         b"rollback to 0",
@@ -230,6 +361,22 @@ fn all_slots() {
         b"remove 0",
         remove(&mut names, &mut cells, &mut head, &mut lines, 0, 0),
     );
+    try_replace(
+        b"replace 0",
+        &mut names,
+        &mut cells,
+        &mut head,
+        &mut lines,
+        0,
+    );
+    try_replace(
+        b"replace 5000",
+        &mut names,
+        &mut cells,
+        &mut head,
+        &mut lines,
+        5000,
+    );
     print_rolled(
         b"rollback to 0",
         rollback(&mut names, &mut cells, &mut head, &mut lines, 0),
@@ -260,6 +407,7 @@ fn all_slots() {
 // From the least limits to the largest.
 pub fn run() {
     one_slot();
+    one_pair_moved();
     no_line();
     all_slots();
 }

@@ -1,6 +1,6 @@
-// Runs the index at its limits: find on words at the edge of what it refuses, insert, remove and rollback on the smallest and the largest
-// tree and journal, rollback on journals that do not fit, and all of them on words that are unfit and trees that are not sound. Prints
-// each answer.
+// Runs the index at its limits: find on words at the edge of what it refuses, insert, remove, replace and rollback on the smallest and the
+// largest tree and journal, rollback on journals that do not fit, and all of them on words that are unfit and trees that are not sound.
+// Prints each answer.
 mod brim;
 mod contents;
 mod limits;

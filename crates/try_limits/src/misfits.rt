@@ -4,9 +4,11 @@ use crate::contents::say_entries;
 use index::fresh::fresh;
 use index::insert::insert;
 use index::remove::remove;
+use index::replace::replace;
 use index::rollback::RolledBack;
 use index::rollback::rollback;
 use slots::NULL;
+use slots::PLACE;
 use slots::put;
 use slots::put_name;
 use trials::print::answer;
@@ -31,6 +33,16 @@ fn print(label: &[u8], rolled: RolledBack, unchanged: bool) {
         say(b", all as it was");
     } else {
         say(b", written");
+    }
+}
+
+// Whether words are those they have to be.
+fn say_same(label: &[u8], same: bool) {
+    say(label);
+    if same {
+        say(b": all as it was\n");
+    } else {
+        say(b": other words\n");
     }
 }
 
@@ -81,6 +93,92 @@ fn ask(label: &[u8], k: u32, f: u32, value: u64, root: u32, mark: u32) {
     end(&names, &cells, &head, 3, unchanged);
 }
 
+// Three slots and three lines. 1 and 2 are inserted, and the place of 1 is changed from 10 to 11; then word f of line k is set to value,
+// and the lines are rolled back to mark.
+fn ask_replaced(label: &[u8], k: u32, f: u32, value: u64, mark: u32) {
+    let mut names = [0u64; 6];
+    let mut cells = [0u32; 21];
+    let mut head = [0u32; 3];
+    let mut lines = [0u64; 13];
+    fresh(&mut names, &mut cells, &mut head, &mut lines);
+    insert(&mut names, &mut cells, &mut head, &mut lines, 0, 1, 10);
+    insert(&mut names, &mut cells, &mut head, &mut lines, 0, 2, 20);
+    replace(&names, &mut cells, &head, &mut lines, 0, 1, 11);
+    put_name(&mut lines, 0, 4 * (k % 4) + f % 4 + 1, value);
+    let names_before = names;
+    let cells_before = cells;
+    let head_before = head;
+    let lines_before = lines;
+    let rolled = rollback(&mut names, &mut cells, &mut head, &mut lines, mark);
+    let unchanged = same_index(
+        &names,
+        &cells,
+        &head,
+        &lines,
+        &names_before,
+        &cells_before,
+        &head_before,
+        &lines_before,
+    );
+    print(label, rolled, unchanged);
+    end(&names, &cells, &head, 3, unchanged);
+}
+
+// A replace, with its place then set to the old one again: whether no other word of the tree is another.
+fn ask_only_place(label: &[u8]) {
+    let mut names = [0u64; 6];
+    let mut cells = [0u32; 21];
+    let mut head = [0u32; 3];
+    let mut lines = [0u64; 13];
+    fresh(&mut names, &mut cells, &mut head, &mut lines);
+    insert(&mut names, &mut cells, &mut head, &mut lines, 0, 1, 10);
+    insert(&mut names, &mut cells, &mut head, &mut lines, 0, 2, 20);
+    let names_before = names;
+    let cells_before = cells;
+    let head_before = head;
+    replace(&names, &mut cells, &head, &mut lines, 0, 2, 21);
+    put(&mut cells, 1, PLACE, 20);
+    let same = same_index(
+        &names,
+        &cells,
+        &head,
+        &lines,
+        &names_before,
+        &cells_before,
+        &head_before,
+        &lines,
+    );
+    say_same(label, same);
+}
+
+// A replace that is rolled back: whether every word is as it was.
+fn ask_back(label: &[u8]) {
+    let mut names = [0u64; 6];
+    let mut cells = [0u32; 21];
+    let mut head = [0u32; 3];
+    let mut lines = [0u64; 13];
+    fresh(&mut names, &mut cells, &mut head, &mut lines);
+    insert(&mut names, &mut cells, &mut head, &mut lines, 0, 1, 10);
+    insert(&mut names, &mut cells, &mut head, &mut lines, 0, 2, 20);
+    let names_before = names;
+    let cells_before = cells;
+    let head_before = head;
+    let lines_before = lines;
+    replace(&names, &mut cells, &head, &mut lines, 0, 2, 21);
+    rollback(&mut names, &mut cells, &mut head, &mut lines, 2);
+    let same = same_index(
+        &names,
+        &cells,
+        &head,
+        &lines,
+        &names_before,
+        &cells_before,
+        &head_before,
+        &lines_before,
+    );
+    say_same(label, same);
+}
+
 // One slot, in use, and a line that says that a pair was removed.
 fn ask_full(label: &[u8]) {
     let mut names = [0u64; 2];
@@ -110,6 +208,61 @@ fn ask_full(label: &[u8]) {
     end(&names, &cells, &head, 1, unchanged);
 }
 
+// The word of a replace line: the new place, and the old one above it.
+const WORD: u64 = 11 + 10 * HIGH;
+
+// The same of a replace line: what it fits is the pair with the new place, whatever the old one was.
+fn replace_lines() {
+    ask_replaced(b"a replace line as written", 2, LINE_PLACE, WORD, 0);
+    ask_replaced(b"the same, to mark 2", 2, LINE_PLACE, WORD, 2);
+    ask_replaced(
+        b"another old place, to mark 2",
+        2,
+        LINE_PLACE,
+        11 + 77 * HIGH,
+        2,
+    );
+    ask_replaced(
+        b"the old place null, to mark 2",
+        2,
+        LINE_PLACE,
+        11 + 4294967295 * HIGH,
+        2,
+    );
+    ask_replaced(b"the old place 0, to mark 2", 2, LINE_PLACE, 11, 2);
+    ask_replaced(
+        b"another old place, to mark 1",
+        2,
+        LINE_PLACE,
+        11 + 77 * HIGH,
+        1,
+    );
+    ask_replaced(
+        b"another old place, to mark 0",
+        2,
+        LINE_PLACE,
+        11 + 77 * HIGH,
+        0,
+    );
+    ask_replaced(b"another new place", 2, LINE_PLACE, 12 + 10 * HIGH, 2);
+    ask_replaced(b"the places exchanged", 2, LINE_PLACE, 10 + 11 * HIGH, 2);
+    ask_replaced(b"a pair that is not there", 2, KEY, 7, 2);
+    ask_replaced(b"another pair that is there", 2, KEY, 2, 2);
+    ask_replaced(b"a replace line as an insert line", 2, KIND, 1, 2);
+    ask_replaced(b"a replace line as a remove line", 2, KIND, 2, 2);
+    ask_replaced(b"a replace line as kind 4", 2, KIND, 4, 2);
+    ask_replaced(
+        b"a replace line's kind with a high half",
+        2,
+        KIND,
+        HIGH + 3,
+        2,
+    );
+    ask_replaced(b"an insert line as a replace line", 1, KIND, 3, 1);
+    ask_only_place(b"a replace, but for the place");
+    ask_back(b"a replace, rolled back");
+}
+
 // A question for each way in which a line can misfit, between lines and marks that fit.
 pub fn run() {
     ask(b"the lines as written", 0, KEY, 1, NULL, 0);
@@ -118,7 +271,8 @@ pub fn run() {
     ask(b"mark at the length", 0, KEY, 1, NULL, 3);
     ask(b"mark above the length", 0, KEY, 1, NULL, 4);
     ask(b"kind 0", 2, KIND, 0, NULL, 0);
-    ask(b"kind 3", 2, KIND, 3, NULL, 0);
+    ask(b"kind 4", 2, KIND, 4, NULL, 0);
+    ask(b"a remove line as a replace line", 2, KIND, 3, NULL, 0);
     ask(
         b"an insert line's kind with a high half",
         1,
@@ -164,5 +318,6 @@ pub fn run() {
     ask(b"a remove line whose pair is there", 2, KEY, 2, NULL, 0);
     ask_full(b"no free slot");
     ask(b"a tree that is not sound", 0, KEY, 1, 2, 0);
-    ask(b"lines below the mark are not read", 0, KIND, 3, NULL, 1);
+    ask(b"lines below the mark are not read", 0, KIND, 4, NULL, 1);
+    replace_lines();
 }

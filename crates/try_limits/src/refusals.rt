@@ -1,11 +1,13 @@
-// Asks insert, remove, rollback, sound and check of an empty tree whose words are unfit, or that is damaged. Prints what each of them
-// answers, and whether the lent words are as they were before the first call.
+// Asks insert, replace, remove, rollback, sound and check of an empty tree whose words are unfit, or that is damaged. Prints what each of
+// them answers, and whether the lent words are as they were before the first call.
 use index::check::check;
 use index::fresh::fresh;
 use index::insert::Inserted;
 use index::insert::insert;
 use index::remove::Removed;
 use index::remove::remove;
+use index::replace::Replaced;
+use index::replace::replace;
 use index::rollback::RolledBack;
 use index::rollback::rollback;
 use index::sound::sound;
@@ -23,6 +25,10 @@ fn say_inserted(inserted: Inserted) {
     answer(b": insert ", b"slot ", inserted.answer());
 }
 
+fn say_replaced(replaced: Replaced) {
+    answer(b", replace ", b"slot ", replaced.answer());
+}
+
 fn say_removed(removed: Removed) {
     answer(b", remove ", b"gone ", removed.answer());
 }
@@ -31,16 +37,22 @@ fn say_rolled(rolled: RolledBack) {
     answer(b", rollback ", b"back ", rolled.answer());
 }
 
-// The three calls that can write: pair (0, 1) goes in, (0, 2) is to go, and the mark is 1.
-fn ask_three(names: &mut [u64], cells: &mut [u32], head: &mut [u32], lines: &mut [u64]) {
+// Pair (0, 1) goes in and has another place.
+fn ask_two(names: &mut [u64], cells: &mut [u32], head: &mut [u32], lines: &mut [u64]) {
     say_inserted(insert(names, cells, head, lines, 0, 1, 10));
+    say_replaced(replace(names, cells, head, lines, 0, 1, 11));
+}
+
+// The four calls that can write: those two, (0, 2) is to go, and the mark is 1.
+fn ask_four(names: &mut [u64], cells: &mut [u32], head: &mut [u32], lines: &mut [u64]) {
+    ask_two(names, cells, head, lines);
     say_removed(remove(names, cells, head, lines, 0, 2));
     say_rolled(rollback(names, cells, head, lines, 1));
 }
 
-// Those three, and the two checks.
-fn ask_five(names: &mut [u64], cells: &mut [u32], head: &mut [u32], lines: &mut [u64]) {
-    ask_three(names, cells, head, lines);
+// Those four, and the two checks.
+fn ask_six(names: &mut [u64], cells: &mut [u32], head: &mut [u32], lines: &mut [u64]) {
+    ask_four(names, cells, head, lines);
     let soundness = sound(names, cells, head);
     verdict(b", sound ", b"no ", soundness.answer());
     let checked = check(names, cells, head);
@@ -56,7 +68,7 @@ fn say_same(same: bool) {
     }
 }
 
-// The five questions, of so many words of each slice.
+// The six questions, of so many words of each slice.
 fn ask_part(
     names: &mut [u64],
     cells: &mut [u32],
@@ -79,7 +91,7 @@ fn ask_part(
     if lines.len() < l {
         return;
     }
-    ask_five(
+    ask_six(
         &mut names[..n],
         &mut cells[..c],
         &mut head[..h],

@@ -1,5 +1,5 @@
 -- The kind of the line decides which driver undoes it.
-use Rattle.index.proofs.Undoing.{line-insert, line-remove, line-other}
+use Rattle.index.proofs.Undoing.{line-insert, line-remove, line-replace, line-other}
 use denote.Ref.{now}
 use borrow.Author.Needs.{needs}
 use Rattle.index.proofs.lines.undo_line.Statement.{statement}
@@ -77,21 +77,56 @@ returns-2 c =
     (c2 .if2 .taken)
     (c1 .put-back .ensures)
 
+place-back-requires : tie.Need-place-back-requires
+place-back-requires c κs = search needs
+
+same-length-7 : tie.Need-same-length-7
+same-length-7 c = search needs
+
+same-length-8 : tie.Need-same-length-8
+same-length-8 c = search needs
+
+same-length-9 : tie.Need-same-length-9
+same-length-9 c = search needs
+
 returns-3 : tie.Need-returns-3
 returns-3 c =
+    let c1 = c .before .before in
+    let c2 = c1 .before .before .before .before in
+    let c3 = c2 .before in
+    let c4 = c3 .before in
+    let c5 = c4 .before in
+    let c6 = c5 .before in
+    let c7 = c6 .before in
+    let c8 = c7 .before in
+    let a = c8 .before .before .before .before .before .args in
+    line-replace (record { names = now (a .names); cells = now (a .cells); head = now (a .head) }) (now (a .lines)) (a .k)
+    (c8 .line-word .ensures)
+    (c7 .line-word2 .ensures)
+    (c6 .line-word3 .ensures)
+    (c5 .line-word4 .ensures)
+    (c4 .if1 .left)
+    (c3 .if2 .left)
+    (c2 .if3 .taken)
+    (c1 .place-back .ensures)
+
+returns-4 : tie.Need-returns-4
+returns-4 c =
     let c1 = c .before in
     let c2 = c1 .before in
     let c3 = c2 .before in
     let c4 = c3 .before in
     let c5 = c4 .before in
-    let a = c5 .before .before .before .before .before .args in
+    let c6 = c5 .before in
+    let a = c6 .before .before .before .before .before .args in
     line-other (record { names = now (a .names); cells = now (a .cells); head = now (a .head) }) (now (a .lines)) (a .k)
-    (c5 .line-word .ensures)
-    (c4 .line-word2 .ensures)
-    (c3 .line-word3 .ensures)
-    (c2 .line-word4 .ensures)
-    (c1 .if1 .left)
-    (c .if2 .left)
+    (c6 .line-word .ensures)
+    (c5 .line-word2 .ensures)
+    (c4 .line-word3 .ensures)
+    (c3 .line-word4 .ensures)
+    (c2 .if1 .left)
+    (c1 .if2 .left)
+    (c .if3 .left)
 
 pub undo-line-spec : {M : Type 1} → statement M
 undo-line-spec =
@@ -111,4 +146,9 @@ undo-line-spec =
     same-length-5
     same-length-6
     returns-2
-    returns-3)
+    place-back-requires
+    same-length-7
+    same-length-8
+    same-length-9
+    returns-3
+    returns-4)

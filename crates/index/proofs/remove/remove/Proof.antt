@@ -38,6 +38,9 @@ get-requires c κs = search needs
 shrink-requires : tie.Need-shrink-requires
 shrink-requires c κs = search needs
 
+cast-append : tie.Need-cast-append
+cast-append c = search needs
+
 append-requires : tie.Need-append-requires
 append-requires c κs = search needs
 
@@ -81,6 +84,7 @@ remove-spec =
     returns
     get-requires
     shrink-requires
+    cast-append
     append-requires
     same-length-5
     same-length-6

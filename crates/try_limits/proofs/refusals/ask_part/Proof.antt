@@ -17,32 +17,32 @@ returns-3 c = search needs
 returns-4 : tie.Need-returns-4
 returns-4 c = search needs
 
-slice-relend-prefix-ask-five : tie.Need-slice-relend-prefix-ask-five
-slice-relend-prefix-ask-five c = search needs
+slice-relend-prefix-ask-six : tie.Need-slice-relend-prefix-ask-six
+slice-relend-prefix-ask-six c = search needs
 
-slice-aggregate-ask-five : tie.Need-slice-aggregate-ask-five
-slice-aggregate-ask-five c = simp length-take (omega arith)
+slice-aggregate-ask-six : tie.Need-slice-aggregate-ask-six
+slice-aggregate-ask-six c = simp length-take (omega arith)
 
-slice-relend-prefix-ask-five-2 : tie.Need-slice-relend-prefix-ask-five-2
-slice-relend-prefix-ask-five-2 c = search needs
+slice-relend-prefix-ask-six-2 : tie.Need-slice-relend-prefix-ask-six-2
+slice-relend-prefix-ask-six-2 c = search needs
 
-slice-aggregate-ask-five-2 : tie.Need-slice-aggregate-ask-five-2
-slice-aggregate-ask-five-2 c = simp length-take (omega arith)
+slice-aggregate-ask-six-2 : tie.Need-slice-aggregate-ask-six-2
+slice-aggregate-ask-six-2 c = simp length-take (omega arith)
 
-slice-relend-prefix-ask-five-3 : tie.Need-slice-relend-prefix-ask-five-3
-slice-relend-prefix-ask-five-3 c = search needs
+slice-relend-prefix-ask-six-3 : tie.Need-slice-relend-prefix-ask-six-3
+slice-relend-prefix-ask-six-3 c = search needs
 
-slice-aggregate-ask-five-3 : tie.Need-slice-aggregate-ask-five-3
-slice-aggregate-ask-five-3 c = simp length-take (omega arith)
+slice-aggregate-ask-six-3 : tie.Need-slice-aggregate-ask-six-3
+slice-aggregate-ask-six-3 c = simp length-take (omega arith)
 
-slice-relend-prefix-ask-five-4 : tie.Need-slice-relend-prefix-ask-five-4
-slice-relend-prefix-ask-five-4 c = search needs
+slice-relend-prefix-ask-six-4 : tie.Need-slice-relend-prefix-ask-six-4
+slice-relend-prefix-ask-six-4 c = search needs
 
-slice-aggregate-ask-five-4 : tie.Need-slice-aggregate-ask-five-4
-slice-aggregate-ask-five-4 c = simp length-take (omega arith)
+slice-aggregate-ask-six-4 : tie.Need-slice-aggregate-ask-six-4
+slice-aggregate-ask-six-4 c = simp length-take (omega arith)
 
-ask-five-requires : tie.Need-ask-five-requires
-ask-five-requires c κs = search needs
+ask-six-requires : tie.Need-ask-six-requires
+ask-six-requires c κs = search needs
 
 same-length : tie.Need-same-length
 same-length c = search needs
@@ -67,15 +67,15 @@ ask-part-spec =
     returns-2
     returns-3
     returns-4
-    slice-relend-prefix-ask-five
-    slice-aggregate-ask-five
-    slice-relend-prefix-ask-five-2
-    slice-aggregate-ask-five-2
-    slice-relend-prefix-ask-five-3
-    slice-aggregate-ask-five-3
-    slice-relend-prefix-ask-five-4
-    slice-aggregate-ask-five-4
-    ask-five-requires
+    slice-relend-prefix-ask-six
+    slice-aggregate-ask-six
+    slice-relend-prefix-ask-six-2
+    slice-aggregate-ask-six-2
+    slice-relend-prefix-ask-six-3
+    slice-aggregate-ask-six-3
+    slice-relend-prefix-ask-six-4
+    slice-aggregate-ask-six-4
+    ask-six-requires
     same-length
     same-length-2
     same-length-3

@@ -1,14 +1,14 @@
 -- The loop's invariant: no slot past the last is compared.
 use Prim.Native.Nat.{_≤_, _-_}
 use borrow.Author.Needs.{needs}
-use Rattle.drill.proofs.longest.same_entries.Statement.{statement}
-use Rattle.drill.proofs.longest.same_entries.Tie as tie
+use Rattle.drill.proofs.entries.same_entries.Statement.{statement}
+use Rattle.drill.proofs.entries.same_entries.Tie as tie
 
 abbrev Inv-loop : tie.InvT-loop
-Inv-loop names cells head other-names other-cells other-head i₀ i = i ≤ 512
+Inv-loop n names cells head other-names other-cells other-head i₀ i = i ≤ n
 
 abbrev μ-loop : tie.MeasureT-loop
-μ-loop names cells head other-names other-cells other-head i₀ i = 512 - i
+μ-loop n names cells head other-names other-cells other-head i₀ i = n - i
 
 loop-holds : tie.Need-loop-holds Inv-loop μ-loop
 loop-holds c = search needs

@@ -1,0 +1,382 @@
+// The list of calls, on a tree of 64 slots and a journal of 128 lines: inserts, removes, replaces and rollbacks. They are made once, one
+// after the other. After each the index's words are copied, and the copy is rolled back to a mark that varies with the cut. A second index
+// is made by the calls alone whose lines stand below that mark. The two have to hold the same pairs and places and the same words of a
+// journal. Then a place of the copy is changed behind the journal's back, which the comparison has to notice, and is put right; the copy
+// is rolled back to 0, and all calls are made again on it.
+use crate::entries::same_entries;
+use crate::steps::all;
+use crate::steps::back_to_start;
+use crate::steps::is_refused;
+use crate::steps::is_sound;
+use crate::steps::length;
+use crate::steps::mark_of;
+use crate::steps::more;
+use crate::steps::one;
+use crate::steps::undid;
+use index::fresh::fresh;
+use index::insert::insert;
+use index::journal::INSERT;
+use index::journal::MOST_PLACES;
+use index::journal::REMOVE;
+use index::journal::REPLACE;
+use index::remove::remove;
+use index::replace::replace;
+use index::rollback::rollback;
+use slots::NULL;
+use slots::PLACE;
+use slots::answer::Answer;
+use slots::answer::Value;
+use slots::get;
+use slots::name;
+use slots::put;
+use slots::put_name;
+use trials::same::same_index;
+use trials::same::same_names;
+
+const SLOTS: u32 = 64;
+
+// What came of the cuts: rollbacks accepted and refused at them, whole runs after them, what was not as it has to be, places planted, and
+// planted places noticed.
+pub struct Tally {
+    pub cuts: u32,
+    pub rollbacks: u32,
+    pub refused: u32,
+    pub runs: u32,
+    pub differences: u32,
+    pub planted: u32,
+    pub noticed: u32,
+}
+
+// Word f of call k: its kind, hash, key and place, four words to a call.
+fn call_word(calls: &[u64], k: u32, f: u32) -> u64 {
+    name(calls, 0, k % 4096 * 4 + f % 4)
+}
+
+// The word of an answer: value + 2^32 * number.
+fn told(answer: Answer) -> u64 {
+    let number = answer.number;
+    let value = answer.value;
+    match value {
+        Value::Some(given) => given as u64 + MOST_PLACES * number as u64,
+        Value::None => MOST_PLACES * number as u64,
+    }
+}
+
+// Makes call k and answers its word: a kind that is no line's is a rollback, to the mark that stands for the place.
+fn make(
+    calls: &[u64],
+    k: u32,
+    names: &mut [u64],
+    cells: &mut [u32],
+    head: &mut [u32],
+    lines: &mut [u64],
+) -> u64 {
+    let kind = call_word(calls, k, 0);
+    let hash = call_word(calls, k, 1);
+    let key = call_word(calls, k, 2);
+    let place = (call_word(calls, k, 3) % MOST_PLACES) as u32;
+    if kind == INSERT {
+        let inserted = insert(names, cells, head, lines, hash, key, place);
+        return told(inserted.answer());
+    }
+    if kind == REMOVE {
+        let removed = remove(names, cells, head, lines, hash, key);
+        return told(removed.answer());
+    }
+    if kind == REPLACE {
+        let replaced = replace(names, cells, head, lines, hash, key, place);
+        return told(replaced.answer());
+    }
+    let rolled = rollback(names, cells, head, lines, place);
+    told(rolled.answer())
+}
+
+// The calls that made the lines below mark m, in their order.
+fn make_kept(
+    calls: &[u64],
+    made: &[u32],
+    m: u32,
+    names: &mut [u64],
+    cells: &mut [u32],
+    head: &mut [u32],
+    lines: &mut [u64],
+) {
+    let mut k: u32 = 0;
+    while k < m {
+        make(calls, get(made, 0, k), names, cells, head, lines);
+        k += 1;
+    }
+}
+
+// Whether an index is what a second one is that was made to mark m and no further: both sound, with the same pairs and places, and with
+// the same words of the journal.
+fn as_at_mark(
+    calls: &[u64],
+    made: &[u32],
+    m: u32,
+    names: &[u64],
+    cells: &[u32],
+    head: &[u32],
+    lines: &[u64],
+) -> bool {
+    let mut names_then = [0u64; 128];
+    let mut cells_then = [0u32; 448];
+    let mut head_then = [0u32; 3];
+    let mut lines_then = [0u64; 513];
+    fresh(
+        &mut names_then,
+        &mut cells_then,
+        &mut head_then,
+        &mut lines_then,
+    );
+    make_kept(
+        calls,
+        made,
+        m,
+        &mut names_then,
+        &mut cells_then,
+        &mut head_then,
+        &mut lines_then,
+    );
+    let rules = is_sound(names, cells, head);
+    let rules_then = is_sound(&names_then, &cells_then, &head_then);
+    let entries = same_entries(
+        SLOTS,
+        names,
+        cells,
+        head,
+        &names_then,
+        &cells_then,
+        &head_then,
+    );
+    let journal = same_names(lines, &lines_then);
+    all(rules, rules_then, entries, journal)
+}
+
+// Rolls back to the cut's mark: whether as many lines are undone as there were above it, and the index is as it was at the mark.
+fn back_to_mark(
+    cut: u32,
+    calls: &[u64],
+    made: &[u32],
+    names: &mut [u64],
+    cells: &mut [u32],
+    head: &mut [u32],
+    lines: &mut [u64],
+) -> bool {
+    let count = length(lines);
+    let m = mark_of(cut, count);
+    let rolled = rollback(names, cells, head, lines, m);
+    let undone = undid(rolled, std::num::wrapping_sub_u32(count, m));
+    let same = as_at_mark(calls, made, m, names, cells, head, lines);
+    all(undone, same, length(lines) == m, true)
+}
+
+// Changes the place of slot x, compares, and puts it right: whether the comparison noticed.
+fn plant(
+    calls: &[u64],
+    made: &[u32],
+    x: u32,
+    names: &[u64],
+    cells: &mut [u32],
+    head: &[u32],
+    lines: &[u64],
+) -> bool {
+    let own = get(cells, x, PLACE);
+    put(cells, x, PLACE, more(own, 1));
+    let same = as_at_mark(calls, made, length(lines), names, cells, head, lines);
+    put(cells, x, PLACE, own);
+    !same
+}
+
+// Whether all calls are made again with every answer right.
+fn again(
+    calls: &[u64],
+    n: u32,
+    words: &[u64],
+    names: &mut [u64],
+    cells: &mut [u32],
+    head: &mut [u32],
+    lines: &mut [u64],
+) -> bool {
+    let mut k: u32 = 0;
+    while k < n {
+        let word = make(calls, k, names, cells, head, lines);
+        if word != name(words, 0, k) {
+            return false;
+        }
+        k += 1;
+    }
+    true
+}
+
+// What a cut came to.
+struct Trial {
+    right: bool,
+    planted: bool,
+    noticed: bool,
+}
+
+// Rolls back to 0 and makes all calls again.
+fn from_start(
+    calls: &[u64],
+    n: u32,
+    words: &[u64],
+    names: &mut [u64],
+    cells: &mut [u32],
+    head: &mut [u32],
+    lines: &mut [u64],
+) -> bool {
+    let start = back_to_start(names, cells, head, lines);
+    let right = again(calls, n, words, names, cells, head, lines);
+    all(start, right, true, true)
+}
+
+// A cut: the copy of the index is rolled back to the cut's mark, has a place planted and put right where it holds a pair, and is rolled
+// back to 0, and the calls are made again.
+fn try_cut(
+    cut: u32,
+    calls: &[u64],
+    n: u32,
+    words: &[u64],
+    made: &[u32],
+    names: &mut [u64],
+    cells: &mut [u32],
+    head: &mut [u32],
+    lines: &mut [u64],
+) -> Trial {
+    let back = back_to_mark(cut, calls, made, names, cells, head, lines);
+    let x = get(head, 0, 1);
+    let noticed = plant(calls, made, x, names, cells, head, lines);
+    let right = from_start(calls, n, words, names, cells, head, lines);
+    Trial {
+        right: back && right,
+        planted: x != NULL,
+        noticed,
+    }
+}
+
+// The tally with one more cut, whose answer and refusal were right or not.
+fn counted(t: Tally, answer: bool, refusal: bool, tried: Trial) -> Tally {
+    let right = all(answer, refusal, tried.right, true);
+    Tally {
+        cuts: more(t.cuts, 1),
+        rollbacks: more(t.rollbacks, 2),
+        refused: more(t.refused, 1),
+        runs: more(t.runs, 1),
+        differences: more(t.differences, one(!right)),
+        planted: more(t.planted, one(tried.planted)),
+        noticed: more(t.noticed, one(tried.noticed)),
+    }
+}
+
+// The tally with a cut of the index that the words are, at which the last answer was right or not. The words are copied for it.
+fn cut_once(
+    t: Tally,
+    answer: bool,
+    calls: &[u64],
+    n: u32,
+    words: &[u64],
+    made: &[u32],
+    names: [u64; 128],
+    cells: [u32; 448],
+    head: [u32; 3],
+    lines: [u64; 513],
+) -> Tally {
+    let mut names_cut = names;
+    let mut cells_cut = cells;
+    let mut head_cut = head;
+    let mut lines_cut = lines;
+    let refused = is_refused(
+        t.cuts,
+        &mut names_cut,
+        &mut cells_cut,
+        &mut head_cut,
+        &mut lines_cut,
+    );
+    let kept = same_index(
+        &names_cut,
+        &cells_cut,
+        &head_cut,
+        &lines_cut,
+        &names,
+        &cells,
+        &head,
+        &lines,
+    );
+    let tried = try_cut(
+        t.cuts,
+        calls,
+        n,
+        words,
+        made,
+        &mut names_cut,
+        &mut cells_cut,
+        &mut head_cut,
+        &mut lines_cut,
+    );
+    counted(t, answer, refused && kept, tried)
+}
+
+// The n calls, cut after each, with the word that each has to answer. `made` has for each line of the journal the number of the call that
+// made it.
+pub fn try_calls(calls: &[u64], n: u32, words: &[u64]) -> Tally {
+    let mut names = [0u64; 128];
+    let mut cells = [0u32; 448];
+    let mut head = [0u32; 3];
+    let mut lines = [0u64; 513];
+    let mut made = [0u32; 128];
+    fresh(&mut names, &mut cells, &mut head, &mut lines);
+    let mut t = Tally {
+        cuts: 0,
+        rollbacks: 0,
+        refused: 0,
+        runs: 0,
+        differences: 0,
+        planted: 0,
+        noticed: 0,
+    };
+    let mut k: u32 = 0;
+    while k < n {
+        put(&mut made, 0, length(&lines), k);
+        let word = make(calls, k, &mut names, &mut cells, &mut head, &mut lines);
+        let right = word == name(words, 0, k);
+        t = cut_once(t, right, calls, n, words, &made, names, cells, head, lines);
+        k += 1;
+    }
+    t
+}
+
+// A number with a digit behind it; 0 where it has ended, for the next one.
+fn lengthened(ended: bool, value: u64, byte: u8) -> u64 {
+    if ended {
+        return 0;
+    }
+    let two = std::num::wrapping_add_u64(value, value);
+    let four = std::num::wrapping_add_u64(two, two);
+    let eight = std::num::wrapping_add_u64(four, four);
+    let ten = std::num::wrapping_add_u64(eight, two);
+    std::num::wrapping_add_u64(ten, (byte % 16) as u64)
+}
+
+// Keeps a number that has ended.
+fn keep(ended: bool, words: &mut [u64], k: u32, value: u64) {
+    if ended {
+        put_name(words, 0, k, value);
+    }
+}
+
+// The decimal numbers of a text, a word for each: a byte that is no digit ends one. How many there are.
+pub fn read(text: &[u8], words: &mut [u64]) -> u32 {
+    let mut count: u32 = 0;
+    let mut value: u64 = 0;
+    let mut at = 0;
+    while at < text.len() {
+        let byte = text[at];
+        let ended = byte < b'0' || b'9' < byte;
+        keep(ended, words, count, value);
+        count = more(count, one(ended));
+        value = lengthened(ended, value, byte);
+        at += 1;
+    }
+    count
+}

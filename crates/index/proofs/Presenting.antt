@@ -1,0 +1,51 @@
+-- What remove and replace ask alike, as the tests settle it: each law takes what the tests gave, in the order of the code.
+use mathlib.Core.Path.{_≡_, refl}
+use mathlib.Core.Bool.{Bool, true, false}
+use Prim.Native.Nat.{ℕ}
+use lib.Dec.{eqb}
+use Rattle.slots.specs.Answers.{Value, some, none, given, refused}
+use Rattle.index_rules.specs.Live.{Live}
+use Rattle.index_rules.specs.Sound.{sound}
+use Rattle.index_rules.specs.Index.{Index, fitsIndex, lengthOf, linesOf}
+use Rattle.index_rules.specs.Insert.{soughtIn}
+use Rattle.index_rules.specs.Present.{wherePresent}
+use Rattle.index.proofs.Asking.{Settled, refuses, accepts}
+
+module _ (ix : Index) (hash key : ℕ) where
+  abbrev t : Live
+  t = ix .live
+
+  pub unfit : fitsIndex ix ≡ false → (leaving : ℕ → Index) → refused 1 ≡ wherePresent ix hash key leaving .answer
+  unfolding wherePresent
+  unfit e leaving = rw e
+
+  module _ (e : fitsIndex ix ≡ true) where
+    pub damaged : sound t ≡ false → (leaving : ℕ → Index) → refused 2 ≡ wherePresent ix hash key leaving .answer
+    unfolding wherePresent
+    damaged f leaving = rw (e, f)
+
+    module _ (f : sound t ≡ true) where
+      pub absent : soughtIn t hash key ≡ none → (leaving : ℕ → Index) → refused 4 ≡ wherePresent ix hash key leaving .answer
+      unfolding wherePresent
+      absent s leaving = rw (e, f, s)
+
+      module _ {x : ℕ} (s : soughtIn t hash key ≡ some x) where
+        pub journal-full : eqb (lengthOf (ix .lines)) (linesOf (ix .lines)) ≡ true → (leaving : ℕ → Index) → refused 6 ≡ wherePresent ix hash key leaving .answer
+        unfolding wherePresent
+        journal-full l leaving = rw (e, f, s, l)
+
+        pub there : eqb (lengthOf (ix .lines)) (linesOf (ix .lines)) ≡ false → (leaving : ℕ → Index) → given x ≡ wherePresent ix hash key leaving .answer
+        unfolding wherePresent
+        there l leaving = rw (e, f, s, l)
+
+  pub settled-by : (leaving : ℕ → Index) → Settled ix leaving (wherePresent ix hash key leaving)
+  unfolding wherePresent
+  settled-by leaving = go (fitsIndex ix) refl (sound t) refl (soughtIn t hash key) refl (eqb (lengthOf (ix .lines)) (linesOf (ix .lines))) refl
+    where
+      go : (a : Bool) → fitsIndex ix ≡ a → (b : Bool) → sound t ≡ b → (v : Value) → soughtIn t hash key ≡ v
+          → (l : Bool) → eqb (lengthOf (ix .lines)) (linesOf (ix .lines)) ≡ l → Settled ix leaving (wherePresent ix hash key leaving)
+      go false e b f v s l r = refuses 0 none (rw e)
+      go true e false f v s l r = refuses 1 none (rw (e, f))
+      go true e true f none s l r = refuses 3 none (rw (e, f, s))
+      go true e true f (some x) s true r = refuses 5 none (rw (e, f, s, r))
+      go true e true f (some x) s false r = accepts x e f (rw (e, f, s, r))

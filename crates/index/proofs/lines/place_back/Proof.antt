@@ -1,0 +1,88 @@
+-- Each way out closes by the search and the test that led there; half of a word of 64 bits is one of 32.
+use native.Mathlib.Omega.{arith}
+use Rattle.index.proofs.Asking.{sought-at, sought-not}
+use Rattle.index.proofs.Undoing.{place-absent, place-other, place-done}
+use borrow.Author.Needs.{needs}
+use Rattle.index.proofs.lines.place_back.Statement.{statement}
+use Rattle.index.proofs.lines.place_back.Tie as tie
+
+word-requires : tie.Need-word-requires
+word-requires c κs = search needs
+
+find-tree-node-requires : tie.Need-find-tree-node-requires
+find-tree-node-requires c κs = search needs
+
+enum-known-found : tie.Need-enum-known-found
+enum-known-found c = search needs
+
+same-length : tie.Need-same-length
+same-length c = search needs
+
+returns : tie.Need-returns
+returns c =
+    let c1 = c .before in
+    let c2 = c1 .before .before in
+    place-absent _ _ _ _ (sought-not _ _ _ (c2 .word .ensures) (c1 .find-tree-node .result) (c1 .find-tree-node .ensures) (c .match .keys2))
+
+get-requires : tie.Need-get-requires
+get-requires c κs = search needs
+
+cast-if1 : tie.Need-cast-if1
+cast-if1 c = search needs
+
+same-length-2 : tie.Need-same-length-2
+same-length-2 c = search needs
+
+returns-2 : tie.Need-returns-2
+returns-2 c =
+    let c1 = c .before in
+    let c3 = c1 .before .before .before in
+    let c5 = c3 .before .before in
+    let c6 = c5 .before .before in
+    place-other _ _ _ _
+    (sought-at _ _ _ (c6 .word .ensures) (c5 .find-tree-node .result) (c5 .find-tree-node .ensures) (c3 .found .given .1))
+    (c1 .get .ensures)
+    (c .if1 .taken)
+
+cast-put : tie.Need-cast-put
+cast-put c = search needs
+
+put-requires : tie.Need-put-requires
+put-requires c κs = search needs
+
+same-length-3 : tie.Need-same-length-3
+same-length-3 c = search needs
+
+returns-3 : tie.Need-returns-3
+returns-3 c =
+    let c2 = c .before .before in
+    let c3 = c2 .before .before in
+    let c4 = c3 .before in
+    let c6 = c4 .before .before .before in
+    let c8 = c6 .before .before in
+    let c9 = c8 .before .before in
+    let c10 = c9 .before .before .before .before in
+    place-done _ _ _ _
+    (sought-at _ _ _ (c9 .word .ensures) (c8 .find-tree-node .result) (c8 .find-tree-node .ensures) (c6 .found .given .1))
+    (c4 .get .ensures)
+    (c3 .if1 .left)
+    (omega (arith, c10 .fits .places))
+    (c2 .put .ensures)
+
+pub place-back-spec : {M : Type 1} → statement M
+place-back-spec =
+    tie.close
+    (tie.spec
+    word-requires
+    find-tree-node-requires
+    enum-known-found
+    same-length
+    returns
+    get-requires
+    cast-if1
+    same-length-2
+    returns-2
+    cast-put
+    put-requires
+    same-length-3
+    returns-3)
