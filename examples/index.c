@@ -9,11 +9,11 @@
 
 enum { SLOTS = 64, LINES = 16 };
 
-static uint64_t names[2 * SLOTS], lines[1 + 4 * LINES];
+static uint64_t names[2 * SLOTS], lines[1 + 6 * LINES];
 static uint32_t cells[7 * SLOTS], head[3];
 
 /* The four slices of the index, each a pointer and a number of words. */
-#define INDEX names, 2 * SLOTS, cells, 7 * SLOTS, head, 3, lines, 1 + 4 * LINES
+#define INDEX names, 2 * SLOTS, cells, 7 * SLOTS, head, 3, lines, 1 + 6 * LINES
 #define TREE names, 2 * SLOTS, cells, 7 * SLOTS, head, 3
 
 /* The value of an answer; a refusal ends the program. */

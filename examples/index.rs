@@ -26,7 +26,7 @@ macro_rules! call {
 }
 
 fn main() {
-    let (mut names, mut cells, mut head, mut lines) = ([0u64; 128], [0u32; 448], [0u32; 3], [0u64; 65]);
+    let (mut names, mut cells, mut head, mut lines) = ([0u64; 128], [0u32; 448], [0u32; 3], [0u64; 97]);
     call!(oz_fresh [names, cells, head, lines]);
     print!("slot {}, ", call!(oz_insert [names, cells, head, lines] 17, 1, 10).0);
     let mark = lines[0] as u32;

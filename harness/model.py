@@ -149,16 +149,19 @@ class Index:
         self.tree = Tree()
         self.held = {}  # (hash, key) -> [slot, place]
         self.chain = []  # pairs, the first one first
-        self.journal = []  # (kind, pair, place), kind 1 an insert, 2 a remove and 3 a replace, with the place that it had
+        # Lines (kind, pair, place, before): kind 1 is an insert, 2 a remove, 3 a replace, with the place that it had; before is the pair
+        # that stood just before a removed one in the chain, None where none did.
+        self.journal = []
 
     def lowest_free(self):
         taken = {slot for slot, _ in self.held.values()}
         return next(slot for slot in range(self.slots + 1) if slot not in taken)
 
-    def add(self, pair, place):
+    def add(self, pair, place, before=None):
+        """The pair goes into the lowest free slot, and into the chain right behind another one, or at the front."""
         slot = self.lowest_free()
         self.held[pair] = [slot, place]
-        self.chain.insert(0, pair)
+        self.chain.insert(0 if before is None else self.chain.index(before) + 1, pair)
         self.tree.insert(pair)
         return slot
 
@@ -175,7 +178,7 @@ class Index:
             raise Refused(5)
         if len(self.journal) == self.lines:
             raise Refused(6)
-        self.journal.append((1, pair, place))
+        self.journal.append((1, pair, place, None))
         return self.add(pair, place)
 
     def remove(self, pair):
@@ -183,7 +186,8 @@ class Index:
             raise Refused(4)
         if len(self.journal) == self.lines:
             raise Refused(6)
-        self.journal.append((2, pair, self.held[pair][1]))
+        at = self.chain.index(pair)
+        self.journal.append((2, pair, self.held[pair][1], self.chain[at - 1] if at else None))
         return self.take(pair)
 
     def replace(self, pair, place):
@@ -192,7 +196,7 @@ class Index:
         if len(self.journal) == self.lines:
             raise Refused(6)
         slot, old = self.held[pair]
-        self.journal.append((3, pair, old))
+        self.journal.append((3, pair, old, None))
         self.held[pair][1] = place
         return slot
 
@@ -201,11 +205,11 @@ class Index:
             raise Refused(7)
         count = len(self.journal) - mark
         for _ in range(count):
-            kind, pair, place = self.journal.pop()
+            kind, pair, place, before = self.journal.pop()
             if kind == 1:
                 self.take(pair)
             elif kind == 2:
-                self.add(pair, place)
+                self.add(pair, place, before)
             else:
                 self.held[pair][1] = place
         return count

@@ -10,8 +10,10 @@
  *   names    u64, 2n      per slot: hash, key
  *   cells    u32, 7n      per slot: place, state (0 free, 1 black, 2 red), parent, left, right, prev, next
  *   head     u32, 3       root, first, count
- *   lines    u64, 1 + 4c  the journal: its length, then per line: kind (1 insert, 2 remove, 3 replace), hash, key, place;
- *                         in a replace line the new place + 2^32 * the old one
+ *   lines    u64, 1 + 6c  the journal: its length, then per line: kind, hash, key, place, and the hash and key of the
+ *                         pair before. Kind is 1 insert, 2 remove, 2 + 2^32 remove of a pair that stood right behind
+ *                         another in the chain, which is then the pair before, 3 replace; but for 2 + 2^32 the pair
+ *                         before is 0, 0. The place of a replace is the new place + 2^32 * the old one
  *   lengths  u32, 1 to 8  of a frozen set: the tables' lengths
  *   bins     u32          of a frozen set: all tables' bins in a row: 0 empty, 1 Moved, 2 + slot a list,
  *                         4098 + header a tree
@@ -77,7 +79,8 @@ uint64_t oz_find(const uint64_t *names, size_t names_len, const uint32_t *cells,
 uint64_t oz_insert(uint64_t *names, size_t names_len, uint32_t *cells, size_t cells_len, uint32_t *head,
                    size_t head_len, uint64_t *lines, size_t lines_len, uint64_t hash, uint64_t key, uint32_t place);
 
-/* The pair leaves the tree, and the journal has one line more; answers the slot freed. Refusals 1, 2, 4, 6. */
+/* The pair leaves the tree, and the journal has one line more, which notes the pair before it in the chain, if one is;
+ * answers the slot freed. Refusals 1, 2, 4, 6. */
 uint64_t oz_remove(uint64_t *names, size_t names_len, uint32_t *cells, size_t cells_len, uint32_t *head,
                    size_t head_len, uint64_t *lines, size_t lines_len, uint64_t hash, uint64_t key);
 
@@ -87,7 +90,8 @@ uint64_t oz_replace(const uint64_t *names, size_t names_len, uint32_t *cells, si
                     size_t head_len, uint64_t *lines, size_t lines_len, uint64_t hash, uint64_t key, uint32_t place);
 
 /* Undoes the journal's lines from the last down to number mark; answers how many. To come back to a state, keep the
- * journal's length then, lines[0]: it is the mark. Refusals 1, 2, 7, 8. */
+ * journal's length then, lines[0]: it is the mark. The pairs and places are then those of the mark, and so is their
+ * order from first by next. Refusals 1, 2, 7, 8. */
 uint64_t oz_rollback(uint64_t *names, size_t names_len, uint32_t *cells, size_t cells_len, uint32_t *head,
                      size_t head_len, uint64_t *lines, size_t lines_len, uint32_t mark);
 

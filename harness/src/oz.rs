@@ -334,6 +334,54 @@ pub const RIGHT: usize = 4;
 pub const PREV: usize = 5;
 pub const NEXT: usize = 6;
 
+/// The words of a journal's line: kind, hash, key, place, and the hash and key of the pair before.
+pub const LINE_WORDS: usize = 6;
+
+/// The kind of a remove line that notes the pair before.
+pub const NOTED: u64 = 2 + (1 << 32);
+
+/// A pair with its place.
+pub type Entry = (u64, u64, u32);
+
+/// The entries along the chain of a sound tree, from first by next.
+pub fn listing(names: &[u64], cells: &[u32], head: &[u32]) -> Vec<Entry> {
+    let (mut all, mut i) = (Vec::new(), head[1]);
+    while i != NULL {
+        let x = i as usize;
+        all.push((names[2 * x], names[2 * x + 1], cells[7 * x + PLACE]));
+        i = cells[7 * x + NEXT];
+    }
+    all
+}
+
+/// What the rules say that the entries along the chain are once the lines from the mark on are undone; None where they do not fit.
+pub fn undone(mut list: Vec<Entry>, slots: usize, lines: &[u64], mark: usize) -> Option<Vec<Entry>> {
+    for k in (mark..lines[0] as usize).rev() {
+        let line = &lines[1 + LINE_WORDS * k..][..LINE_WORDS];
+        let seek = |list: &[Entry], hash, key| list.iter().position(|e| (e.0, e.1) == (hash, key));
+        let (kind, hash, key, place) = (line[0], line[1], line[2], line[3]);
+        let at = seek(&list, hash, key);
+        match kind {
+            1 => {
+                list.remove(at.filter(|&i| list[i].2 as u64 == place)?);
+            }
+            2 | NOTED => {
+                if at.is_some() || list.len() == slots || place >> 32 != 0 {
+                    return None;
+                }
+                let i = if kind == 2 { 0 } else { seek(&list, line[4], line[5])? + 1 };
+                list.insert(i, (hash, key, place as u32));
+            }
+            3 => {
+                let i = at.filter(|&i| list[i].2 == place as u32)?;
+                list[i].2 = (place >> 32) as u32;
+            }
+            _ => return None,
+        }
+    }
+    Some(list)
+}
+
 /// A live tree with its journal.
 #[derive(Clone, PartialEq, Eq, Debug)]
 pub struct Index {
@@ -346,13 +394,13 @@ pub struct Index {
 impl Index {
     /// An empty index of so many slots and lines, written by fresh over words that are none of it; by hand where the sizes are no index's.
     pub fn new(slots: usize, lines: usize) -> Self {
-        let mut ix = Index { names: vec![7; 2 * slots], cells: vec![7; 7 * slots], head: vec![7; 3], lines: vec![7; 1 + 4 * lines] };
+        let mut ix = Index { names: vec![7; 2 * slots], cells: vec![7; 7 * slots], head: vec![7; 3], lines: vec![7; 1 + LINE_WORDS * lines] };
         let made = fresh(&mut ix.names, &mut ix.cells, &mut ix.head, &mut ix.lines);
         let fits = (1..=4096).contains(&slots) && lines <= 1024;
         assert_eq!(made, if fits { Answer::plain(0, 1) } else { Answer::plain(1, 0) }, "fresh of {slots} slots, {lines} lines");
         if !fits {
             let cells = (0..slots).flat_map(|_| [0, 0, NULL, NULL, NULL, NULL, NULL]).collect();
-            ix = Index { names: vec![0; 2 * slots], cells, head: vec![NULL, NULL, 0], lines: vec![0; 1 + 4 * lines] };
+            ix = Index { names: vec![0; 2 * slots], cells, head: vec![NULL, NULL, 0], lines: vec![0; 1 + LINE_WORDS * lines] };
         }
         ix
     }
@@ -392,10 +440,10 @@ impl Index {
         let has = |i: &usize| before.cells[7 * i + STATE] != 0 && before.names[2 * i..2 * i + 2] == [hash, key];
         let mut wanted = before.clone();
         if let Some(i) = (0..before.slots()).find(has) {
-            let at = 1 + 4 * before.lines[0] as usize;
+            let at = 1 + LINE_WORDS * before.lines[0] as usize;
             let places = place as u64 | (before.cells[7 * i + PLACE] as u64) << 32;
             wanted.cells[7 * i + PLACE] = place;
-            wanted.lines[at..at + 4].copy_from_slice(&[3, hash, key, places]);
+            wanted.lines[at..at + LINE_WORDS].copy_from_slice(&[3, hash, key, places, 0, 0]);
             wanted.lines[0] += 1;
         }
         *self == wanted
@@ -403,6 +451,10 @@ impl Index {
 
     pub fn rollback(&mut self, mark: u32) -> Answer {
         rollback(&mut self.names, &mut self.cells, &mut self.head, &mut self.lines, mark)
+    }
+
+    pub fn listing(&self) -> Vec<Entry> {
+        listing(&self.names, &self.cells, &self.head)
     }
 
     pub fn check(&self) -> Answer {

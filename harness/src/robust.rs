@@ -1,5 +1,5 @@
 //! Calls on random and damaged words, lengths and cursors, with guard words around each slice, and random runs of demand 3.
-use harness::oz::{self, Index, NULL};
+use harness::oz::{self, Index, LINE_WORDS, NOTED, NULL};
 use harness::rng::Rng;
 use harness::sets;
 use std::collections::BTreeMap;
@@ -47,6 +47,19 @@ struct Live {
 }
 
 impl Live {
+    fn new(ix: &Index) -> Self {
+        Live {
+            names: Lent::new(&ix.names, G64),
+            cells: Lent::new(&ix.cells, G32),
+            head: Lent::new(&ix.head, G32),
+            lines: Lent::new(&ix.lines, G64),
+        }
+    }
+
+    fn listing(&self) -> Vec<oz::Entry> {
+        oz::listing(self.names.get(), self.cells.get(), self.head.get())
+    }
+
     fn guarded(&self) -> bool {
         self.names.guarded(G64) && self.cells.guarded(G32) && self.head.guarded(G32) && self.lines.guarded(G64)
     }
@@ -68,6 +81,16 @@ fn word64(rng: &mut Rng, n: u64) -> u64 {
         1 => rng.next(),
         2 => 1 << 32,
         _ => rng.below(n + 1),
+    }
+}
+
+/// A word of a journal: now and then the kind of a remove line, with or without a pair before.
+fn line_word(rng: &mut Rng, n: u64) -> u64 {
+    match rng.below(8) {
+        0 => 2,
+        1 => NOTED,
+        2 => rng.below(4) + (1 << 32),
+        _ => word64(rng, n),
     }
 }
 
@@ -114,7 +137,7 @@ fn live(rng: &mut Rng) -> Live {
             };
         }
     }
-    resize(&mut ix.lines, 1 + 4 * capacity, 0);
+    resize(&mut ix.lines, 1 + LINE_WORDS * capacity, 0);
     match rng.below(4) {
         0 => {}
         1 => {
@@ -128,7 +151,7 @@ fn live(rng: &mut Rng) -> Live {
                 *w = word64(rng, 3);
             }
             for w in ix.lines.iter_mut() {
-                *w = word64(rng, capacity as u64);
+                *w = line_word(rng, capacity as u64);
             }
         }
         _ => {
@@ -141,7 +164,7 @@ fn live(rng: &mut Rng) -> Live {
                     1 => ix.head[rng.below(3) as usize] = word32(rng, slots as u64),
                     2 | 3 => {
                         let i = rng.below(ix.lines.len() as u64) as usize;
-                        ix.lines[i] = word64(rng, capacity as u64 + 1);
+                        ix.lines[i] = line_word(rng, capacity as u64 + 1);
                     }
                     _ => {
                         let i = rng.below(ix.cells.len() as u64) as usize;
@@ -151,17 +174,45 @@ fn live(rng: &mut Rng) -> Live {
             }
         }
     }
-    let (a, b, c, d) = (length(rng, 2 * slots), length(rng, 7 * slots), length(rng, 3), length(rng, 1 + 4 * capacity));
+    let (a, b, c, d) = (length(rng, 2 * slots), length(rng, 7 * slots), length(rng, 3), length(rng, 1 + LINE_WORDS * capacity));
     resize(&mut ix.names, a, 0);
     resize(&mut ix.cells, b, NULL);
     resize(&mut ix.head, c, NULL);
     resize(&mut ix.lines, d, 0);
-    Live {
-        names: Lent::new(&ix.names, G64),
-        cells: Lent::new(&ix.cells, G32),
-        head: Lent::new(&ix.head, G32),
-        lines: Lent::new(&ix.lines, G64),
+    Live::new(&ix)
+}
+
+/// A sound tree of a few pairs, and a journal whose lines are drawn: of every kind, now and then of none, with pairs that may be there.
+fn drawn(rng: &mut Rng) -> Live {
+    let slots = 1 + rng.below(5) as usize;
+    let capacity = rng.below(4) as usize;
+    let mut ix = Index::new(slots, capacity.max(1));
+    for _ in 0..rng.below(8) {
+        ix.forget();
+        let (h, k) = (rng.below(2), rng.below(3));
+        match rng.below(4) {
+            0 => ix.remove(h, k),
+            _ => ix.insert(h, k, rng.below(2) as u32),
+        };
     }
+    resize(&mut ix.lines, 1 + LINE_WORDS * capacity, 0);
+    ix.lines[0] = capacity as u64;
+    for line in ix.lines[1..].chunks_exact_mut(LINE_WORDS) {
+        let kind = [1, 2, NOTED, NOTED, NOTED, 3, 3 + (1 << 32), line_word(rng, 4)][rng.below(8) as usize];
+        let old = if kind == 3 || rng.below(16) == 0 { rng.below(2) << 32 } else { 0 };
+        line.copy_from_slice(&[kind, rng.below(2), rng.below(3), rng.below(2) + old, rng.below(2), rng.below(3)]);
+    }
+    Live::new(&ix)
+}
+
+/// A rollback of drawn lines.
+fn drawn_calls(rng: &mut Rng, tally: &mut Tally) {
+    let mut l = drawn(rng);
+    let before = l.clone();
+    let mark = rng.below(before.lines.get()[0] + 1) as u32;
+    let answer = oz::rollback(l.names.lend(), l.cells.lend(), l.head.lend(), l.lines.lend(), mark);
+    tally.note("rollback", answer, l.names.len / 2, if answer.number == 0 { l.guarded() } else { l == before });
+    tally.foretell(&before, &l, mark, answer);
 }
 
 #[derive(Default)]
@@ -170,10 +221,27 @@ struct Tally {
     touched: u64,
     searches: u64,
     strange: u64,
+    rollbacks: u64,
+    noted: u64,
+    unforetold: u64,
     by: BTreeMap<(&'static str, u32), u64>,
 }
 
 impl Tally {
+    /// A rollback's answer, held to what the lines say where it answered 0 or 8.
+    fn foretell(&mut self, before: &Live, after: &Live, mark: u32, answer: oz::Answer) {
+        if !matches!(answer.number, 0 | 8) {
+            return;
+        }
+        self.rollbacks += 1;
+        let kinds = before.lines.get()[1..].iter().step_by(LINE_WORDS).take(before.lines.get()[0] as usize).skip(mark as usize);
+        self.noted += (answer.number == 0 && kinds.into_iter().any(|kind| *kind == NOTED)) as u64;
+        if !foretold(before, after, mark, answer.number) {
+            self.unforetold += 1;
+            println!("foretold otherwise: rollback to {mark} answered {answer:?}");
+        }
+    }
+
     /// A call's answer on so many slots, and whether it has touched nothing that it should not. Looks are at most the slots, on a hit at
     /// least one; 1, 10 and the routines that do not search have none.
     fn note(&mut self, name: &'static str, answer: oz::Answer, slots: usize, fine: bool) {
@@ -201,11 +269,29 @@ fn placed(before: &Live, after: &Live, slot: u32) -> bool {
     before.names == after.names && before.head == after.head && others(before) == others(after)
 }
 
+/// Whether a remove that was accepted left the line that the rules say: with the pair before in the chain, if there was one.
+fn noted(before: &Live, after: &Live, hash: u64, key: u64) -> bool {
+    let list = before.listing();
+    let Some(i) = list.iter().position(|e| (e.0, e.1) == (hash, key)) else { return false };
+    let (kind, prior) = if i == 0 { (2, (0, 0, 0)) } else { (NOTED, list[i - 1]) };
+    let at = 1 + LINE_WORDS * before.lines.get()[0] as usize;
+    after.lines.get()[at..at + LINE_WORDS] == [kind, hash, key, list[i].2 as u64, prior.0, prior.1]
+}
+
+/// Whether a rollback that answered 0 or 8 did what the rules say of the lines: the entries along the chain, or that they do not fit.
+fn foretold(before: &Live, after: &Live, mark: u32, number: u32) -> bool {
+    match oz::undone(before.listing(), before.names.len / 2, before.lines.get(), mark as usize) {
+        Some(list) => number == 0 && after.listing() == list,
+        None => number == 8,
+    }
+}
+
 fn live_calls(rng: &mut Rng, tally: &mut Tally) {
     let mut l = live(rng);
     let mut before = l.clone();
     for _ in 0..8 {
         let (h, k) = if rng.below(4) == 0 { (word64(rng, 3), word64(rng, 9)) } else { (rng.below(3), rng.below(8)) };
+        let mark = word32(rng, 3);
         let (name, answer) = match rng.below(21) / 2 {
             10 => ("fresh", oz::fresh(l.names.lend(), l.cells.lend(), l.head.lend(), l.lines.lend())),
             0 => ("find", oz::find(l.names.get(), l.cells.get(), l.head.get(), h, k)),
@@ -217,15 +303,19 @@ fn live_calls(rng: &mut Rng, tally: &mut Tally) {
             3 | 4 => ("insert", oz::insert(l.names.lend(), l.cells.lend(), l.head.lend(), l.lines.lend(), h, k, 5)),
             5 | 6 => ("remove", oz::remove(l.names.lend(), l.cells.lend(), l.head.lend(), l.lines.lend(), h, k)),
             7 => ("replace", oz::replace(l.names.get(), l.cells.lend(), l.head.get(), l.lines.lend(), h, k, word32(rng, 9))),
-            _ => ("rollback", oz::rollback(l.names.lend(), l.cells.lend(), l.head.lend(), l.lines.lend(), word32(rng, 3))),
+            _ => ("rollback", oz::rollback(l.names.lend(), l.cells.lend(), l.head.lend(), l.lines.lend(), mark)),
         };
         let writes = matches!(name, "fresh" | "insert" | "remove" | "replace" | "rollback") && answer.number == 0;
         let fine = match name {
             "replace" if writes => l.guarded() && placed(&before, &l, answer.value),
+            "remove" if writes => l.guarded() && noted(&before, &l, h, k),
             _ if writes => l.guarded(),
             _ => l == before,
         };
         tally.note(name, answer, l.names.len / 2, fine);
+        if name == "rollback" {
+            tally.foretell(&before, &l, mark, answer);
+        }
         if writes {
             before = l.clone();
         }
@@ -321,7 +411,7 @@ fn calls_on(rng: &mut Rng, tally: &mut Tally, lengths: &[u32], bins: &[u32], hea
 }
 
 /// The entries in order.
-fn contents(ix: &Index) -> Vec<(u64, u64, u32)> {
+fn contents(ix: &Index) -> Vec<oz::Entry> {
     let mut all: Vec<_> = (0..ix.slots() as u32)
         .filter(|&i| ix.cell(i, oz::STATE) != 0)
         .map(|i| (ix.names[2 * i as usize], ix.names[2 * i as usize + 1], ix.cell(i, oz::PLACE)))
@@ -330,8 +420,8 @@ fn contents(ix: &Index) -> Vec<(u64, u64, u32)> {
     all
 }
 
-/// Demand 3: any calls, replaces among them, after a mark, then a rollback to it; below the mark and past the length the journal is
-/// garbage.
+/// Demand 3: any calls, replaces among them, after a mark, then a rollback to it: the entries are those of the mark, and so is their
+/// order along the chain. Below the mark and past the length the journal is garbage.
 fn demand3(rng: &mut Rng) -> (u64, Result<u64, String>) {
     let slots = 1 + rng.below(12) as usize;
     let capacity = rng.below(24) as usize;
@@ -342,14 +432,14 @@ fn demand3(rng: &mut Rng) -> (u64, Result<u64, String>) {
         let (h, k) = (rng.below(2), rng.below(pairs));
         ix.insert(h, k, rng.next() as u32);
     }
-    resize(&mut ix.lines, 1 + 4 * capacity, 0);
+    resize(&mut ix.lines, 1 + LINE_WORDS * capacity, 0);
     for w in ix.lines[1..].iter_mut() {
         *w = word64(rng, 4);
     }
     let m = rng.below(capacity as u64 + 1) as usize;
     ix.lines[0] = m as u64;
-    let kept = ix.lines[1..1 + 4 * m].to_vec();
-    let held = contents(&ix);
+    let kept = ix.lines[1..1 + LINE_WORDS * m].to_vec();
+    let (held, listed) = (contents(&ix), ix.listing());
     let calls = rng.below(60);
     for _ in 0..calls {
         let (h, k) = (rng.below(2), rng.below(pairs));
@@ -383,13 +473,16 @@ fn demand3(rng: &mut Rng) -> (u64, Result<u64, String>) {
     if contents(&ix) != held {
         return fail("contents");
     }
-    if ix.lines[0] as usize != m || ix.lines[1..1 + 4 * m] != kept[..] {
+    if ix.listing() != listed {
+        return fail("listing");
+    }
+    if ix.lines[0] as usize != m || ix.lines[1..1 + LINE_WORDS * m] != kept[..] {
         return fail("lines below the mark");
     }
-    if ix.lines[1 + 4 * m..1 + 4 * length].iter().any(|w| *w != 0) {
+    if ix.lines[1 + LINE_WORDS * m..1 + LINE_WORDS * length].iter().any(|w| *w != 0) {
         return fail("lines from the mark");
     }
-    if ix.lines[1 + 4 * length..] != before.lines[1 + 4 * length..] {
+    if ix.lines[1 + LINE_WORDS * length..] != before.lines[1 + LINE_WORDS * length..] {
         return fail("words past the length");
     }
     (calls, Ok((length - m) as u64))
@@ -403,6 +496,7 @@ fn main() {
         live_calls(&mut rng, &mut tally);
         set_calls(&mut rng, &mut tally);
         near_calls(&mut rng, &mut tally);
+        drawn_calls(&mut rng, &mut tally);
     }
     println!("calls {} on random and damaged words, each slice between guard words", tally.calls);
     for ((name, number), count) in &tally.by {
@@ -412,6 +506,10 @@ fn main() {
     println!(
         "finds and lookups with looks {}; more looks than slots, none on a hit, or some where there are none: {}",
         tally.searches, tally.strange
+    );
+    println!(
+        "rollbacks that answered 0 or 8 {}, {} of them with a noted pair undone; another number or another listing than the lines say: {}",
+        tally.rollbacks, tally.noted, tally.unforetold
     );
     let runs = calls / 100;
     let (mut made, mut undone, mut wrong) = (0, 0, 0);
@@ -427,5 +525,5 @@ fn main() {
         }
     }
     println!("demand 3: {runs} runs, {made} calls after the mark, {undone} lines undone by the last rollback, wrong {wrong}");
-    std::process::exit((tally.touched + tally.strange + wrong != 0) as i32);
+    std::process::exit((tally.touched + tally.strange + tally.unforetold + wrong != 0) as i32);
 }

@@ -1,9 +1,15 @@
 // The list of calls, on a tree of 64 slots and a journal of 128 lines: inserts, removes, replaces and rollbacks. They are made once, one
 // after the other. After each the index's words are copied, and the copy is rolled back to a mark that varies with the cut. A second index
-// is made by the calls alone whose lines stand below that mark. The two have to hold the same pairs and places and the same words of a
-// journal. Then a place of the copy is changed behind the journal's back, which the comparison has to notice, and is put right; the copy
-// is rolled back to 0, and all calls are made again on it.
+// is made by the calls alone whose lines stand below that mark. The two have to hold the same pairs and places, in the same order along
+// the chain, and the same words of a journal. Then a place of the copy is changed behind the journal's back, and put right, and two
+// neighbours of its chain are exchanged, and put right; the comparison has to notice each. The copy is rolled back to 0, and all calls are
+// made again on it.
+use crate::chain::Order;
+use crate::chain::before_another;
+use crate::chain::exchange;
+use crate::chain::is_planted;
 use crate::entries::same_entries;
+use crate::entries::same_listing;
 use crate::steps::all;
 use crate::steps::back_to_start;
 use crate::steps::is_refused;
@@ -22,6 +28,7 @@ use index::journal::REPLACE;
 use index::remove::remove;
 use index::replace::replace;
 use index::rollback::rollback;
+use slots::NEXT;
 use slots::NULL;
 use slots::PLACE;
 use slots::answer::Answer;
@@ -35,8 +42,11 @@ use trials::same::same_names;
 
 const SLOTS: u32 = 64;
 
-// What came of the cuts: rollbacks accepted and refused at them, whole runs after them, what was not as it has to be, places planted, and
-// planted places noticed.
+// The words of the journal: its length, and six to each of 128 lines.
+const JOURNAL_WORDS: usize = 1 + 6 * 128;
+
+// What came of the cuts: rollbacks accepted and refused at them, whole runs after them, what was not as it has to be, places planted and
+// noticed, neighbours of the chain exchanged and noticed.
 pub struct Tally {
     pub cuts: u32,
     pub rollbacks: u32,
@@ -45,6 +55,8 @@ pub struct Tally {
     pub differences: u32,
     pub planted: u32,
     pub noticed: u32,
+    pub exchanged: u32,
+    pub seen: u32,
 }
 
 // Word f of call k: its kind, hash, key and place, four words to a call.
@@ -108,8 +120,8 @@ fn make_kept(
     }
 }
 
-// Whether an index is what a second one is that was made to mark m and no further: both sound, with the same pairs and places, and with
-// the same words of the journal.
+// Whether an index is what a second one is that was made to mark m and no further: both sound, with the same pairs and places, in the
+// same order along the chain, and with the same words of the journal.
 fn as_at_mark(
     calls: &[u64],
     made: &[u32],
@@ -122,7 +134,7 @@ fn as_at_mark(
     let mut names_then = [0u64; 128];
     let mut cells_then = [0u32; 448];
     let mut head_then = [0u32; 3];
-    let mut lines_then = [0u64; 513];
+    let mut lines_then = [0u64; JOURNAL_WORDS];
     fresh(
         &mut names_then,
         &mut cells_then,
@@ -138,8 +150,7 @@ fn as_at_mark(
         &mut head_then,
         &mut lines_then,
     );
-    let rules = is_sound(names, cells, head);
-    let rules_then = is_sound(&names_then, &cells_then, &head_then);
+    let rules = is_sound(names, cells, head) && is_sound(&names_then, &cells_then, &head_then);
     let entries = same_entries(
         SLOTS,
         names,
@@ -149,8 +160,17 @@ fn as_at_mark(
         &cells_then,
         &head_then,
     );
+    let listing = same_listing(
+        SLOTS,
+        names,
+        cells,
+        head,
+        &names_then,
+        &cells_then,
+        &head_then,
+    );
     let journal = same_names(lines, &lines_then);
-    all(rules, rules_then, entries, journal)
+    all(rules, entries, listing, journal)
 }
 
 // Rolls back to the cut's mark: whether as many lines are undone as there were above it, and the index is as it was at the mark.
@@ -188,6 +208,58 @@ fn plant(
     !same
 }
 
+// Exchanges slot x and the slot behind it in the chain, compares, and puts them right: whether the tree was sound meanwhile, and the
+// comparison noticed.
+fn plant_order(
+    calls: &[u64],
+    made: &[u32],
+    x: u32,
+    names: &[u64],
+    cells: &mut [u32],
+    head: &mut [u32],
+    lines: &[u64],
+) -> Order {
+    let y = get(cells, x, NEXT);
+    exchange(cells, head, x);
+    let planted = is_planted(names, cells, head, x);
+    let same = as_at_mark(calls, made, length(lines), names, cells, head, lines);
+    exchange(cells, head, y);
+    Order {
+        planted,
+        seen: planted && !same,
+    }
+}
+
+// What the planting at a cut came to.
+struct Plants {
+    planted: bool,
+    noticed: bool,
+    exchanged: bool,
+    seen: bool,
+}
+
+// Plants a place in the chain's first slot, and then an exchange of two neighbours of the chain, which vary with the cut.
+fn plant_both(
+    cut: u32,
+    calls: &[u64],
+    made: &[u32],
+    names: &[u64],
+    cells: &mut [u32],
+    head: &mut [u32],
+    lines: &[u64],
+) -> Plants {
+    let x = get(head, 0, 1);
+    let noticed = plant(calls, made, x, names, cells, head, lines);
+    let earlier = before_another(cells, head, cut % SLOTS);
+    let order = plant_order(calls, made, earlier, names, cells, head, lines);
+    Plants {
+        planted: x != NULL,
+        noticed,
+        exchanged: order.planted,
+        seen: order.seen,
+    }
+}
+
 // Whether all calls are made again with every answer right.
 fn again(
     calls: &[u64],
@@ -214,6 +286,8 @@ struct Trial {
     right: bool,
     planted: bool,
     noticed: bool,
+    exchanged: bool,
+    seen: bool,
 }
 
 // Rolls back to 0 and makes all calls again.
@@ -231,8 +305,8 @@ fn from_start(
     all(start, right, true, true)
 }
 
-// A cut: the copy of the index is rolled back to the cut's mark, has a place planted and put right where it holds a pair, and is rolled
-// back to 0, and the calls are made again.
+// A cut: the copy of the index is rolled back to the cut's mark, has a place planted and put right where it holds a pair, and two
+// neighbours of the chain where it holds two, and is rolled back to 0, and the calls are made again.
 fn try_cut(
     cut: u32,
     calls: &[u64],
@@ -245,13 +319,14 @@ fn try_cut(
     lines: &mut [u64],
 ) -> Trial {
     let back = back_to_mark(cut, calls, made, names, cells, head, lines);
-    let x = get(head, 0, 1);
-    let noticed = plant(calls, made, x, names, cells, head, lines);
+    let plants = plant_both(cut, calls, made, names, cells, head, lines);
     let right = from_start(calls, n, words, names, cells, head, lines);
     Trial {
         right: back && right,
-        planted: x != NULL,
-        noticed,
+        planted: plants.planted,
+        noticed: plants.noticed,
+        exchanged: plants.exchanged,
+        seen: plants.seen,
     }
 }
 
@@ -266,6 +341,8 @@ fn counted(t: Tally, answer: bool, refusal: bool, tried: Trial) -> Tally {
         differences: more(t.differences, one(!right)),
         planted: more(t.planted, one(tried.planted)),
         noticed: more(t.noticed, one(tried.noticed)),
+        exchanged: more(t.exchanged, one(tried.exchanged)),
+        seen: more(t.seen, one(tried.seen)),
     }
 }
 
@@ -280,7 +357,7 @@ fn cut_once(
     names: [u64; 128],
     cells: [u32; 448],
     head: [u32; 3],
-    lines: [u64; 513],
+    lines: [u64; JOURNAL_WORDS],
 ) -> Tally {
     let mut names_cut = names;
     let mut cells_cut = cells;
@@ -323,7 +400,7 @@ pub fn try_calls(calls: &[u64], n: u32, words: &[u64]) -> Tally {
     let mut names = [0u64; 128];
     let mut cells = [0u32; 448];
     let mut head = [0u32; 3];
-    let mut lines = [0u64; 513];
+    let mut lines = [0u64; JOURNAL_WORDS];
     let mut made = [0u32; 128];
     fresh(&mut names, &mut cells, &mut head, &mut lines);
     let mut t = Tally {
@@ -334,6 +411,8 @@ pub fn try_calls(calls: &[u64], n: u32, words: &[u64]) -> Tally {
         differences: 0,
         planted: 0,
         noticed: 0,
+        exchanged: 0,
+        seen: 0,
     };
     let mut k: u32 = 0;
     while k < n {

@@ -1,8 +1,10 @@
 // The longest script, on a tree of 512 slots and a journal of 1,024 lines, so that a line is left when the tree is full. It runs once,
 // call by call. After every call its words are copied, and the copy is rolled back to a mark that varies with the cut. A second index
-// runs only the calls whose lines stand below that mark: no rollback comes up in it. The two have to hold the same pairs and places and
-// the same words of a journal. Then the copy is rolled back to 0, and all of the script runs again on it.
+// runs only the calls whose lines stand below that mark: no rollback comes up in it. The two have to hold the same pairs and places, in
+// the same order along the chain, and the same words of a journal. Then the copy is rolled back to 0, and all of the script runs again on
+// it.
 use crate::entries::same_entries;
+use crate::entries::same_listing;
 use crate::steps::all;
 use crate::steps::back_to_start;
 use crate::steps::is_refused;
@@ -26,6 +28,9 @@ use trials::same::same_index;
 use trials::same::same_names;
 
 const SLOTS: u32 = 512;
+
+// The words of the journal: its length, and six to each of 1,024 lines.
+const JOURNAL_WORDS: usize = 1 + 6 * 1024;
 
 // What came of the cuts: rollbacks accepted and refused at them, whole runs after them, and what was not as it has to be.
 pub struct Tally {
@@ -72,8 +77,9 @@ fn run_kept(
     }
 }
 
-// Whether an index is what a second one is that ran to mark m and no further: both sound, with the same pairs and places, and with the
-// same words of the journal. The second has written no line past the mark, so those of the first have to be zero.
+// Whether an index is what a second one is that ran to mark m and no further: both sound, with the same pairs and places, in the same
+// order along the chain, and with the same words of the journal. The second has written no line past the mark, so those of the first have
+// to be zero.
 fn as_at_mark(
     script: &[u8],
     made: &[u32],
@@ -87,7 +93,7 @@ fn as_at_mark(
     let mut names_then = [0u64; 1024];
     let mut cells_then = [0u32; 3584];
     let mut head_then = [0u32; 3];
-    let mut lines_then = [0u64; 4097];
+    let mut lines_then = [0u64; JOURNAL_WORDS];
     fresh(
         &mut names_then,
         &mut cells_then,
@@ -104,8 +110,7 @@ fn as_at_mark(
         &mut lines_then,
         out,
     );
-    let rules = is_sound(names, cells, head);
-    let rules_then = is_sound(&names_then, &cells_then, &head_then);
+    let rules = is_sound(names, cells, head) && is_sound(&names_then, &cells_then, &head_then);
     let entries = same_entries(
         SLOTS,
         names,
@@ -115,8 +120,17 @@ fn as_at_mark(
         &cells_then,
         &head_then,
     );
+    let listing = same_listing(
+        SLOTS,
+        names,
+        cells,
+        head,
+        &names_then,
+        &cells_then,
+        &head_then,
+    );
     let journal = same_names(lines, &lines_then);
-    all(rules, rules_then, entries, journal)
+    all(rules, entries, listing, journal)
 }
 
 // Rolls back to the cut's mark: whether as many lines are undone as there were above it, and the index is as it was at the mark.
@@ -209,7 +223,7 @@ fn cut_once(
     names: [u64; 1024],
     cells: [u32; 3584],
     head: [u32; 3],
-    lines: [u64; 4097],
+    lines: [u64; JOURNAL_WORDS],
     out: &mut [u8],
 ) -> Tally {
     let mut names_cut = names;
@@ -253,7 +267,7 @@ pub fn try_cuts(script: &[u8], answers: &[u8], out: &mut [u8]) -> Tally {
     let mut names = [0u64; 1024];
     let mut cells = [0u32; 3584];
     let mut head = [0u32; 3];
-    let mut lines = [0u64; 4097];
+    let mut lines = [0u64; JOURNAL_WORDS];
     let mut made = [0u32; 1024];
     fresh(&mut names, &mut cells, &mut head, &mut lines);
     let mut t = Tally {

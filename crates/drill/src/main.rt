@@ -1,10 +1,11 @@
 // The drill. The longest script is cut after every call, rolled back to a mark that varies with the cut, held against a second index
 // that ran only the calls of the lines that are kept, rolled back to 0 and run again, every answer held against the model's. The short
 // script is cut after every call and rolled back to every mark up to the journal's length: the tree has to hold what it held at the
-// mark, and the journal the lines that it had. After each of these rollbacks a name is planted behind the journal's back, which the
-// comparison has to notice. The list of calls, with replaces among them, is cut as the longest script is, and a place is planted at each
-// cut.
+// mark, in the same order along the chain, and the journal the lines that it had. After each of these rollbacks two neighbours of
+// the chain are exchanged and put right, and a name is planted behind the journal's back; the comparison has to notice each. The list of
+// calls, with replaces among them, is cut as the longest script is, and a place is planted and two neighbours are exchanged at each cut.
 mod calls;
+mod chain;
 mod entries;
 mod longest;
 mod marks;
@@ -33,15 +34,20 @@ fn drill_longest(script: &mut [u8], answers: &mut [u8], out: &mut [u8]) {
 }
 
 // The short script's line.
-fn drill_short(script: &mut [u8], rows: &mut [u32], out: &mut [u8]) {
-    let n = load(b"marks.txt", script);
-    let t = try_short(&script[..n], rows, out);
+fn print_marks(t: marks::Tally) {
     number(b"marks: cuts ", t.cuts);
     number(b" rollbacks ", t.rollbacks);
     number(b" differences ", t.differences);
     number(b" planted ", t.planted);
     number(b" noticed ", t.noticed);
+    number(b" exchanged ", t.exchanged);
+    number(b" noticed ", t.seen);
     say(b"\n");
+}
+
+fn drill_short(script: &mut [u8], rows: &mut [u32], out: &mut [u8]) {
+    let n = load(b"marks.txt", script);
+    print_marks(try_short(&script[..n], rows, out));
 }
 
 // Reads the numbers of a file, and answers how many it has.
@@ -59,6 +65,8 @@ fn print_calls(t: calls::Tally) {
     number(b" differences ", t.differences);
     number(b" planted ", t.planted);
     number(b" noticed ", t.noticed);
+    number(b" exchanged ", t.exchanged);
+    number(b" noticed ", t.seen);
     say(b"\n");
 }
 
@@ -74,7 +82,7 @@ fn main() {
     let mut script = [0u8; 65536];
     let mut answers = [0u8; 524288];
     let mut out = [0u8; 524288];
-    let mut rows = [0u32; 24624];
+    let mut rows = [0u32; 49248];
     drill_longest(&mut script, &mut answers, &mut out);
     drill_short(&mut script, &mut rows, &mut out);
     drill_calls(&mut script);

@@ -1,4 +1,8 @@
 // The short script, cut after every call and rolled back to every mark.
+use crate::chain::Order;
+use crate::chain::before_another;
+use crate::chain::exchange;
+use crate::chain::is_planted;
 use crate::steps::all;
 use crate::steps::is_sound;
 use crate::steps::length;
@@ -15,14 +19,25 @@ use index::fresh::fresh;
 use index::insert::Inserted;
 use index::insert::insert;
 use index::rollback::rollback;
+use slots::NEXT;
+use slots::get;
 
-// What came of the cuts: rollbacks, those after which something differs, names planted, and planted names noticed.
+// The slots that the pairs of the short script take.
+const SLOTS: u32 = 24;
+
+// The words of the journal: its length, and six to each of 512 lines.
+const JOURNAL_WORDS: usize = 1 + 6 * 512;
+
+// What came of the cuts: rollbacks, those after which something differs, names planted and noticed, neighbours of the chain exchanged and
+// noticed.
 pub struct Tally {
     pub cuts: u32,
     pub rollbacks: u32,
     pub differences: u32,
     pub planted: u32,
     pub noticed: u32,
+    pub exchanged: u32,
+    pub seen: u32,
 }
 
 // A call of the short script, with what the tree then holds noted where the call wrote a line. After any other call the row of an
@@ -66,7 +81,7 @@ fn run_noted(
 
 // Plants a key that the script does not use, with a journal of its own; whether it went in.
 fn plant(names: &mut [u64], cells: &mut [u32], head: &mut [u32], k: u32) -> bool {
-    let mut lines = [0u64; 5];
+    let mut lines = [0u64; 7];
     let key = (24 + k % 24) as u64;
     match insert(names, cells, head, &mut lines, key / 4, key, 4000000000) {
         Inserted::At(_) => true,
@@ -98,9 +113,25 @@ struct Trial {
     right: bool,
     planted: bool,
     noticed: bool,
+    exchanged: bool,
+    seen: bool,
 }
 
-// Rolls back to mark m, compares, plants a name, and compares again.
+// Exchanges two neighbours of the chain, compares, and puts them right: whether the tree was sound meanwhile, and the comparison noticed.
+fn plant_order(m: u32, names: &[u64], cells: &mut [u32], head: &mut [u32], rows: &[u32]) -> Order {
+    let x = before_another(cells, head, m % SLOTS);
+    let y = get(cells, x, NEXT);
+    exchange(cells, head, x);
+    let planted = is_planted(names, cells, head, x);
+    let seen = !same(rows, m, names, cells, head);
+    exchange(cells, head, y);
+    Order {
+        planted,
+        seen: planted && seen,
+    }
+}
+
+// Rolls back to mark m, compares, exchanges two neighbours of the chain and puts them right, plants a name, and compares again.
 fn roll_and_plant(
     m: u32,
     names: &mut [u64],
@@ -111,6 +142,7 @@ fn roll_and_plant(
     rows: &[u32],
 ) -> Trial {
     let right = as_noted(m, names, cells, head, lines, old, rows);
+    let order = plant_order(m, names, cells, head, rows);
     let planted = plant(names, cells, head, m);
     let seen = !same(rows, m, names, cells, head);
     let noticed = all(planted, seen, true, true);
@@ -118,6 +150,8 @@ fn roll_and_plant(
         right,
         planted,
         noticed,
+        exchanged: order.planted,
+        seen: order.seen,
     }
 }
 
@@ -126,7 +160,7 @@ fn try_mark(part: &[u8], m: u32, rows: &mut [u32], out: &mut [u8]) -> Trial {
     let mut names = [0u64; 1024];
     let mut cells = [0u32; 3584];
     let mut head = [0u32; 3];
-    let mut lines = [0u64; 2049];
+    let mut lines = [0u64; JOURNAL_WORDS];
     fresh(&mut names, &mut cells, &mut head, &mut lines);
     run_noted(
         part,
@@ -149,6 +183,8 @@ fn tallied(t: Tally, tried: Trial) -> Tally {
         differences: more(t.differences, one(!tried.right)),
         planted: more(t.planted, one(tried.planted)),
         noticed: more(t.noticed, one(tried.noticed)),
+        exchanged: more(t.exchanged, one(tried.exchanged)),
+        seen: more(t.seen, one(tried.seen)),
     }
 }
 
@@ -157,7 +193,7 @@ fn length_at(part: &[u8], rows: &mut [u32], out: &mut [u8]) -> u32 {
     let mut names = [0u64; 1024];
     let mut cells = [0u32; 3584];
     let mut head = [0u32; 3];
-    let mut lines = [0u64; 2049];
+    let mut lines = [0u64; JOURNAL_WORDS];
     fresh(&mut names, &mut cells, &mut head, &mut lines);
     run_noted(
         part,
@@ -179,6 +215,8 @@ fn cut_once(t: Tally) -> Tally {
         differences: t.differences,
         planted: t.planted,
         noticed: t.noticed,
+        exchanged: t.exchanged,
+        seen: t.seen,
     }
 }
 
@@ -203,6 +241,8 @@ pub fn try_short(script: &[u8], rows: &mut [u32], out: &mut [u8]) -> Tally {
         differences: 0,
         planted: 0,
         noticed: 0,
+        exchanged: 0,
+        seen: 0,
     };
     let mut at = 0;
     while at < script.len() {

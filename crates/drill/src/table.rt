@@ -1,6 +1,10 @@
-// What a tree holds, key by key: a row of 48 words, each the place of a key and one more, or 0 where the key is not there.
+// What a tree holds and lists: a row of 96 words. The first 48 are key by key, each the place of a key and one more, or 0 where the key is
+// not there; then come the keys along the chain, each one more than it is, and 0 past the last.
 use index::find::Found;
 use index::find::find;
+use slots::KEY;
+use slots::NEXT;
+use slots::NULL;
 use slots::PLACE;
 use slots::get;
 use slots::name;
@@ -8,8 +12,12 @@ use slots::put;
 
 pub const KEYS: u32 = 48;
 
-// The words of a journal of 512 lines that come after its length.
-const LINE_WORDS: u32 = 2048;
+const ROW: u32 = 96;
+
+// The words of a line, and of a journal of 512 of them.
+const LINE_WORDS: u32 = 6;
+
+const JOURNAL_WORDS: u32 = 1 + 512 * LINE_WORDS;
 
 // The place of a key and one more; 0 where it is not there.
 fn held(names: &[u64], cells: &[u32], head: &[u32], key: u32) -> u32 {
@@ -21,11 +29,41 @@ fn held(names: &[u64], cells: &[u32], head: &[u32], key: u32) -> u32 {
 
 // The word for a key in row m.
 fn word_of(m: u32, key: u32) -> u32 {
-    m % 4096 * KEYS + key % KEYS
+    m % 4096 * ROW + key % KEYS
+}
+
+// The word for a position of the chain in row m.
+fn listed_word(m: u32, i: u32) -> u32 {
+    m % 4096 * ROW + KEYS + i % KEYS
+}
+
+// The key of a slot of the chain and one more; 0 past the last.
+fn listed(names: &[u64], x: u32) -> u32 {
+    if x == NULL {
+        return 0;
+    }
+    std::num::wrapping_add_u32((name(names, x, KEY) % 4294967296) as u32, 1)
+}
+
+// Notes in row m what the tree lists, from first by next.
+fn note_listing(rows: &mut [u32], m: u32, names: &[u64], cells: &[u32], head: &[u32]) {
+    let mut x = get(head, 0, 1);
+    let mut i: u32 = 0;
+    while i < KEYS {
+        put(rows, 0, listed_word(m, i), listed(names, x));
+        x = get(cells, x, NEXT);
+        i += 1;
+    }
+}
+
+// Notes in row m what the tree holds, and what it lists.
+pub fn note(rows: &mut [u32], m: u32, names: &[u64], cells: &[u32], head: &[u32]) {
+    note_held(rows, m, names, cells, head);
+    note_listing(rows, m, names, cells, head);
 }
 
 // Notes in row m what the tree holds.
-pub fn note(rows: &mut [u32], m: u32, names: &[u64], cells: &[u32], head: &[u32]) {
+fn note_held(rows: &mut [u32], m: u32, names: &[u64], cells: &[u32], head: &[u32]) {
     let mut key: u32 = 0;
     while key < KEYS {
         let word = held(names, cells, head, key);
@@ -42,8 +80,29 @@ fn stands(word: u32) -> u32 {
     1
 }
 
-// Whether the tree holds what row m says, and by its own count nothing else.
+// Whether the tree holds and lists what row m says.
 pub fn same(rows: &[u32], m: u32, names: &[u64], cells: &[u32], head: &[u32]) -> bool {
+    let entries = same_held(rows, m, names, cells, head);
+    let listing = same_listed(rows, m, names, cells, head);
+    entries && listing
+}
+
+// Whether the tree lists what row m says, from first by next, and nothing else.
+fn same_listed(rows: &[u32], m: u32, names: &[u64], cells: &[u32], head: &[u32]) -> bool {
+    let mut x = get(head, 0, 1);
+    let mut i: u32 = 0;
+    while i < KEYS {
+        if get(rows, 0, listed_word(m, i)) != listed(names, x) {
+            return false;
+        }
+        x = get(cells, x, NEXT);
+        i += 1;
+    }
+    x == NULL
+}
+
+// Whether the tree holds what row m says, and by its own count nothing else.
+fn same_held(rows: &[u32], m: u32, names: &[u64], cells: &[u32], head: &[u32]) -> bool {
     let mut count: u32 = 0;
     let mut key: u32 = 0;
     while key < KEYS {
@@ -62,7 +121,7 @@ fn kept(old: &[u64], m: u32, k: u32) -> u64 {
     if k == 0 {
         return m as u64;
     }
-    if m % 4096 * 4 < k {
+    if m % 4096 * LINE_WORDS < k {
         return 0;
     }
     name(old, 0, k)
@@ -71,7 +130,7 @@ fn kept(old: &[u64], m: u32, k: u32) -> u64 {
 // Whether the lines are the old ones up to mark m, and nothing after it.
 pub fn cut_at(lines: &[u64], old: &[u64], m: u32) -> bool {
     let mut k: u32 = 0;
-    while k <= LINE_WORDS {
+    while k < JOURNAL_WORDS {
         if name(lines, 0, k) != kept(old, m, k) {
             return false;
         }

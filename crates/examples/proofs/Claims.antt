@@ -20,16 +20,16 @@ use Rattle.redblack.specs.Rotate.{hung, turned, rotated}
 use Rattle.index_rules.specs.Live.{Live, Fit, rootOf, countOf, fits}
 use Rattle.index_rules.specs.Sound.{Sound, sound, isCleared, slotFine, slotsFine, rule1, rule2, rule3, rule4, rule5, rule6, rule7}
 use Rattle.index_rules.specs.Find.{finds}
-use Rattle.index_rules.specs.Index.{Index, FitIndex, index, outcome, lengthOf, fitsJournal, fitsIndex, lined, appended}
+use Rattle.index_rules.specs.Index.{Index, FitIndex, index, outcome, lengthOf, wholeLines, fitsJournal, fitsIndex, lined, appended}
 use Rattle.index_rules.specs.Rollback.{rolls, unrolled, blanked}
 use Rattle.index_rules.proofs.Fit.{fit-fits}
 use Rattle.index_rules.proofs.Journal.{index-fits}
 use Rattle.index_rules.proofs.Sounding.{sound-yes}
 use Rattle.index_rules.proofs.Claims.{claims as demanded}
 use Rattle.index_rules.specs.Calls.{after}
-use Rattle.index_rules.specs.Insert.{freeFrom, lowestFree, soughtIn, fronted, grown, inserts}
+use Rattle.index_rules.specs.Insert.{freeFrom, lowestFree, soughtIn, seated, grown, inserts}
 use Rattle.index_rules.specs.Present.{wherePresent}
-use Rattle.index_rules.specs.Remove.{unchained, wiped, shrunk, afterRemove, removes}
+use Rattle.index_rules.specs.Remove.{unchained, wiped, shrunk, removalOf, afterRemove, removes}
 use Rattle.set_rules.specs.Words.{begins, doubling, doubled, fitTables, binOf, bini}
 use Rattle.set_rules.specs.Words.{fits as setFits}
 use Rattle.set_rules.specs.Accepting.{isHome, isListSlot, samePair, unlike, listSlotFine, listFine, wellPlaced as mayStand, ownFine, binAsks, belowFine, binFine, tableFine, isBlank, headersFine, allHeld, accepted, accepts}
@@ -55,7 +55,7 @@ at-length ix fit h =
     let z : lengthOf (ix .lines) - lengthOf (ix .lines) ≡ 0 = omega arith in
     let e : rolls ix (lengthOf (ix .lines)) ≡ outcome (given 0) (index (ix .live) (set (ix .lines) 0 (lengthOf (ix .lines)))) =
     rw (index-fits ix fit, sound-yes (fit .tree) h, le-ltb (lengthOf (ix .lines)) (lengthOf (ix .lines)) (omega arith), z, z) in
-    e ∙ ap (λ (l : List ℕ). outcome (given 0) (index (ix .live) l)) (set-same (ix .lines) (omega (arith, fit .four)))
+    e ∙ ap (λ (l : List ℕ). outcome (given 0) (index (ix .live) l)) (set-same (ix .lines) (omega (arith, fit .words)))
 
 -- The walk of the worked tables.
 walk-order : walks 7 tables (starts tables 0 .cursor) ≡ bin 2 0 ∷ (bin 2 4 ∷ (bin 2 2 ∷ (bin 2 6 ∷ (bin 1 1 ∷ (bin 1 3 ∷ [])))))
@@ -71,7 +71,7 @@ unfolding tables listSlots cell begins doubling doubled fitTables setFits binOf 
 walk-done = refl
 
 pub claims : Claims
-unfolding empty zeros freeSlots drawn drawnFrom chainOf chainFrom cell write nameOf rename roomy chained tally linksIn decided looked searched found stands reached follows risen allCalm levelled rises coloured level capped settled tucked eased sunk deletionTurn balancedDeletion descended hooked inserted spotted raised straightened lifted insertionTurn insertionTurns balancedInsertion replaced lowered traded replacement spliced detached dropped leftmost removed hung turned rotated after fitsJournal fitsIndex lined appended freeFrom lowestFree soughtIn fronted grown inserts fits unchained wiped shrunk wherePresent afterRemove removes isCleared slotFine slotsFine rule1 rule2 rule3 rule4 rule5 rule6 rule7 sound
+unfolding empty zeros freeSlots drawn drawnFrom chainOf chainFrom cell write nameOf rename roomy chained tally linksIn decided looked searched found stands reached follows risen allCalm levelled rises coloured level capped settled tucked eased sunk deletionTurn balancedDeletion descended hooked inserted spotted raised straightened lifted insertionTurn insertionTurns balancedInsertion replaced lowered traded replacement spliced detached dropped leftmost removed hung turned rotated after wholeLines fitsJournal fitsIndex lined appended freeFrom lowestFree soughtIn seated grown inserts fits unchained wiped shrunk removalOf wherePresent afterRemove removes isCleared slotFine slotsFine rule1 rule2 rule3 rule4 rule5 rule6 rule7 sound
 claims =
     record {
       empty-find = empty-find;
@@ -86,7 +86,7 @@ claims =
       brim = refl;
       brim-again = refl;
       no-line = λ ix fit h one hash key p x absent lowest.
-          demanded .insert ix hash key p .six .1 (fit, (h, absent, (x, lowest), omega (arith, fit .four, fit .within, one)));
+          demanded .insert ix hash key p .six .1 (fit, (h, absent, (x, lowest), omega (arith, fit .words, fit .within, one)));
       at-length = at-length;
       one-more = λ ix fit h. demanded .rollback ix (lengthOf (ix .lines) + 1) .seven .1 (fit, h, omega arith);
       both-tree = refl;

@@ -25,7 +25,7 @@ freeSlots (suc n) = 0 ∷ (free ∷ (null ∷ (null ∷ (null ∷ (null ∷ (nul
 -- The empty tree of n slots, with an empty journal of so many lines.
 unfoldable pub empty : ℕ → ℕ → Index
 empty n lines =
-    index (record { names = zeros (2 * n); cells = freeSlots n; head = null ∷ (null ∷ (0 ∷ [])) }) (zeros (1 + 4 * lines))
+    index (record { names = zeros (2 * n); cells = freeSlots n; head = null ∷ (null ∷ (0 ∷ [])) }) (zeros (1 + 6 * lines))
 
 -- The key k goes in, at the place ten times k; the key k goes.
 abbrev pub add : ℕ → Call

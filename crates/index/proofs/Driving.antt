@@ -28,12 +28,13 @@ driving =
       lowest-free-one = λ cells n a b p q. free-one-to-one a b (both p q);
       head-put-one = λ head root first count a b. both;
       put-pair-one = λ names x hash key a b. both;
-      grow-one = λ t x hash key p a b. both;
+      grow-one = λ t x y hash key p a b. both;
       shrink-one = λ t x a b. both;
       length-of-one = λ lines a b. both;
+      capacity-of-one = λ lines a b. both;
       fit-journal-one = λ lines a b. both;
       is-full-one = λ lines a b. both;
       line-word-one = λ lines k f a b. both;
-      append-one = λ lines kind hash key p a b. both;
+      append-one = λ lines kind hash key p priorHash priorKey a b. both;
       cut-one = λ lines m count a b. both;
     }

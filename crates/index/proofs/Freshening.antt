@@ -40,13 +40,13 @@ module _ (names cells head lines : List ℕ) where
   unfolding freshes
   fresh-unfit e f = rw (← e, f)
 
-  pub fresh-made : {b : Bool} {names′ cells′ head′ lines′ : List ℕ} → b ≡ fitsLengths (lent names cells head lines) → b ≡ true
+  pub fresh-made : {b : Bool} {capacity : ℕ} {names′ cells′ head′ lines′ : List ℕ} → b ≡ fitsLengths (lent names cells head lines) → b ≡ true → capacity ≡ linesOf lines
       → lentTree names′ cells′ head ≡ bared (length names / 2) (lentTree names cells head) → head′ ≡ headed head null null 0
-      → lines′ ≡ set (blanked (linesOf lines) lines 0) 0 0
+      → lines′ ≡ set (blanked capacity lines 0) 0 0
       → outcome (given 1) (lent names′ cells′ head′ lines′) ≡ freshes (lent names cells head lines)
   unfolding freshes
-  fresh-made e f g h k =
+  fresh-made e f i g h k =
       let a = ap (λ (t : Live). t .names) g in
       let b = ap (λ (t : Live). t .cells) g in
       let c = ap (λ (t : Live). t .head) g in
-      rw (← e, f, h, k, a, b, ← c)
+      rw (← e, f, h, k, i, a, b, ← c)

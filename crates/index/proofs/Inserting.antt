@@ -12,7 +12,7 @@ use Rattle.slots.specs.Words.{null}
 use Rattle.slots.specs.Answers.{Value, some, none, given, refused}
 use Rattle.index_rules.specs.Live.{Live}
 use Rattle.index_rules.specs.Sound.{sound}
-use Rattle.index_rules.specs.Index.{Index, index, outcome, fitsIndex, lengthOf, linesOf, appended}
+use Rattle.index_rules.specs.Index.{Index, index, outcome, fitsIndex, lengthOf, linesOf, insertKind, plainLine, appended}
 use Rattle.index_rules.specs.Insert.{freeFrom, lowestFree, soughtIn, grown, inserts}
 use Rattle.index.specs.Frees.{slotOf}
 use Rattle.index.specs.Calls.{insertedOf}
@@ -58,7 +58,7 @@ module _ (ix : Index) (hash key : ℕ) where
   module _ (p : ℕ) where
     -- What an accepted insert leaves.
     abbrev pub after : ℕ → Index
-    after x = index (grown t x hash key p) (appended (ix .lines) 1 hash key p)
+    after x = index (grown t x null hash key p) (appended (ix .lines) (plainLine insertKind hash key p))
 
     pub settled : Settled ix after (inserts ix hash key p)
     unfolding inserts
@@ -75,7 +75,7 @@ module _ (ix : Index) (hash key : ℕ) where
         go true e true f none s false q true r = refuses 5 none (rw (e, f, s, q, r))
         go true e true f none s false q false r = accepts (lowestFree t) e f (rw (e, f, s, q, r))
 
-    pub joined : {x : ℕ} {u : Live} {l : List ℕ} → u ≡ grown t x hash key p → l ≡ appended (ix .lines) 1 hash key p
+    pub joined : {x : ℕ} {u : Live} {l : List ℕ} → u ≡ grown t x null hash key p → l ≡ appended (ix .lines) (plainLine insertKind hash key p)
         → outcome (given x) (after x) ≡ inserts ix hash key p → outcome (given x) (index u l) ≡ inserts ix hash key p
     joined e1 e2 e = rw (e1, e2) e
 

@@ -1,16 +1,17 @@
 -- remove as its tests settle it, and what an accepted one leaves.
 use mathlib.Core.Path.{_≡_}
-use mathlib.Core.Logic.{inl, inr}
+use mathlib.Core.Logic.{_≢_, inl, inr}
 use mathlib.Core.List.{List, [], _∷_}
 use Prim.Native.Nat.{ℕ}
 use native.Mathlib.Omega.{arith}
 use types.Run.{OneOf}
 use denote.Enum.Declared.{tagOf}
-use Rattle.slots.specs.Words.{place, cell}
+use borrow.Author.Tests.{eq-eqb, ne-eqb}
+use Rattle.slots.specs.Words.{null, place, prev, cell, nameOf, hashPart, keyPart}
 use Rattle.slots.specs.Answers.{given}
 use Rattle.index_rules.specs.Live.{Live}
-use Rattle.index_rules.specs.Index.{Index, index, outcome, appended}
-use Rattle.index_rules.specs.Remove.{shrunk, afterRemove, removes}
+use Rattle.index_rules.specs.Index.{Index, index, outcome, removeKind, plainLine, notedLine, appended}
+use Rattle.index_rules.specs.Remove.{shrunk, removalOf, afterRemove, removes}
 use Rattle.index.specs.Calls.{removedOf}
 use Rattle.index.specs.declared.remove.Removed.{Removed}
 use Rattle.index.specs.declared.remove.Removed.the-variants.{At, Unfit, Damaged, Absent, JournalFull}
@@ -23,10 +24,17 @@ module _ (ix : Index) (hash key : ℕ) where
   unfolding removes
   settled = settled-by ix hash key (afterRemove ix hash key)
 
-  pub left : {x p : ℕ} {u : Live} {l : List ℕ} → p ≡ cell (ix .live .cells) x place → u ≡ shrunk (ix .live) x → l ≡ appended (ix .lines) 2 hash key p
-      → outcome (given x) (afterRemove ix hash key x) ≡ removes ix hash key → outcome (given x) (index u l) ≡ removes ix hash key
-  unfolding afterRemove
-  left e1 e2 e3 e = rw (e2, e3, e1) e
+  -- The line where no slot stood before x, and where one did.
+  module _ {x p y : ℕ} {u : Live} {l : List ℕ} (e1 : p ≡ cell (ix .live .cells) x place) (e2 : y ≡ cell (ix .live .cells) x prev) (e3 : u ≡ shrunk (ix .live) x)
+      (e : outcome (given x) (afterRemove ix hash key x) ≡ removes ix hash key) where
+    pub left-first : y ≡ null → l ≡ appended (ix .lines) (plainLine removeKind hash key p) → outcome (given x) (index u l) ≡ removes ix hash key
+    unfolding afterRemove removalOf
+    left-first h f = rw (e3, f, e1) (rw (← e2, eq-eqb y null h) at e)
+
+    pub left-noted : {prehash prekey : ℕ} → prehash ≡ nameOf (ix .live .names) y hashPart → prekey ≡ nameOf (ix .live .names) y keyPart → y ≢ null
+        → l ≡ appended (ix .lines) (notedLine hash key p prehash prekey) → outcome (given x) (index u l) ≡ removes ix hash key
+    unfolding afterRemove removalOf
+    left-noted g k d f = rw (e3, f, e1, g, k) (rw (← e2, ne-eqb y null d) at e)
 
 pub not-at : (r : Removed) → OneOf (1 ∷ 2 ∷ 3 ∷ 4 ∷ []) (tagOf the-type r) → removedOf r .number ≡ 0 → ⊥
 not-at (At slot) (inl z) e = omega arith

@@ -9,7 +9,7 @@ use denote.Enum.Declared.{tagOf}
 use Rattle.slots.specs.Words.{place, cell, write}
 use Rattle.slots.specs.Answers.{given}
 use Rattle.index_rules.specs.Live.{lentTree}
-use Rattle.index_rules.specs.Index.{Index, index, outcome, bothPlaces, appended}
+use Rattle.index_rules.specs.Index.{Index, index, outcome, bothPlaces, replaceKind, plainLine, appended}
 use Rattle.index_rules.specs.Replace.{placedAt, afterReplace, replaces}
 use Rattle.index.specs.Calls.{replacedOf}
 use Rattle.index.specs.declared.replace.Replaced.{Replaced}
@@ -24,7 +24,7 @@ module _ (ix : Index) (hash key p : ℕ) where
   settled = settled-by ix hash key (afterReplace ix hash key p)
 
   pub moved : {x old w : ℕ} {c l : List ℕ} → old ≡ cell (ix .live .cells) x place → c ≡ write (ix .live .cells) x place p → w ≡ bothPlaces p old
-      → l ≡ appended (ix .lines) 3 hash key w → outcome (given x) (afterReplace ix hash key p x) ≡ replaces ix hash key p
+      → l ≡ appended (ix .lines) (plainLine replaceKind hash key w) → outcome (given x) (afterReplace ix hash key p x) ≡ replaces ix hash key p
       → outcome (given x) (index (lentTree (ix .live .names) c (ix .live .head)) l) ≡ replaces ix hash key p
   unfolding afterReplace placedAt
   moved e1 e2 e3 e4 e = rw (e2, e4, e3, e1) e

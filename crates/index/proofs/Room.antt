@@ -11,7 +11,7 @@ use Rattle.slots.specs.Words.{null, pick}
 use Rattle.slots.specs.Answers.{some, none}
 use Rattle.slots.proofs.Laws.{some-is}
 use Rattle.index_rules.specs.Live.{Live, countOf}
-use Rattle.index_rules.specs.Index.{lengthOf, appended}
+use Rattle.index_rules.specs.Index.{JournalLine, lengthOf, appended}
 use Rattle.index_rules.specs.Insert.{grown}
 use Rattle.index_rules.specs.Remove.{shrunk}
 use Rattle.index.specs.Frees.{slotOf, appendedIf, shrunkIf, grownIf}
@@ -31,12 +31,12 @@ slot-none i e = go (eqb i null) e
     go true q = refl
     go false q = absurd (let z : _≡_ {A = ℕ} 0 1 = cc in omega arith)
 
-pub appended-is : (lines : List ℕ) (kind hash key p : ℕ) → lengthOf lines ≤ 1024 → appendedIf lines kind hash key p ≡ appended lines kind hash key p
-appended-is lines kind hash key p l = rw (le-leb (lengthOf lines) 1024 l)
+pub appended-is : (lines : List ℕ) (j : JournalLine) → lengthOf lines ≤ 1024 → appendedIf lines j ≡ appended lines j
+appended-is lines j l = rw (le-leb (lengthOf lines) 1024 l)
 
 module _ (t : Live) (l : length (t .names) ≤ 8192) where
   pub shrunk-is : (x : ℕ) → shrunkIf t x ≡ shrunk t x
   shrunk-is x = rw (le-leb (length (t .names)) 8192 l)
 
-  pub grown-is : (x hash key p : ℕ) → countOf t < null → grownIf t x hash key p ≡ grown t x hash key p
-  grown-is x hash key p h = rw (le-leb (length (t .names)) 8192 l, ne-eqb (countOf t) null (omega arith))
+  pub grown-is : (x y hash key p : ℕ) → countOf t < null → grownIf t x y hash key p ≡ grown t x y hash key p
+  grown-is x y hash key p h = rw (le-leb (length (t .names)) 8192 l, ne-eqb (countOf t) null (omega arith))

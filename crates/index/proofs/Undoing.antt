@@ -14,11 +14,11 @@ use borrow.Author.Tests.{eq-eqb, ne-eqb, lt-ltb, le-ltb}
 use Rattle.slots.specs.Words.{null, pick, place, cell, write}
 use Rattle.slots.specs.Answers.{Value, some, none}
 use Rattle.index_rules.specs.Live.{Live, lentTree, countOf}
-use Rattle.index_rules.specs.Index.{lineWord, kindWord, hashWord, keyWord, placeWord}
+use Rattle.index_rules.specs.Index.{JournalLine, lineWord, lineOf, lineMade}
 use Rattle.index_rules.specs.Insert.{freeFrom, lowestFree, soughtIn, headed, grown}
 use Rattle.index_rules.specs.Remove.{shrunk}
 use Rattle.index_rules.specs.Replace.{placedAt}
-use Rattle.index_rules.specs.Rollback.{Undo, stays, misfit, takenBack, putBack, placedBack, undone, unrolled}
+use Rattle.index_rules.specs.Rollback.{Undo, stays, misfit, takenBack, putBack, putBehind, placedBack, undone, unrolled}
 use Rattle.index.specs.Frees.{slotOf}
 use Rattle.index.specs.Rolls.{undoOf}
 use Rattle.index.specs.declared.lines.Undoing.{Undoing}
@@ -39,23 +39,31 @@ module _ (t : Live) (hash key p : ℕ) where
     back-done h g = rw (s, ← e, eq-eqb own p h, ← g)
 
 -- A remove line: its pair is there, no slot is free, its place is too wide, or it comes back.
-module _ (t : Live) (hash key p : ℕ) where
-  pub put-there : {x : ℕ} → soughtIn t hash key ≡ some x → misfit ≡ putBack t (soughtIn t hash key) hash key p
+module _ (t : Live) (j : JournalLine) (y : ℕ) where
+  pub put-there : {x : ℕ} → soughtIn t (j .hash) (j .key) ≡ some x → misfit ≡ putBack t (soughtIn t (j .hash) (j .key)) j y
   put-there s = rw s
 
-  module _ (s : soughtIn t hash key ≡ none) where
-    pub put-full : none ≡ slotOf (freeFrom (slotsOf (t .names)) (t .cells) 0) → misfit ≡ putBack t (soughtIn t hash key) hash key p
+  module _ (s : soughtIn t (j .hash) (j .key) ≡ none) where
+    pub put-full : none ≡ slotOf (freeFrom (slotsOf (t .names)) (t .cells) 0) → misfit ≡ putBack t (soughtIn t (j .hash) (j .key)) j y
     unfolding lowestFree
     put-full v = rw (s, slot-none (freeFrom (slotsOf (t .names)) (t .cells) 0) v)
 
     module _ {x : ℕ} (v : some x ≡ slotOf (freeFrom (slotsOf (t .names)) (t .cells) 0)) where
-      pub put-wide : 4294967296 ≤ p → misfit ≡ putBack t (soughtIn t hash key) hash key p
+      pub put-wide : 4294967296 ≤ j .place → misfit ≡ putBack t (soughtIn t (j .hash) (j .key)) j y
       unfolding lowestFree
-      put-wide h = let w = slot-some (freeFrom (slotsOf (t .names)) (t .cells) 0) x v in rw (s, w .0, le-ltb p 4294967296 h)
+      put-wide h = let w = slot-some (freeFrom (slotsOf (t .names)) (t .cells) 0) x v in rw (s, w .0, le-ltb (j .place) 4294967296 h)
 
-      pub put-done : {u : Live} → p < 4294967296 → u ≡ grown t x hash key p → stays u ≡ putBack t (soughtIn t hash key) hash key p
+      pub put-done : {u : Live} → j .place < 4294967296 → u ≡ grown t x y (j .hash) (j .key) (j .place) → stays u ≡ putBack t (soughtIn t (j .hash) (j .key)) j y
       unfolding lowestFree
-      put-done h g = let w = slot-some (freeFrom (slotsOf (t .names)) (t .cells) 0) x v in rw (s, w .0, lt-ltb p 4294967296 h, ← w .1, ← g)
+      put-done h g = let w = slot-some (freeFrom (slotsOf (t .names)) (t .cells) 0) x v in rw (s, w .0, lt-ltb (j .place) 4294967296 h, ← w .1, ← g)
+
+-- A remove line that notes a pair: it is not there, or it is.
+module _ (t : Live) (prehash prekey : ℕ) (own : Value) (j : JournalLine) where
+  pub behind-none : soughtIn t prehash prekey ≡ none → misfit ≡ putBehind t (soughtIn t prehash prekey) own j
+  behind-none s = rw s
+
+  pub behind-some : {y : ℕ} → soughtIn t prehash prekey ≡ some y → {o : Undo} → o ≡ putBack t own j y → o ≡ putBehind t (soughtIn t prehash prekey) own j
+  behind-some s e = rw s e
 
 -- A replace line: its pair is not there, has another place than the new one, or has the old one again.
 module _ (t : Live) (hash key w : ℕ) where
@@ -71,24 +79,30 @@ module _ (t : Live) (hash key w : ℕ) where
     unfolding placedAt
     place-done h l g = rw (s, ← e, eq-eqb own (w % 4294967296) h, lt-ltb (w / 4294967296) 4294967296 l, ← g)
 
--- A line of kind 1, of kind 2, of kind 3, of another kind.
+-- A line of each kind, and of another one.
 module _ (t : Live) (lines : List ℕ) (k : ℕ) {kind hash key p : ℕ}
-    (e1 : kind ≡ lineWord lines k kindWord) (e2 : hash ≡ lineWord lines k hashWord) (e3 : key ≡ lineWord lines k keyWord) (e4 : p ≡ lineWord lines k placeWord) where
-  pub line-insert : kind ≡ 1 → {o : Undo} → o ≡ takenBack t (soughtIn t hash key) p → o ≡ undone t lines k
+    (e1 : kind ≡ lineWord lines k 0) (e2 : hash ≡ lineWord lines k 1) (e3 : key ≡ lineWord lines k 2) (e4 : p ≡ lineWord lines k 3) where
+  pub line-insert : kind ≡ 1 → {o : Undo} → o ≡ takenBack t (soughtIn t hash key) p → o ≡ undone t (lineOf lines k)
   unfolding undone
   line-insert h e = rw (← e1, ← e2, ← e3, ← e4, eq-eqb kind 1 h) e
 
-  pub line-remove : kind ≢ 1 → kind ≡ 2 → {o : Undo} → o ≡ putBack t (soughtIn t hash key) hash key p → o ≡ undone t lines k
+  pub line-remove : kind ≢ 1 → kind ≡ 2 → {o : Undo}
+      → ((kind prehash prekey : ℕ) → o ≡ putBack t (soughtIn t hash key) (lineMade kind hash key p prehash prekey) null) → o ≡ undone t (lineOf lines k)
   unfolding undone
-  line-remove n h e = rw (← e1, ← e2, ← e3, ← e4, ne-eqb kind 1 n, eq-eqb kind 2 h) e
+  line-remove n h e = let f = e kind (lineWord lines k 4) (lineWord lines k 5) in rw (← e1, ← e2, ← e3, ← e4, ne-eqb kind 1 n, eq-eqb kind 2 h) f
 
-  pub line-replace : kind ≢ 1 → kind ≢ 2 → kind ≡ 3 → {o : Undo} → o ≡ placedBack t (soughtIn t hash key) p → o ≡ undone t lines k
+  pub line-noted : kind ≢ 1 → kind ≢ 2 → kind ≡ 4294967298 → {prehash prekey : ℕ} → prehash ≡ lineWord lines k 4 → prekey ≡ lineWord lines k 5 → {o : Undo}
+      → ((kind : ℕ) → o ≡ putBehind t (soughtIn t prehash prekey) (soughtIn t hash key) (lineMade kind hash key p prehash prekey)) → o ≡ undone t (lineOf lines k)
   unfolding undone
-  line-replace n m h e = rw (← e1, ← e2, ← e3, ← e4, ne-eqb kind 1 n, ne-eqb kind 2 m, eq-eqb kind 3 h) e
+  line-noted n m h e5 e6 e = let f = e kind in rw (← e1, ← e2, ← e3, ← e4, ← e5, ← e6, ne-eqb kind 1 n, ne-eqb kind 2 m, eq-eqb kind 4294967298 h) f
 
-  pub line-other : kind ≢ 1 → kind ≢ 2 → kind ≢ 3 → misfit ≡ undone t lines k
+  pub line-replace : kind ≢ 1 → kind ≢ 2 → kind ≢ 4294967298 → kind ≡ 3 → {o : Undo} → o ≡ placedBack t (soughtIn t hash key) p → o ≡ undone t (lineOf lines k)
   unfolding undone
-  line-other n m h = rw (← e1, ne-eqb kind 1 n, ne-eqb kind 2 m, ne-eqb kind 3 h)
+  line-replace n m d h e = rw (← e1, ← e2, ← e3, ← e4, ne-eqb kind 1 n, ne-eqb kind 2 m, ne-eqb kind 4294967298 d, eq-eqb kind 3 h) e
+
+  pub line-other : kind ≢ 1 → kind ≢ 2 → kind ≢ 4294967298 → kind ≢ 3 → misfit ≡ undone t (lineOf lines k)
+  unfolding undone
+  line-other n m d h = rw (← e1, ne-eqb kind 1 n, ne-eqb kind 2 m, ne-eqb kind 4294967298 d, ne-eqb kind 3 h)
 
 -- A header with a count below null has its three words, and a line that is undone adds at most one to the count.
 counted : (h : List ℕ) (a b c : ℕ) → getD h 2 null < null → getD (headed h a b c) 2 null ≡ c
@@ -108,9 +122,9 @@ module _ (t u : Live) (l : countOf t < null) where
   same-count : {v : Live} (n : ℕ) → stays v ≡ stays u → countOf v ≡ n → countOf u ≡ n
   same-count n e h = ap (λ (w : Live). countOf w) (sym (stays-is e)) ∙ h
 
-  grown-count : (x hash key p : ℕ) → countOf (grown t x hash key p) ≡ countOf t + 1
+  grown-count : (x y hash key p : ℕ) → countOf (grown t x y hash key p) ≡ countOf t + 1
   unfolding grown
-  grown-count x hash key p = counted (t .head) _ _ _ l
+  grown-count x y hash key p = counted (t .head) _ _ _ l
 
   shrunk-count : (x : ℕ) → countOf (shrunk t x) ≡ countOf t - 1
   unfolding shrunk
@@ -124,14 +138,18 @@ module _ (t u : Live) (l : countOf t < null) where
       go true e = omega (arith, same-count (countOf t - 1) e (shrunk-count x))
       go false e = absurd (not-stays e)
 
-  put-count : (v : Value) (hash key p : ℕ) → putBack t v hash key p ≡ stays u → countOf u ≤ countOf t + 1
-  put-count (some x) hash key p e = absurd (not-stays e)
-  put-count none hash key p e = go (eqb (lowestFree t) null) (ltb p 4294967296) e
+  put-count : (v : Value) (j : JournalLine) (y : ℕ) → putBack t v j y ≡ stays u → countOf u ≤ countOf t + 1
+  put-count (some x) j y e = absurd (not-stays e)
+  put-count none j y e = go (eqb (lowestFree t) null) (ltb (j .place) 4294967296) e
     where
-      go : (a b : Bool) → pick a misfit (pick b (stays (grown t (lowestFree t) hash key p)) misfit) ≡ stays u → countOf u ≤ countOf t + 1
+      go : (a b : Bool) → pick a misfit (pick b (stays (grown t (lowestFree t) y (j .hash) (j .key) (j .place))) misfit) ≡ stays u → countOf u ≤ countOf t + 1
       go true b e = absurd (not-stays e)
-      go false true e = omega (arith, same-count (countOf t + 1) e (grown-count (lowestFree t) hash key p))
+      go false true e = omega (arith, same-count (countOf t + 1) e (grown-count (lowestFree t) y (j .hash) (j .key) (j .place)))
       go false false e = absurd (not-stays e)
+
+  behind-count : (v own : Value) (j : JournalLine) → putBehind t v own j ≡ stays u → countOf u ≤ countOf t + 1
+  behind-count none own j e = absurd (not-stays e)
+  behind-count (some y) own j e = put-count own j y e
 
   place-count : (v : Value) (w : ℕ) → placedBack t v w ≡ stays u → countOf u ≤ countOf t + 1
   unfolding placedAt
@@ -143,26 +161,24 @@ module _ (t u : Live) (l : countOf t < null) where
       go true false e = absurd (not-stays e)
       go false b e = absurd (not-stays e)
 
-  undone-count : (lines : List ℕ) (k : ℕ) → undone t lines k ≡ stays u → countOf u ≤ countOf t + 1
+  undone-count : (j : JournalLine) → undone t j ≡ stays u → countOf u ≤ countOf t + 1
   unfolding undone
-  undone-count lines k e = go (eqb (lineWord lines k kindWord) 1) (eqb (lineWord lines k kindWord) 2) (eqb (lineWord lines k kindWord) 3) e
+  undone-count j e = go (eqb (j .kind) 1) (eqb (j .kind) 2) (eqb (j .kind) 4294967298) (eqb (j .kind) 3) e
     where
-      hash : ℕ
-      hash = lineWord lines k hashWord
+      own : Value
+      own = soughtIn t (j .hash) (j .key)
 
-      key : ℕ
-      key = lineWord lines k keyWord
+      noted : Value
+      noted = soughtIn t (j .priorHash) (j .priorKey)
 
-      p : ℕ
-      p = lineWord lines k placeWord
-
-      go : (a b d : Bool)
-          → pick a (takenBack t (soughtIn t hash key) p) (pick b (putBack t (soughtIn t hash key) hash key p) (pick d (placedBack t (soughtIn t hash key) p) misfit)) ≡ stays u
+      go : (a b c d : Bool)
+          → pick a (takenBack t own (j .place)) (pick b (putBack t own j null) (pick c (putBehind t noted own j) (pick d (placedBack t own (j .place)) misfit))) ≡ stays u
           → countOf u ≤ countOf t + 1
-      go true b d e = back-count (soughtIn t hash key) p e
-      go false true d e = put-count (soughtIn t hash key) hash key p e
-      go false false true e = place-count (soughtIn t hash key) p e
-      go false false false e = absurd (not-stays e)
+      go true b c d e = back-count own (j .place) e
+      go false true c d e = put-count own j null e
+      go false false true d e = behind-count noted own j e
+      go false false false true e = place-count own (j .place) e
+      go false false false false e = absurd (not-stays e)
 
 -- A turn of the undoing: c lines are left, and what they leave decides the whole.
 pub record Turn (t₀ : Live) (lines : List ℕ) (m count : ℕ) (t : Live) (c : ℕ) : Type 0 where
@@ -173,12 +189,12 @@ pub record Turn (t₀ : Live) (lines : List ℕ) (m count : ℕ) (t : Live) (c :
   pub head : length (t .head) ≡ length (t₀ .head)
 
 module _ (lines : List ℕ) (m : ℕ) (t : Live) where
-  unroll-on : (c : ℕ) {u : Live} → 0 < c → stays u ≡ undone t lines (m + (c - 1)) → unrolled (c - 1) u lines m ≡ unrolled c t lines m
+  unroll-on : (c : ℕ) {u : Live} → 0 < c → stays u ≡ undone t (lineOf lines (m + (c - 1))) → unrolled (c - 1) u lines m ≡ unrolled c t lines m
   unfolding unrolled
   unroll-on zero h e = absurd (omega arith)
   unroll-on (suc c) h e = let g = rw sub-one at e in rw (sub-one, ← g, unrolled)
 
-  unroll-not : (c : ℕ) → 0 < c → misfit ≡ undone t lines (m + (c - 1)) → misfit ≡ unrolled c t lines m
+  unroll-not : (c : ℕ) → 0 < c → misfit ≡ undone t (lineOf lines (m + (c - 1))) → misfit ≡ unrolled c t lines m
   unfolding unrolled
   unroll-not zero h e = absurd (omega arith)
   unroll-not (suc c) h e = let g = rw sub-one at e in rw (← g, unrolled)
@@ -189,21 +205,21 @@ module _ (lines : List ℕ) (m : ℕ) (t : Live) where
   unroll-end (suc c) h = absurd (omega arith)
 
 module _ {t₀ : Live} {lines : List ℕ} {m count : ℕ} {t : Live} {c : ℕ} (turn : Turn t₀ lines m count t c) where
-  pub turn-on : {r : Undoing} {u : Live} → 0 < c → undoOf r u ≡ undone t lines (m + (c - 1)) → r ≡ Done
+  pub turn-on : {r : Undoing} {u : Live} → 0 < c → undoOf r u ≡ undone t (lineOf lines (m + (c - 1))) → r ≡ Done
       → length (u .names) ≡ length (t .names) → length (u .cells) ≡ length (t .cells) → length (u .head) ≡ length (t .head)
       → Turn t₀ lines m count u (c - 1)
   turn-on {r} {u} h e f n1 n2 n3 =
-      let g : stays u ≡ undone t lines (m + (c - 1)) = ap (λ (b : Undoing). undoOf b u) (sym f) ∙ e in
+      let g : stays u ≡ undone t (lineOf lines (m + (c - 1))) = ap (λ (b : Undoing). undoOf b u) (sym f) ∙ e in
       let l : countOf t < null = omega (arith, turn .small) in
       record {
         same = unroll-on lines m t c h g ∙ turn .same;
-        small = omega (arith, turn .small, undone-count t u l lines (m + (c - 1)) (sym g));
+        small = omega (arith, turn .small, undone-count t u l (lineOf lines (m + (c - 1))) (sym g));
         names = n1 ∙ turn .names;
         cells = n2 ∙ turn .cells;
         head = n3 ∙ turn .head;
       }
 
-  pub turn-not : {r : Undoing} (u : Live) → 0 < c → undoOf r u ≡ undone t lines (m + (c - 1)) → r ≡ Misfit
+  pub turn-not : {r : Undoing} (u : Live) → 0 < c → undoOf r u ≡ undone t (lineOf lines (m + (c - 1))) → r ≡ Misfit
       → misfit ≡ unrolled count t₀ lines m
   turn-not {r} u h e f = unroll-not lines m t c h (ap (λ (b : Undoing). undoOf b u) (sym f) ∙ e) ∙ turn .same
 

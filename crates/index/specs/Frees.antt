@@ -6,7 +6,7 @@ use lib.Dec.{eqb, leb}
 use Rattle.slots.specs.Words.{null, pick, mostLines, mostNames}
 use Rattle.slots.specs.Answers.{Value, some, none}
 use Rattle.index_rules.specs.Live.{Live, countOf}
-use Rattle.index_rules.specs.Index.{lengthOf, appended}
+use Rattle.index_rules.specs.Index.{JournalLine, lengthOf, appended}
 use Rattle.index_rules.specs.Insert.{grown}
 use Rattle.index_rules.specs.Remove.{shrunk}
 use Rattle.index.specs.declared.grow.Free.{Free}
@@ -22,13 +22,13 @@ abbrev pub slotOf : ℕ → Value
 slotOf i = pick (eqb i null) none (some i)
 
 -- A line more, where the length is one of a journal's: at most 1,024.
-abbrev pub appendedIf : List ℕ → ℕ → ℕ → ℕ → ℕ → List ℕ
-appendedIf lines kind hash key p = pick (leb (lengthOf lines) mostLines) (appended lines kind hash key p) lines
+abbrev pub appendedIf : List ℕ → JournalLine → List ℕ
+appendedIf lines j = pick (leb (lengthOf lines) mostLines) (appended lines j) lines
 
 -- A slot less, where the names are no more than 4,096 slots have.
 abbrev pub shrunkIf : Live → ℕ → Live
 shrunkIf t x = pick (leb (length (t .names)) mostNames) (shrunk t x) t
 
 -- A slot more, where the names are no more than 4,096 slots have and the count is a number.
-abbrev pub grownIf : Live → ℕ → ℕ → ℕ → ℕ → Live
-grownIf t x hash key p = pick (leb (length (t .names)) mostNames) (pick (eqb (countOf t) null) t (grown t x hash key p)) t
+abbrev pub grownIf : Live → ℕ → ℕ → ℕ → ℕ → ℕ → Live
+grownIf t x y hash key p = pick (leb (length (t .names)) mostNames) (pick (eqb (countOf t) null) t (grown t x y hash key p)) t

@@ -2,9 +2,10 @@
 use crate::fit::fit;
 use crate::grow::head_put;
 use crate::grow::put_pair;
+use crate::journal::capacity_of;
 use crate::journal::cut;
+use crate::journal::is_whole;
 use crate::shrink::wipe;
-use slots::MOST_LINES;
 use slots::NULL;
 use slots::answer::Answer;
 use slots::answer::given;
@@ -42,15 +43,7 @@ fn fit_lengths(names: &[u64], cells: &[u32], head: &[u32], lines: &[u64]) -> boo
     if !tree {
         return false;
     }
-    let n = lines.len();
-    if n < 1 {
-        return false;
-    }
-    let capacity = (n - 1) / 4;
-    if MOST_LINES < capacity {
-        return false;
-    }
-    n == 1 + 4 * capacity
+    is_whole(lines)
 }
 
 // The first n slots are cleared, their names too, from the last down.
@@ -77,7 +70,7 @@ pub fn fresh(names: &mut [u64], cells: &mut [u32], head: &mut [u32], lines: &mut
         return Freshness::Unfit;
     }
     let n = names.len() / 2;
-    let capacity = (lines.len() - 1) / 4;
+    let capacity = capacity_of(lines);
     bare(names, cells, head, n as u32);
     head_put(head, NULL, NULL, 0);
     cut(lines, 0, capacity as u32);

@@ -21,7 +21,7 @@ ghost use mathlib.Core.Path.{_≡_};
 ghost use lib.ListN.{set};
 ghost use Rattle.slots.specs.Words.{rename, hashPart, keyPart};
 ghost use Rattle.index_rules.specs.Live.{lentTree};
-ghost use Rattle.index_rules.specs.Insert.{freeFrom, fronted, headed};
+ghost use Rattle.index_rules.specs.Insert.{freeFrom, seated, headed};
 ghost use Rattle.index.specs.Frees.{freeOf, slotOf, grownIf};
 
 // A free slot, or that there is none.
@@ -45,13 +45,14 @@ pub fn lowest_free(cells: &[u32], n: u32) -> Free
     Free::None
 }
 
-// Slot x stands before first in the chain.
-fn front(cells: &mut [u32], x: u32, first: u32)
-    ensures { λ _. ⌜ now (cells .exit) ≡ fronted (now (cells .entry)) x first ⌝ }
+// Slot x stands in the chain between y and q; nothing is written to a null link.
+fn seat(cells: &mut [u32], x: u32, y: u32, q: u32)
+    ensures { λ _. ⌜ now (cells .exit) ≡ seated (now (cells .entry)) x y q ⌝ }
 {
-    put(cells, x, PREV, NULL);
-    put(cells, x, NEXT, first);
-    put(cells, first, PREV, x);
+    put(cells, x, PREV, y);
+    put(cells, x, NEXT, q);
+    put(cells, y, NEXT, x);
+    put(cells, q, PREV, x);
 }
 
 // The header holds root, first and the count.
@@ -71,19 +72,20 @@ pub fn put_pair(names: &mut [u64], x: u32, hash: u64, key: u64)
     put_name(names, x, KEY, key);
 }
 
-// The free slot x takes the pair and its place: it goes to the front of the chain, is hung where the order says, and counts.
-// Nothing where the names are more than 4,096 slots have, or the count is null.
+// The free slot x takes the pair and its place: it goes into the chain right behind y, to the front where y is null, is hung where the
+// order says, and counts. Nothing where the names are more than 4,096 slots have, or the count is null.
 pub fn grow(
     names: &mut [u64],
     cells: &mut [u32],
     head: &mut [u32],
     x: u32,
+    y: u32,
     hash: u64,
     key: u64,
     place: u32,
 )
     ensures { λ _. ⌜ lentTree (now (names .exit)) (now (cells .exit)) (now (head .exit))
-        ≡ grownIf (lentTree (now (names .entry)) (now (cells .entry)) (now (head .entry))) x hash key place ⌝ }
+        ≡ grownIf (lentTree (now (names .entry)) (now (cells .entry)) (now (head .entry))) x y hash key place ⌝ }
 {
     if MOST_NAMES < names.len() {
         return;
@@ -96,9 +98,12 @@ pub fn grow(
     let root = word(head, ROOT, NULL);
     let first = word(head, FIRST, NULL);
     let more = count + 1;
+    let behind = get(cells, y, NEXT);
+    let q = if y == NULL { first } else { behind };
+    let front = if y == NULL { x } else { first };
     put_pair(names, x, hash, key);
     put(cells, x, PLACE, place);
-    front(cells, x, first);
+    seat(cells, x, y, q);
     let top = hang_slot(names, cells, root, x, hash, key, n);
-    head_put(head, top, x, more);
+    head_put(head, top, front, more);
 }

@@ -100,7 +100,7 @@ pub fn insert(
     let Inserted::At(x) = asked else {
         return asked;
     };
-    grow(names, cells, head, x, hash, key, place);
-    append(lines, INSERT, hash, key, place as u64);
+    grow(names, cells, head, x, NULL, hash, key, place);
+    append(lines, INSERT, hash, key, place as u64, 0, 0);
     Inserted::At(x)
 }

@@ -7,7 +7,10 @@ use crate::journal::LINE_HASH;
 use crate::journal::LINE_KEY;
 use crate::journal::LINE_KIND;
 use crate::journal::LINE_PLACE;
+use crate::journal::LINE_PRIOR_HASH;
+use crate::journal::LINE_PRIOR_KEY;
 use crate::journal::MOST_PLACES;
+use crate::journal::NOTED_REMOVE;
 use crate::journal::REMOVE;
 use crate::journal::REPLACE;
 use crate::journal::line_word;
@@ -21,12 +24,13 @@ use slots::word;
 use tree::find::Found;
 use tree::find::find_tree_node;
 ghost use mathlib.Core.Path.{_≡_};
-ghost use Prim.Native.Nat.{_+_, _≤_, _<_};
+ghost use Prim.Native.Nat.{ℕ, _+_, _≤_, _<_};
 ghost use lib.ListN.{length, getD};
 ghost use Rattle.slots.specs.Words.{null, mostNames};
 ghost use Rattle.index_rules.specs.Live.{lentTree};
+ghost use Rattle.index_rules.specs.Index.{lineMade, lineOf};
 ghost use Rattle.index_rules.specs.Insert.{soughtIn};
-ghost use Rattle.index_rules.specs.Rollback.{takenBack, putBack, placedBack, undone, unrolled};
+ghost use Rattle.index_rules.specs.Rollback.{takenBack, putBack, putBehind, placedBack, undone, unrolled};
 ghost use Rattle.index.specs.Rolls.{undoOf};
 
 // What comes of undoing: it is done, or a line does not fit.
@@ -62,8 +66,8 @@ fn take_back(
     Undoing::Done
 }
 
-// A remove line is undone by an insert: its pair is not there, and there is a free slot. Misfit where that is not so, or where
-// the place is wider than 32 bits.
+// A remove line is undone by an insert right behind the slot y, at the front where y is null: its pair is not there, and there is a free
+// slot. Misfit where that is not so, or where the place is wider than 32 bits.
 fn put_back(
     names: &mut [u64],
     cells: &mut [u32],
@@ -71,12 +75,13 @@ fn put_back(
     hash: u64,
     key: u64,
     place: u64,
+    y: u32,
 ) -> Undoing
     requires { ⌜ length (now names) ≤ mostNames ⌝ }
     requires { ⌜ getD (now head) 2 null < null ⌝ }
-    ensures { λ r. ⌜ undoOf r (lentTree (now (names .exit)) (now (cells .exit)) (now (head .exit)))
+    ensures { λ r. ⌜ ((kind priorHash priorKey : ℕ) → undoOf r (lentTree (now (names .exit)) (now (cells .exit)) (now (head .exit)))
         ≡ putBack (lentTree (now (names .entry)) (now (cells .entry)) (now (head .entry)))
-        (soughtIn (lentTree (now (names .entry)) (now (cells .entry)) (now (head .entry))) hash key) hash key place ⌝ }
+        (soughtIn (lentTree (now (names .entry)) (now (cells .entry)) (now (head .entry))) hash key) (lineMade kind hash key place priorHash priorKey) y) ⌝ }
 {
     let root = word(head, ROOT, NULL);
     let found = find_tree_node(names, cells, root, hash, key);
@@ -88,10 +93,36 @@ fn put_back(
         if MOST_PLACES <= place {
             return Undoing::Misfit;
         }
-        grow(names, cells, head, x, hash, key, place as u32);
+        grow(names, cells, head, x, y, hash, key, place as u32);
         return Undoing::Done;
     };
     Undoing::Misfit
+}
+
+// A remove line that notes a pair is undone right behind that one. Misfit where it is not there.
+fn put_behind(
+    names: &mut [u64],
+    cells: &mut [u32],
+    head: &mut [u32],
+    hash: u64,
+    key: u64,
+    place: u64,
+    prehash: u64,
+    prekey: u64,
+) -> Undoing
+    requires { ⌜ length (now names) ≤ mostNames ⌝ }
+    requires { ⌜ getD (now head) 2 null < null ⌝ }
+    ensures { λ r. ⌜ ((kind : ℕ) → undoOf r (lentTree (now (names .exit)) (now (cells .exit)) (now (head .exit)))
+        ≡ putBehind (lentTree (now (names .entry)) (now (cells .entry)) (now (head .entry)))
+        (soughtIn (lentTree (now (names .entry)) (now (cells .entry)) (now (head .entry))) prehash prekey)
+        (soughtIn (lentTree (now (names .entry)) (now (cells .entry)) (now (head .entry))) hash key) (lineMade kind hash key place prehash prekey)) ⌝ }
+{
+    let root = word(head, ROOT, NULL);
+    let found = find_tree_node(names, cells, root, prehash, prekey);
+    let Found::At(y, _) = found else {
+        return Undoing::Misfit;
+    };
+    put_back(names, cells, head, hash, key, place, y)
 }
 
 // A replace line is undone by the old place: its pair is there with the new one. Misfit where it is not.
@@ -131,7 +162,7 @@ fn undo_line(
     requires { ⌜ length (now names) ≤ mostNames ⌝ }
     requires { ⌜ getD (now head) 2 null < null ⌝ }
     ensures { λ r. ⌜ undoOf r (lentTree (now (names .exit)) (now (cells .exit)) (now (head .exit)))
-        ≡ undone (lentTree (now (names .entry)) (now (cells .entry)) (now (head .entry))) (now (lines .entry)) k ⌝ }
+        ≡ undone (lentTree (now (names .entry)) (now (cells .entry)) (now (head .entry))) (lineOf (now (lines .entry)) k) ⌝ }
 {
     let kind = line_word(lines, k, LINE_KIND);
     let hash = line_word(lines, k, LINE_HASH);
@@ -141,7 +172,12 @@ fn undo_line(
         return take_back(names, cells, head, hash, key, place);
     }
     if kind == REMOVE {
-        return put_back(names, cells, head, hash, key, place);
+        return put_back(names, cells, head, hash, key, place, NULL);
+    }
+    if kind == NOTED_REMOVE {
+        let prehash = line_word(lines, k, LINE_PRIOR_HASH);
+        let prekey = line_word(lines, k, LINE_PRIOR_KEY);
+        return put_behind(names, cells, head, hash, key, place, prehash, prekey);
     }
     if kind == REPLACE {
         return place_back(names, cells, head, hash, key, place);

@@ -1,14 +1,20 @@
 // remove: a pair leaves the tree, and the journal takes a line.
+use crate::journal::NOTED_REMOVE;
 use crate::journal::REMOVE;
 use crate::journal::append;
 use crate::present::Presence;
 use crate::present::present;
 use crate::shrink::shrink;
+use slots::HASH;
+use slots::KEY;
+use slots::NULL;
 use slots::PLACE;
+use slots::PREV;
 use slots::answer::Answer;
 use slots::answer::given;
 use slots::answer::refused;
 use slots::get;
+use slots::name;
 ghost use mathlib.Core.Path.{_≡_};
 ghost use Rattle.slots.specs.Coded.{answerOf};
 ghost use Rattle.index_rules.specs.Index.{lent, outcome};
@@ -54,7 +60,8 @@ fn ask(names: &[u64], cells: &[u32], head: &[u32], lines: &[u64], hash: u64, key
     }
 }
 
-// The pair (hash, key) leaves the tree, and the journal takes a line. A refusal writes nothing.
+// The pair (hash, key) leaves the tree, and the journal takes a line, which notes the pair before it in the chain, if one stood there. A
+// refusal writes nothing.
 pub fn remove(
     names: &mut [u64],
     cells: &mut [u32],
@@ -70,8 +77,15 @@ pub fn remove(
     let Removed::At(x) = asked else {
         return asked;
     };
-    let place = get(cells, x, PLACE);
+    let place = get(cells, x, PLACE) as u64;
+    let y = get(cells, x, PREV);
+    let prehash = name(names, y, HASH);
+    let prekey = name(names, y, KEY);
     shrink(names, cells, head, x);
-    append(lines, REMOVE, hash, key, place as u64);
+    if y == NULL {
+        append(lines, REMOVE, hash, key, place, 0, 0);
+    } else {
+        append(lines, NOTED_REMOVE, hash, key, place, prehash, prekey);
+    }
     Removed::At(x)
 }

@@ -75,6 +75,6 @@ pub fn replace(
     };
     let old = get(cells, x, PLACE);
     put(cells, x, PLACE, place);
-    append(lines, REPLACE, hash, key, both_places(place, old));
+    append(lines, REPLACE, hash, key, both_places(place, old), 0, 0);
     Replaced::At(x)
 }

@@ -2,7 +2,7 @@
 use Rattle.index_rules.specs.Claims.{Claims}
 use Rattle.index_rules.proofs.Reading.{find-claims, check-claims}
 use Rattle.index_rules.proofs.Sounding.{sound-claims}
-use Rattle.index_rules.proofs.Finding.{find-sound-claims, hold-claims}
+use Rattle.index_rules.proofs.Finding.{find-sound-claims, hold-claims, list-claims}
 use Rattle.index_rules.proofs.Inserting.{insert-claims}
 use Rattle.index_rules.proofs.Removing.{remove-claims}
 use Rattle.index_rules.proofs.Replacing.{replace-claims}
@@ -18,6 +18,7 @@ claims =
       sound = sound-claims;
       find-sound = λ t fit h hash key. find-sound-claims fit h hash key;
       holds = hold-claims;
+      lists = list-claims;
       insert = insert-claims;
       remove = remove-claims;
       replace = replace-claims;

@@ -1,6 +1,6 @@
--- Demand 3: after any calls the lines from the mark up fit, and undoing them leaves what the tree held at the mark.
+-- Demand 3: after any calls the lines from the mark up fit, and undoing them leaves the listing of the mark.
 -- An accepted insert, remove or replace appends a line that takes it back, a rollback undoes the last of them, and a refused call changes nothing.
-use mathlib.Core.Path.{_≡_, refl, ap, sym, _∙_, subst}
+use mathlib.Core.Path.{_≡_, refl, sym, _∙_, subst}
 use mathlib.Core.Logic.{_≢_, _⊎_, inl, inr}
 use mathlib.Core.List.{List, [], _∷_}
 use Prim.Native.Nat.{ℕ, suc, _-_, _<_, _≤_}
@@ -8,58 +8,39 @@ use native.Mathlib.Numerals.{add-one}
 use native.Mathlib.Omega.{arith}
 use lib.ListN.{length, getD}
 use Rattle.slots.specs.Words.{place, cell}
+use Rattle.slots.specs.Pairs.{pair, pairOf}
 use Rattle.slots.specs.Answers.{given}
 use Rattle.tree_rules.specs.Tree.{Tree}
-use Rattle.redblack.specs.Holding.{Has, Stands}
+use Rattle.redblack.specs.Holding.{Stands}
 use Rattle.tree_rules.specs.Find.{slotsOf}
+use Rattle.index_rules.specs.Live.{Live, Fit}
 use Rattle.index_rules.specs.Sound.{Sound}
-use Rattle.index_rules.specs.Index.{Index, FitIndex, lengthOf, lineWord, at, kindWord, hashWord, keyWord, placeWord}
+use Rattle.index_rules.specs.Index.{Index, FitIndex, JournalLine, lengthOf, at}
 use Rattle.index_rules.specs.Insert.{inserts}
 use Rattle.index_rules.specs.Remove.{removes}
 use Rattle.index_rules.specs.Replace.{replaces}
 use Rattle.index_rules.specs.Rollback.{rolls}
-use Rattle.index_rules.specs.Contents.{Entry, entry, entryOf, contents, put, without, withPlace, In, Lacks}
-use Rattle.index_rules.specs.Undoing.{lineEntry, Undoes, back, insertLine, removeLine, replaceLine}
-use Rattle.index_rules.specs.Calls.{Call, insertCall, removeCall, replaceCall, rollbackCall, after, Allowed, nothing, inserting, removing, replacing, rolling, Places, OneLine, BackTo}
+use Rattle.index_rules.specs.Contents.{Entry, entry, entryOf, contents, listing, without, In}
+use Rattle.index_rules.specs.Undoing.{UndoneTo, Undoes, back, down}
+use Rattle.index_rules.specs.Calls.{Call, insertCall, removeCall, replaceCall, rollbackCall, after, Allowed, nothing, inserting, removing, replacing, rolling, Places, OneLine}
 use Rattle.index_rules.specs.Claims.{Demand3}
-use Rattle.index_rules.proofs.Listing.{ascends-map, in-put, without-put, put-all, without-in, lacks-without, put-without, length-without, with-all, in-with, with-again}
-use Rattle.index_rules.proofs.Undoing.{undoes-one, undoes-cut, SameLine, undoes-frame}
-use Rattle.index_rules.proofs.Holding.{stands-in, lacks-of}
-use Rattle.index_rules.proofs.Unrolling.{tree-one, contents-most}
+use Rattle.index_rules.proofs.Listing.{ascends-map, ascends-same, length-without, first-all, without-in, with-all}
+use Rattle.index_rules.proofs.Undoing.{undoes-one, undoes-cut, undoes-frame, undoes-places, insert-undone, remove-undone, replace-undone}
+use Rattle.index_rules.proofs.Journal.{same-line}
+use Rattle.index_rules.proofs.Lists.{stands-listed, listing-distinct}
+use Rattle.index_rules.proofs.Unrolling.{tree-one, listing-most}
 use Rattle.index_rules.proofs.Inserting.{insert-claims, insert-settled}
 use Rattle.index_rules.proofs.Removing.{remove-claims, remove-settled}
 use Rattle.index_rules.proofs.Replacing.{replace-claims, replace-settled}
 use Rattle.index_rules.proofs.Rolling.{rollback-claims, rollback-settled}
+use Rattle.index_rules.proofs.Finding.{list-claims}
 
--- Undoing leaves 32-bit places.
-undoes-places : {n m k : ℕ} {lines : List ℕ} {l l′ : List Entry} → Undoes n lines m k l l′ → Places l → Places l′
-undoes-places (back e) p = p
-undoes-places {lines = lines} (insertLine {k} {l} h q i u) p = undoes-places u (λ e j. p e (without-in (lineWord lines k hashWord) (lineWord lines k keyWord) l e j))
-undoes-places {lines = lines} (removeLine {k} {l} h q i f w u) p = undoes-places u (put-all (λ (e : Entry). e .at < 4294967296) (lineEntry lines k) l w p)
-undoes-places {lines = lines} (replaceLine {k} {new} {old} {l} h q w a b i u) p =
-    undoes-places u (with-all (λ (e : Entry). e .at < 4294967296) (lineWord lines k hashWord) (lineWord lines k keyWord) old l b p)
-
--- A line more leaves the lines below as they were.
-line-same : {lines lines′ : List ℕ} {kind hash key p : ℕ} → OneLine lines lines′ kind hash key p → (k : ℕ) → k < lengthOf lines → SameLine lines lines′ k
-line-same o k l =
-    record {
-      kinds = o .below (at k kindWord) (omega arith) (omega arith);
-      hashes = o .below (at k hashWord) (omega arith) (omega arith);
-      keys = o .below (at k keyWord) (omega arith) (omega arith);
-      places = o .below (at k placeWord) (omega arith) (omega arith);
-    }
-
-back-same : {lines lines′ : List ℕ} {m : ℕ} → BackTo m lines lines′ → (k : ℕ) → k < m → SameLine lines lines′ k
-back-same o k l =
-    record {
-      kinds = o .below (at k kindWord) (omega arith) (omega arith);
-      hashes = o .below (at k hashWord) (omega arith) (omega arith);
-      keys = o .below (at k keyWord) (omega arith) (omega arith);
-      places = o .below (at k placeWord) (omega arith) (omega arith);
-    }
-
-line-entry : {lines lines′ : List ℕ} {kind hash key p : ℕ} → OneLine lines lines′ kind hash key p → lineEntry lines′ (lengthOf lines) ≡ entry hash key p
-line-entry o = λ i. entry (o .hashes i) (o .keys i) (o .places i)
+-- Trees with one listing have one list of contents.
+listing-holds : {t u : Live} → Fit t → Fit u → (h : Sound t) (g : Sound u) → listing h ≡ listing g → contents h ≡ contents g
+listing-holds {t} {u} fit fit′ h g q =
+    ascends-same (contents h) (contents g) (ascends-map t (h .t4)) (ascends-map u (g .t4))
+    (λ e i. list-claims u fit′ .same g e .0 (subst (λ (l : List Entry). In e l) q (list-claims t fit .same h e .1 i)))
+    (λ e i. list-claims t fit .same h e .0 (subst (λ (l : List Entry). In e l) (sym q) (list-claims u fit′ .same g e .1 i)))
 
 module _ (ix : Index) (h : Sound (ix .live)) where
   abbrev mark : ℕ
@@ -74,105 +55,68 @@ module _ (ix : Index) (h : Sound (ix .live)) where
     sound : Sound (jx .live)
     capacity : slotsOf (jx .live .names) ≡ slotCount
     above : mark ≤ lengthOf (jx .lines)
-    kept : (j : ℕ) → 0 < j → j < at mark 0 → getD (jx .lines) j 0 ≡ getD (ix .lines) j 0
-    undoes : Undoes slotCount (jx .lines) mark (lengthOf (jx .lines)) (contents sound) (contents h)
-    places : Places (contents sound)
+    kept : (i : ℕ) → 0 < i → i < at mark 0 → getD (jx .lines) i 0 ≡ getD (ix .lines) i 0
+    undoes : Undoes slotCount (jx .lines) mark (lengthOf (jx .lines)) (listing sound) (listing h)
+    places : Places (listing sound)
 
   -- A line appended that takes the change back.
+  line-good : {jx kx : Index} (j : JournalLine) (g : Good jx) (s : Sound (kx .live)) → FitIndex kx → slotsOf (kx .live .names) ≡ slotsOf (jx .live .names)
+      → OneLine (jx .lines) (kx .lines) j → UndoneTo slotCount j (listing s) (listing (g .sound)) → Places (listing s) → Good kx
+  line-good {jx} {kx} j g s fit cap o undone words =
+      let k = lengthOf (jx .lines) in
+      let older : Undoes slotCount (kx .lines) mark k (listing (g .sound)) (listing h) =
+      undoes-frame (kx .lines) (λ i a b. same-line (jx .lines) (kx .lines) i (λ w l m. o .below w (omega arith) (omega arith))) (g .undoes) in
+      let all : Undoes slotCount (kx .lines) mark (suc k) (listing s) (listing h) =
+      down (g .above) (subst (λ (i : JournalLine). UndoneTo slotCount i (listing s) (listing (g .sound))) (sym (o .line)) undone) older in
+      let len : lengthOf (kx .lines) ≡ suc k = o .count ∙ add-one k in
+      record {
+        fit = fit;
+        sound = s;
+        capacity = cap ∙ g .capacity;
+        above = omega (arith, o .count, g .above);
+        kept = λ i a b. o .below i a (omega (arith, g .above)) ∙ g .kept i a b;
+        undoes = subst (λ (i : ℕ). Undoes slotCount (kx .lines) mark i (listing s) (listing h)) (sym len) all;
+        places = words;
+      }
+
   insert-good : (jx : Index) (hash key p : ℕ) → p < 4294967296 → Good jx → (x : ℕ) → inserts jx hash key p .answer ≡ given x → Good (inserts jx hash key p .left)
   insert-good jx hash key p small g x q =
-      let claim = insert-claims jx hash key p in
-      let r = claim .accepted x .0 q in
-      let d = claim .done x q (g .sound) in
-      let s = d .0 in
-      let o = d .4 in
-      let n : Has (jx .live .names) (g .sound .tree) hash key → ⊥ = subst (λ (u : Tree). Has (jx .live .names) u hash key → ⊥) (tree-one (g .fit .tree) (r .1 .0) (g .sound)) (r .1 .1) in
-      let lacks : Lacks hash key (contents (g .sound)) = lacks-of (g .sound) hash key n in
-      let lines′ = inserts jx hash key p .left .lines in
-      let k = lengthOf (jx .lines) in
-      let here : In (lineEntry lines′ k) (contents s) = rw (line-entry o, d .2) (in-put (entry hash key p) (contents (g .sound))) in
-      let less : without (lineWord lines′ k hashWord) (lineWord lines′ k keyWord) (contents s) ≡ contents (g .sound) =
-      ap (λ (e : Entry). without (e .hash) (e .key) (contents s)) (line-entry o) ∙ ap (without hash key) (d .2) ∙ without-put (entry hash key p) (contents (g .sound)) lacks in
-      let older : Undoes slotCount lines′ mark k (contents (g .sound)) (contents h) = undoes-frame lines′ (λ j a b. line-same o j b) (g .undoes) in
-      let all : Undoes slotCount lines′ mark (suc k) (contents s) (contents h) = insertLine (g .above) (o .kinds) here (subst (λ (l : List Entry). Undoes slotCount lines′ mark k l (contents h)) (sym less) older) in
-      let len : lengthOf lines′ ≡ suc k = o .count ∙ add-one k in
-      record {
-        fit = d .1;
-        sound = s;
-        capacity = d .5 ∙ g .capacity;
-        above = omega (arith, o .count, g .above);
-        kept = λ j a b. o .below j a (omega (arith, g .above)) ∙ g .kept j a b;
-        undoes = subst (λ (i : ℕ). Undoes slotCount lines′ mark i (contents s) (contents h)) (sym len) all;
-        places = subst (λ (l : List Entry). Places l) (sym (d .2)) (put-all (λ (e : Entry). e .at < 4294967296) (entry hash key p) (contents (g .sound)) small (g .places));
-      }
+      let d = insert-claims jx hash key p .done x q (g .sound) in
+      line-good _ g (d .0) (d .1) (d .6) (d .5) (rw (d .3) (insert-undone slotCount (entry hash key p) (listing (g .sound))))
+      (subst (λ (l : List Entry). Places l) (sym (d .3)) (first-all (λ (e : Entry). e .at < 4294967296) (entry hash key p) (listing (g .sound)) small (g .places)))
+
+  -- The entry of a slot that a call found.
+  was-listed : (jx : Index) (g : Good jx) (r : Sound (jx .live)) (hash key x : ℕ) → Stands x (r .tree)
+      → pairOf (jx .live .names) x ≡ pair hash key
+      → In (entry hash key (cell (jx .live .cells) x place)) (listing (g .sound))
+  was-listed jx g r hash key x z n =
+      let stands : Stands x (g .sound .tree) = subst (λ (u : Tree). Stands x u) (tree-one (g .fit .tree) r (g .sound)) z in
+      let is : entryOf (jx .live) x ≡ entry hash key (cell (jx .live .cells) x place) = λ i. entry (n i .hash) (n i .key) (cell (jx .live .cells) x place) in
+      subst (λ (e : Entry). In e (listing (g .sound))) is (stands-listed (g .sound) x stands)
 
   remove-good : (jx : Index) (hash key : ℕ) → Good jx → (x : ℕ) → removes jx hash key .answer ≡ given x → Good (removes jx hash key .left)
   remove-good jx hash key g x q =
       let claim = remove-claims jx hash key in
       let r = claim .asks .accepted x .0 q in
       let d = claim .done x q (g .sound) in
-      let s = d .0 in
-      let o = d .4 in
-      let p = cell (jx .live .cells) x place in
-      let stands : Stands x (g .sound .tree) = subst (λ (u : Tree). Stands x u) (tree-one (g .fit .tree) (r .1 .0) (g .sound)) (r .1 .1) in
-      let is : entryOf (jx .live) x ≡ entry hash key p = λ i. entry (r .1 .2 i .hash) (r .1 .2 i .key) p in
-      let was : In (entry hash key p) (contents (g .sound)) = subst (λ (e : Entry). In e (contents (g .sound))) is (stands-in (g .sound) x stands) in
-      let rises = ascends-map (jx .live) (g .sound .t4) in
-      let lines′ = removes jx hash key .left .lines in
-      let k = lengthOf (jx .lines) in
-      let lacks : Lacks (lineWord lines′ k hashWord) (lineWord lines′ k keyWord) (contents s) =
-      subst (λ (e : Entry). Lacks (e .hash) (e .key) (contents s)) (sym (line-entry o)) (rw (d .2) (lacks-without (entry hash key p) (contents (g .sound)) rises was)) in
-      let again : put (lineEntry lines′ k) (contents s) ≡ contents (g .sound) =
-      ap (λ (e : Entry). put e (contents s)) (line-entry o) ∙ ap (put (entry hash key p)) (d .2) ∙ put-without (entry hash key p) (contents (g .sound)) rises was in
-      let room : length (contents s) < slotCount =
-      omega (arith, ap length (d .2), length-without (entry hash key p) (contents (g .sound)) rises was, contents-most (g .fit .tree) (g .sound), g .capacity) in
-      let older : Undoes slotCount lines′ mark k (contents (g .sound)) (contents h) = undoes-frame lines′ (λ j a b. line-same o j b) (g .undoes) in
-      let small : lineWord lines′ k placeWord < 4294967296 = rw (o .places) (g .places (entry hash key p) was) in
-      let all : Undoes slotCount lines′ mark (suc k) (contents s) (contents h) =
-      removeLine (g .above) (o .kinds) lacks room small (subst (λ (l : List Entry). Undoes slotCount lines′ mark k l (contents h)) (sym again) older) in
-      let len : lengthOf lines′ ≡ suc k = o .count ∙ add-one k in
-      record {
-        fit = d .1;
-        sound = s;
-        capacity = d .5 ∙ g .capacity;
-        above = omega (arith, o .count, g .above);
-        kept = λ j a b. o .below j a (omega (arith, g .above)) ∙ g .kept j a b;
-        undoes = subst (λ (i : ℕ). Undoes slotCount lines′ mark i (contents s) (contents h)) (sym len) all;
-        places = subst (λ (l : List Entry). Places l) (sym (d .2)) (λ e j. g .places e (without-in hash key (contents (g .sound)) e j));
-      }
+      let e = entry hash key (cell (jx .live .cells) x place) in
+      let was = was-listed jx g (r .1 .0) hash key x (r .1 .1) (r .1 .2) in
+      let distinct = listing-distinct (g .sound) (g .fit .tree) in
+      let room : length (without hash key (listing (g .sound))) < slotCount =
+      omega (arith, length-without e (listing (g .sound)) distinct was, listing-most (g .fit .tree) (g .sound), g .capacity) in
+      line-good (d .5 .0) g (d .0) (d .1) (d .6) (d .5 .2) (rw (d .3) (remove-undone distinct (d .5 .1) room (g .places e was)))
+      (subst (λ (l : List Entry). Places l) (sym (d .3)) (λ y i. g .places y (without-in hash key (listing (g .sound)) y i)))
 
   replace-good : (jx : Index) (hash key p : ℕ) → p < 4294967296 → Good jx → (x : ℕ) → replaces jx hash key p .answer ≡ given x → Good (replaces jx hash key p .left)
   replace-good jx hash key p small g x q =
       let claim = replace-claims jx hash key p in
       let r = claim .asks .accepted x .0 q in
       let d = claim .done x q (g .sound) in
-      let s = d .0 in
-      let o = d .5 in
-      let old = cell (jx .live .cells) x place in
-      let stands : Stands x (g .sound .tree) = subst (λ (u : Tree). Stands x u) (tree-one (g .fit .tree) (r .1 .0) (g .sound)) (r .1 .1) in
-      let is : entryOf (jx .live) x ≡ entry hash key old = λ i. entry (r .1 .2 i .hash) (r .1 .2 i .key) old in
-      let was : In (entry hash key old) (contents (g .sound)) = subst (λ (e : Entry). In e (contents (g .sound))) is (stands-in (g .sound) x stands) in
-      let rises = ascends-map (jx .live) (g .sound .t4) in
-      let lines′ = replaces jx hash key p .left .lines in
-      let k = lengthOf (jx .lines) in
-      let here : In (entry (lineWord lines′ k hashWord) (lineWord lines′ k keyWord) p) (contents s) =
-      rw (o .hashes, o .keys, d .2) (in-with (entry hash key old) (contents (g .sound)) rises was p) in
-      let again : withPlace (lineWord lines′ k hashWord) (lineWord lines′ k keyWord) old (contents s) ≡ contents (g .sound) =
-      rw (o .hashes, o .keys, d .2) (with-again (entry hash key old) (contents (g .sound)) rises was p) in
-      let older : Undoes slotCount lines′ mark k (contents (g .sound)) (contents h) = undoes-frame lines′ (λ j a b. line-same o j b) (g .undoes) in
-      let all : Undoes slotCount lines′ mark (suc k) (contents s) (contents h) =
-      replaceLine (g .above) (o .kinds) (o .places) small (g .places (entry hash key old) was) here
-      (subst (λ (l : List Entry). Undoes slotCount lines′ mark k l (contents h)) (sym again) older) in
-      let len : lengthOf lines′ ≡ suc k = o .count ∙ add-one k in
-      record {
-        fit = d .1;
-        sound = s;
-        capacity = d .6 ∙ g .capacity;
-        above = omega (arith, o .count, g .above);
-        kept = λ j a b. o .below j a (omega (arith, g .above)) ∙ g .kept j a b;
-        undoes = subst (λ (i : ℕ). Undoes slotCount lines′ mark i (contents s) (contents h)) (sym len) all;
-        places = subst (λ (l : List Entry). Places l) (sym (d .2)) (with-all (λ (e : Entry). e .at < 4294967296) hash key p (contents (g .sound)) small (g .places));
-      }
+      let e = entry hash key (cell (jx .live .cells) x place) in
+      let was = was-listed jx g (r .1 .0) hash key x (r .1 .1) (r .1 .2) in
+      let distinct = listing-distinct (g .sound) (g .fit .tree) in
+      line-good _ g (d .0) (d .1) (d .7) (d .6) (rw (d .3) (replace-undone slotCount e p (listing (g .sound)) distinct was small (g .places e was)))
+      (subst (λ (l : List Entry). Places l) (sym (d .3)) (with-all (λ (e : Entry). e .at < 4294967296) hash key p (listing (g .sound)) small (g .places)))
 
   -- A rollback to a mark above: the lines above it are undone, and the rest still fit.
   rollback-good : (jx : Index) (m : ℕ) → mark ≤ m → Good jx → (c : ℕ) → rolls jx m .answer ≡ given c → Good (rolls jx m .left)
@@ -183,18 +127,18 @@ module _ (ix : Index) (h : Sound (ix .live)) where
       let s = d .0 in
       let b = d .3 in
       let cut = undoes-cut m w (r .1) (g .undoes) in
-      let here : Undoes slotCount (jx .lines) m (lengthOf (jx .lines)) (contents (g .sound)) (contents s) = rw (← g .capacity) (d .2) in
-      let same : cut .0 ≡ contents s = undoes-one (cut .1) here in
+      let here : Undoes slotCount (jx .lines) m (lengthOf (jx .lines)) (listing (g .sound)) (listing s) = rw (← g .capacity) (d .2) in
+      let same : cut .0 ≡ listing s = undoes-one (cut .1) here in
       let lines′ = rolls jx m .left .lines in
-      let rest : Undoes slotCount lines′ mark m (contents s) (contents h) =
-      undoes-frame lines′ (λ j a l. back-same b j l) (subst (λ (l : List Entry). Undoes slotCount (jx .lines) mark m l (contents h)) same (cut .2)) in
+      let rest : Undoes slotCount lines′ mark m (listing s) (listing h) =
+      undoes-frame lines′ (λ i a l. same-line (jx .lines) lines′ i (λ w c e. b .below w (omega arith) (omega arith))) (subst (λ (l : List Entry). Undoes slotCount (jx .lines) mark m l (listing h)) same (cut .2)) in
       record {
         fit = d .1;
         sound = s;
         capacity = d .4 ∙ g .capacity;
         above = omega (arith, b .count);
         kept = λ j a l. b .below j a (omega arith) ∙ g .kept j a l;
-        undoes = subst (λ (i : ℕ). Undoes slotCount lines′ mark i (contents s) (contents h)) (sym (b .count)) rest;
+        undoes = subst (λ (i : ℕ). Undoes slotCount lines′ mark i (listing s) (listing h)) (sym (b .count)) rest;
         places = undoes-places here (g .places);
       }
 
@@ -227,17 +171,19 @@ module _ (ix : Index) (h : Sound (ix .live)) where
 
   pub demand-three : (fit : FitIndex ix) (words : Places (contents h)) (calls : List Call) (allowed : Allowed mark calls) → Demand3 ix fit h words calls allowed
   demand-three fit words calls allowed =
-      let start : Good ix = record { fit = fit; sound = h; capacity = refl; above = omega arith; kept = λ j a b. refl; undoes = back refl; places = words } in
+      let start : Good ix = record { fit = fit; sound = h; capacity = refl; above = omega arith; kept = λ j a b. refl; undoes = back refl; places = λ e i. words e (list-claims (ix .live) (fit .tree) .same h e .0 i) } in
       let g = calls-good calls allowed ix start in
       let jx = after calls ix in
       let claim = rollback-claims jx mark in
-      let here : Undoes (slotsOf (jx .live .names)) (jx .lines) mark (lengthOf (jx .lines)) (contents (g .sound)) (contents h) = rw (g .capacity) (g .undoes) in
-      let q = claim .accepted (lengthOf (jx .lines) - mark) .1 (g .fit, g .above, refl, (g .sound, (contents h, here))) in
+      let here : Undoes (slotsOf (jx .live .names)) (jx .lines) mark (lengthOf (jx .lines)) (listing (g .sound)) (listing h) = rw (g .capacity) (g .undoes) in
+      let q = claim .accepted (lengthOf (jx .lines) - mark) .1 (g .fit, g .above, refl, (g .sound, (listing h, here))) in
       let d = claim .done (lengthOf (jx .lines) - mark) q (g .sound) in
+      let same = undoes-one (d .2) here in
       record {
         accepted = q;
         sound = d .0;
-        holds = undoes-one (d .2) here;
+        holds = listing-holds (d .1 .tree) (fit .tree) (d .0) h same;
+        listed = same;
         kept = λ j a b. d .3 .below j a b ∙ g .kept j a b;
         journal = d .3;
       }

@@ -1,25 +1,29 @@
--- find on a sound tree, from the law of the search there; and that the contents of a sound tree are one list.
+-- find on a sound tree, from the law of the search there; and that the contents of a sound tree are one list, and its listing another with
+-- the same entries.
 use mathlib.Core.Path.{_≡_, refl, ap, sym, _∙_, subst}
-use mathlib.Core.List.{List}
+use mathlib.Core.List.{List, map}
 use Prim.Native.Nat.{ℕ}
 use native.Mathlib.Omega.{arith}
 use Rattle.slots.specs.Pairs.{pair, pairOf}
 use Rattle.slots.specs.Answers.{none, given, nothing, refused}
 use Rattle.slots.proofs.Laws.{number, none-some, value}
-use Rattle.tree_rules.specs.Find.{Search, found}
+use Rattle.tree_rules.specs.Find.{Search, found, slotsOf}
 use Rattle.tree_rules.proofs.Claims.{looks-squared}
+use Rattle.tree_rules.proofs.Chaining.{chain-unique}
 use Rattle.redblack.specs.Holding.{Has, Stands}
 use Rattle.index_rules.specs.Live.{Live, Fit, rootOf}
 use Rattle.index_rules.specs.Sound.{Sound}
 use Rattle.index_rules.specs.Find.{finds}
-use Rattle.index_rules.specs.Contents.{Entry, entry, entryOf, contents, HasAt, HoldSame, In}
-use Rattle.index_rules.specs.Claims.{FindsSound, Contained}
+use Rattle.index_rules.specs.Contents.{Entry, entry, entryOf, contents, listing, HasAt, HoldSame, In}
+use Rattle.index_rules.specs.Claims.{FindsSound, Contained, Lists}
+use Rattle.index_rules.proofs.Rules.{small}
 use Rattle.index_rules.proofs.Reading.{find-fit, find-claims}
 use Rattle.index_rules.proofs.Seeking.{found-at, found-none}
 use Rattle.index_rules.proofs.Deciding.{Seen, there, absent, seen}
 use Rattle.index_rules.proofs.Holding.{contents-length, stands-in, in-stands}
 use Rattle.index_rules.proofs.Listing.{ascends-map, ascends-same}
 use Rattle.index_rules.proofs.Frames.{sound-count}
+use Rattle.index_rules.proofs.Lists.{stands-listed, listed-stands, listing-length}
 use Rattle.index_rules.proofs.Unrolling.{contents-one}
 use Rattle.index_rules.proofs.Inserting.{value-inj}
 
@@ -90,4 +94,15 @@ hold-claims t fit =
       rising = λ h. h .t4;
       many = contents-length;
       same = λ h u g. (same-contents h g, contents-same h g);
+    }
+
+pub list-claims : (t : Live) (fit : Fit t) → Lists t fit
+list-claims t fit =
+    record {
+      one = λ h g. ap (map (entryOf t)) (chain-unique (slotsOf (t .names)) (t .cells) (small fit) (h .t7 .linked) (g .t7 .linked));
+      same = λ h e. (
+        λ i. (let s = listed-stands h i in subst (λ (r : Entry). In r (contents h)) (s .is) (stands-in h (s .slot) (s .stands))),
+        λ i. (let s = in-stands h i in subst (λ (r : Entry). In r (listing h)) (s .is) (stands-listed h (s .slot) (s .stands))),
+      );
+      many = listing-length;
     }

@@ -1,6 +1,6 @@
 -- A tree, a chain and an order each read few words, so they stay where those words stay.
 -- A list with one slot less is counted and ordered like the longer one.
-use mathlib.Core.Path.{_≡_, ap, sym, subst, _∙_}
+use mathlib.Core.Path.{_≡_, refl, ap, sym, subst, _∙_}
 use mathlib.Core.Logic.{_≢_, _⊎_, inl, inr}
 use mathlib.Core.Bool.{true, false}
 use mathlib.Core.List.{List, [], _∷_, _++_}
@@ -17,7 +17,7 @@ use Rattle.slots.proofs.Laws.{word-same, word-across, word-else, length-store, 
 use Rattle.tree_rules.specs.Tree.{Tree, slots, times, Hangs, Below, last, before, Rising, empty, rise}
 use Rattle.tree_rules.specs.Tree.Hangs.{none as hangsNone, some as hangsSome}
 use Rattle.tree_rules.specs.Chain.{Chain, ended, linked}
-use Rattle.tree_rules.proofs.Counting.{times-append, times-head, times-else, times-rest, exactly-length}
+use Rattle.tree_rules.proofs.Counting.{times-append, times-head, times-else, times-rest, times-cases, exactly-length}
 use Rattle.tree_rules.proofs.Reaching.{hangs-inside}
 use Rattle.redblack.specs.Balance.{OneFewer as Without}
 use Rattle.redblack.specs.Holding.{RedBlackTree}
@@ -30,6 +30,15 @@ use Rattle.tree_rules.specs.Find.{slotsOf}
 -- What stands in a list is none that does not.
 pub none-of : {x k : ℕ} (l : List ℕ) → times x l ≡ 0 → 1 ≤ times k l → k ≢ x
 none-of {x} {k} l e z f = let y : times k l ≡ times x l = ap (λ (j : ℕ). times j l) f in omega arith
+
+-- A member of a list can be taken out of it.
+pub member : (x : ℕ) (l : List ℕ) → 1 ≤ times x l → (m : List ℕ) × Without x l m
+unfolding times
+member x [] z = absurd (omega arith)
+member x (y ∷ l) z = times-cases x y l z (λ e. (l, record { before = []; after = l; whole = ap (λ (j : ℕ). j ∷ l) (sym e); rest = refl })) (λ w. onward (member x l w))
+  where
+    onward : (m : List ℕ) × Without x l m → (m : List ℕ) × Without x (y ∷ l) m
+    onward (m, h) = (y ∷ m, record { before = y ∷ h .before; after = h .after; whole = ap (λ (j : List ℕ). y ∷ j) (h .whole); rest = ap (λ (j : List ℕ). y ∷ j) (h .rest) })
 
 -- From the cells c to d the slot k keeps its colour and its links of the tree.
 pub record Still (c d : List ℕ) (k : ℕ) : Type 0 where
@@ -73,6 +82,61 @@ chain-behind {c = c} {d} once head prevs nexts (linked {i = i} {l} w p rest) =
 pub chain-starts : {n q i : ℕ} {c l : List ℕ} → Chain n c q i l → (i ≡ null) ⊎ (1 ≤ times i l)
 chain-starts (ended e) = inl e
 chain-starts (linked {i = i} {l} w p c) = inr (omega (arith, times-head i l))
+
+-- A slot x that is seated behind y: the words of both, of the follower, and no others of the chain.
+pub record Seated (n : ℕ) (c d : List ℕ) (x y q : ℕ) : Type 0 where
+  pub inside : x < n
+  pub x-prev : cell d x prev ≡ y
+  pub x-next : cell d x next ≡ q
+  pub y-next : y < n → cell d y next ≡ x
+  pub q-prev : q < n → cell d q prev ≡ x
+  pub prevs : (k : ℕ) → k ≢ x → k ≢ q → cell d k prev ≡ cell c k prev
+  pub nexts : (k : ℕ) → k ≢ x → k ≢ y → cell d k next ≡ cell c k next
+
+-- What follows in a chain is null or another slot of it.
+pub chain-next : {n q i : ℕ} {c : List ℕ} (a : List ℕ) (y : ℕ) (b : List ℕ) → Chain n c q i (a ++ (y ∷ b)) → (cell c y next ≡ null) ⊎ (1 ≤ times (cell c y next) b)
+chain-next [] y b (linked w p r) = chain-starts r
+chain-next (z ∷ a) y b (linked w p r) = chain-next a y b r
+
+pub seated-front : {n x q : ℕ} {c d l : List ℕ} → Seated n c d x null q → ((k : ℕ) → times k l ≤ 1) → times x l ≡ 0 → ((k : ℕ) → 1 ≤ times k l → k < null)
+    → Chain n c null q l → Chain n d null x (x ∷ l)
+seated-front {n} {x} {q} {l = l} s once away below chain =
+    linked {l = l} (s .inside) (s .x-prev)
+    (rw (s .x-next)
+    (chain-behind once (s .q-prev) (λ k z d. s .prevs k (none-of l away z) d) (λ k z. s .nexts k (none-of l away z) (λ e. omega (arith, below k z))) chain))
+
+pub seated-behind : {n q i x y : ℕ} {c d : List ℕ} (a b : List ℕ) → Seated n c d x y (cell c y next) → n ≤ null → ((k : ℕ) → times k (a ++ (y ∷ b)) ≤ 1)
+    → times x (a ++ (y ∷ b)) ≡ 0 → (f : (cell c y next ≡ null) ⊎ (1 ≤ times (cell c y next) b)) → Chain n c q i (a ++ (y ∷ b)) → Chain n d q i (a ++ (y ∷ (x ∷ b)))
+seated-behind {n} {q} {i} {x} {y} {c} {d} [] b s bound once away f (linked w p r) =
+    let not-x : (k : ℕ) → 1 ≤ times k (y ∷ b) → k ≢ x = λ k z. none-of (y ∷ b) away z in
+    let own = not-x y (omega (arith, times-head y b)) in
+    linked {l = x ∷ b} w (s .prevs y own (follows f) ∙ p)
+    (rw (s .y-next w)
+    (linked {l = b} (s .inside) (s .x-prev)
+    (rw (s .x-next)
+    (chain-behind (λ k. omega (arith, once k, times-rest k y b)) (s .q-prev)
+    (λ k z e. s .prevs k (not-x k (omega (arith, times-rest k y b))) e)
+    (λ k z. s .nexts k (not-x k (omega (arith, times-rest k y b))) (apart k z)) r))))
+  where
+    follows : (cell c y next ≡ null) ⊎ (1 ≤ times (cell c y next) b) → y ≢ cell c y next
+    follows (inl e) g = omega arith
+    follows (inr z) g = let m : times (cell c y next) b ≡ times y b = ap (λ (k : ℕ). times k b) (sym g) in omega (arith, once y, times-head y b)
+
+    apart : (k : ℕ) → 1 ≤ times k b → k ≢ y
+    apart k z g = let m : times k b ≡ times y b = ap (λ (j : ℕ). times j b) g in omega (arith, once y, times-head y b)
+seated-behind {n} {q} {i} {x} {y} {c} {d} (u ∷ a) b s bound once away f (linked w p r) =
+    let own : u ≢ x = none-of (u ∷ (a ++ (y ∷ b))) away (omega (arith, times-head u (a ++ (y ∷ b)))) in
+    linked {l = a ++ (y ∷ (x ∷ b))} w (s .prevs u own (before f) ∙ p)
+    (rw (s .nexts u own (other y (omega (arith, times-append y a (y ∷ b), times-head y b))))
+    (seated-behind a b s bound (λ k. omega (arith, once k, times-rest k u (a ++ (y ∷ b)))) (omega (arith, times-rest x u (a ++ (y ∷ b)))) f r))
+  where
+    -- what stands further on is another slot
+    other : (k : ℕ) → 1 ≤ times k (a ++ (y ∷ b)) → u ≢ k
+    other k z g = let m : times k (a ++ (y ∷ b)) ≡ times u (a ++ (y ∷ b)) = ap (λ (j : ℕ). times j (a ++ (y ∷ b))) (sym g) in omega (arith, once u, times-head u (a ++ (y ∷ b)))
+
+    before : (cell c y next ≡ null) ⊎ (1 ≤ times (cell c y next) b) → u ≢ cell c y next
+    before (inl e) g = omega arith
+    before (inr z) g = other (cell c y next) (omega (arith, times-append (cell c y next) a (y ∷ b), times-rest (cell c y next) y b)) g
 
 -- The order reads the pairs of its slots.
 below-frame : {names other l : List ℕ} {p : Pair} → ((k : ℕ) → 1 ≤ times k l → pairOf other k ≡ pairOf names k) → Below names p l → Below other p l

@@ -3,7 +3,7 @@ use mathlib.Core.Path.{_≡_, refl, ap, sym, _∙_}
 use mathlib.Core.Logic.{_≢_, inl}
 use mathlib.Core.Bool.{Bool, true, false}
 use mathlib.Core.List.{List, []}
-use Prim.Native.Nat.{ℕ, zero, suc, _+_, _-_, _*_, _/_, _<_, _≤_}
+use Prim.Native.Nat.{ℕ, zero, suc, _+_, _*_, _/_, _<_, _≤_}
 use native.Mathlib.Decide.{ℕ-discrete, decLt}
 use native.Mathlib.Omega.{arith}
 use lib.ListN.{length, getD, List·getD-eq-default}
@@ -17,14 +17,14 @@ use Rattle.tree_rules.specs.Chain.{Chain}
 use Rattle.tree_rules.proofs.Counting.{exactly-length}
 use Rattle.index_rules.specs.Live.{Live, Fit, fits, rootOf, firstOf, countOf}
 use Rattle.index_rules.specs.Sound.{Sound, Cleared, used}
-use Rattle.index_rules.specs.Index.{Index, FitIndex, linesOf, at}
+use Rattle.index_rules.specs.Index.{Index, FitIndex, lineWords, linesOf, at}
 use Rattle.index_rules.specs.Insert.{headed}
 use Rattle.index_rules.specs.Remove.{wiped}
 use Rattle.index_rules.specs.Fresh.{FitLengths, fitsLengths, bared, freshes}
 use Rattle.index_rules.specs.Contents.{contents}
 use Rattle.index_rules.specs.Claims.{Freshes}
 use Rattle.index_rules.proofs.Fit.{both, half, fit-fits, fits-fit}
-use Rattle.index_rules.proofs.Journal.{rolledLines, rolled-length, rolled-count, rolled-zero}
+use Rattle.index_rules.proofs.Journal.{whole-is, is-whole, rolledLines, rolled-length, rolled-count, rolled-zero}
 use Rattle.index_rules.proofs.Frames.{roomy-cells, roomy-names, name-same, name-across, name-else, roomy-rename, length-rename, headed-length, headed-root, headed-first, headed-count}
 use Rattle.tree_rules.specs.Find.{slotsOf}
 
@@ -167,19 +167,18 @@ module _ {t : Live} (fit : Fit t) (blank : (i : ℕ) → i < slotsOf (t .names) 
 
 -- The test of the lengths holds exactly of fit lengths.
 lines-of : {ix : Index} (h : FitLengths ix) → linesOf (ix .lines) ≡ h .capacity
-lines-of h = omega (arith, h .four)
+lines-of h = omega (arith, h .words)
 
 pub lengths-fit : (ix : Index) → fitsLengths ix ≡ true → FitLengths ix
 unfolding fitsLengths
 lengths-fit ix e =
     let a = both (fits (ix .live)) _ e in
-    let b = both (leb (linesOf (ix .lines)) 1024) _ (a .1) in
-    record { tree = fits-fit (ix .live) (a .0); capacity = linesOf (ix .lines); most = leb-true _ _ (b .0); four = eqb-true _ _ (b .1) }
+    let w = whole-is (ix .lines) (a .1) in
+    record { tree = fits-fit (ix .live) (a .0); capacity = linesOf (ix .lines); most = w .0; words = w .1 }
 
 fit-lengths : (ix : Index) → FitLengths ix → fitsLengths ix ≡ true
 unfolding fitsLengths
-fit-lengths ix h =
-    simp (lines-of h, fit-fits (ix .live) (h .tree), le-leb (h .capacity) 1024 (h .most), eq-eqb (length (ix .lines)) (1 + 4 * h .capacity) (h .four))
+fit-lengths ix h = simp (fit-fits (ix .live) (h .tree), is-whole (ix .lines) (h .capacity) (h .most) (h .words))
 
 module _ (ix : Index) where
   unfit-one : fitsLengths ix ≡ false → (freshes ix .answer ≡ refused 1) × (freshes ix .left ≡ ix)
@@ -254,7 +253,7 @@ module _ (ix : Index) where
     sound = empty-sound fit blank (headed-root (bareTree .head) null null 0 head-three) (headed-first (bareTree .head) null null 0 head-three) (headed-count (bareTree .head) null null 0 head-three)
 
     room : at (0 + linesOf (ix .lines)) 0 ≤ length (ix .lines)
-    room = omega (arith, lines-of h, h .four)
+    room = omega (arith, lines-of h, h .words)
 
     fit-index : FitIndex (record { live = emptied; lines = zeroed })
     fit-index =
@@ -262,7 +261,7 @@ module _ (ix : Index) where
           tree = fit;
           capacity = h .capacity;
           most = h .most;
-          four = rolled-length (linesOf (ix .lines)) (ix .lines) 0 room ∙ h .four;
+          words = rolled-length (linesOf (ix .lines)) (ix .lines) 0 room ∙ h .words;
           within = omega (arith, rolled-count (linesOf (ix .lines)) (ix .lines) 0 room);
         }
 
@@ -273,7 +272,7 @@ module _ (ix : Index) where
         go (yes e) d = ap (λ (k : ℕ). getD zeroed k 0) e ∙ rolled-count (linesOf (ix .lines)) (ix .lines) 0 room
         go (no n) (yes l) = rolled-zero (linesOf (ix .lines)) (ix .lines) 0 room j (omega arith) l
         go (no n) (no m) =
-            let past : length zeroed ≤ j = omega (arith, rolled-length (linesOf (ix .lines)) (ix .lines) 0 room, lines-of h, h .four) in
+            let past : length zeroed ≤ j = omega (arith, rolled-length (linesOf (ix .lines)) (ix .lines) 0 room, lines-of h, h .words) in
             List·getD-eq-default zeroed 0 past
 
   nothing-held : (h : FitLengths ix) → contents (sound h) ≡ []

@@ -1,20 +1,21 @@
 -- A free slot joins a sound tree: the chain's writes touch no word that the tree reads, the tree's none that the chain reads,
 -- and the slots outside keep all their words.
-use mathlib.Core.Path.{_≡_, refl, ap, sym, _∙_}
-use mathlib.Core.Logic.{_≢_}
+use mathlib.Core.Path.{_≡_, refl, ap, sym, subst, _∙_}
+use mathlib.Core.Logic.{_≢_, _⊎_, inl, inr}
 use mathlib.Core.Bool.{true}
-use mathlib.Core.List.{List, _∷_}
+use mathlib.Core.List.{List, [], _∷_, _++_, append-assoc}
 use Prim.Native.Nat.{ℕ, _<_, _≤_}
 use native.Mathlib.Decide.{ℕ-discrete}
 use native.Mathlib.Omega.{arith}
 use lib.ListN.{length}
-use Rattle.slots.specs.Words.{null, place, state, parent, left, right, prev, next, free, fields, parts, cell, write, roomy}
+use lib.Dec.{eqb}
+use Rattle.slots.specs.Words.{null, pick, place, state, parent, left, right, prev, next, free, fields, parts, cell, write, roomy}
 use Rattle.slots.specs.Pairs.{Pair}
-use Rattle.slots.proofs.Laws.{cell-same, cell-across, cell-else, roomy-write, length-write}
+use Rattle.slots.proofs.Laws.{pick-eq, pick-ne, cell-same, cell-across, cell-else, roomy-write, length-write}
 use Rattle.tree_rules.specs.Tree.{Tree, slots, times, Rising}
-use Rattle.tree_rules.specs.Chain.{Chain, linked}
-use Rattle.tree_rules.proofs.Counting.{times-head, times-else}
-use Rattle.tree_rules.proofs.Chaining.{chain-once}
+use Rattle.tree_rules.specs.Chain.{Chain}
+use Rattle.tree_rules.proofs.Counting.{times-append, times-rest}
+use Rattle.tree_rules.proofs.Chaining.{chain-inside, chain-once}
 use Rattle.redblack.specs.Links.{Links, read}
 use Rattle.redblack.specs.Hanging.{inserted, spotted}
 use Rattle.redblack.specs.Balance.{OneFewer}
@@ -26,68 +27,146 @@ use Rattle.redblack.proofs.Claims.{claims}
 use Rattle.index_rules.specs.Live.{Live, Fit, rootOf, firstOf}
 use Rattle.index_rules.specs.Sound.{Sound, Cleared}
 use Rattle.index_rules.proofs.Built.{Built}
-use Rattle.index_rules.specs.Insert.{fronted, grown}
+use Rattle.index_rules.specs.Insert.{followerOf, seated, grown}
 use Rattle.index_rules.specs.Calls.{Alike, Takes}
 use Rattle.index_rules.proofs.Fit.{half}
 use Rattle.index_rules.proofs.Rules.{small}
 use Rattle.index_rules.proofs.Building.{built-sound, built-tree, built-chain}
-use Rattle.index_rules.proofs.Frames.{Still, none-of, off-chain, sound-balanced, same-slots, free-nowhere, nowhere-free, sound-count, hangs-frame, chain-frame, chain-behind, chain-starts, rising-frame, without-else, without-same, without-length, roomy-cells, roomy-names, name-same, name-across, name-else, roomy-rename, length-rename, headed-length, headed-root, headed-first, headed-count}
+use Rattle.index_rules.proofs.Frames.{Still, none-of, off-chain, sound-balanced, same-slots, free-nowhere, nowhere-free, sound-count, hangs-frame, chain-frame, chain-starts, member, Seated, chain-next, seated-front, seated-behind, rising-frame, without-else, without-same, without-length, roomy-cells, roomy-names, name-same, name-across, name-else, roomy-rename, length-rename, headed-length, headed-root, headed-first, headed-count}
 use Rattle.tree_rules.specs.Find.{slotsOf}
 
--- The tree u is t with the slot x, which holds the pair (hash, key) and the place p.
-pub record Grown (t u : Live) (h : Sound t) (x hash key p : ℕ) : Type 0 where
+-- The slot x joins a chain right behind y, at the front where y is null.
+pub data Joins (x y : ℕ) (l l′ : List ℕ) : Type 0 where
+  front : y ≡ null → l′ ≡ x ∷ l → Joins x y l l′
+  after : (a b : List ℕ) → y ≢ null → l ≡ a ++ (y ∷ b) → l′ ≡ a ++ (y ∷ (x ∷ b)) → Joins x y l l′
+
+joins-one : {x y : ℕ} {l l′ : List ℕ} → Joins x y l l′ → OneFewer x l′ l
+joins-one {x} {y} {l} (front e q) = record { before = []; after = l; whole = q; rest = refl }
+joins-one {x} {y} (after a b d e q) =
+    record { before = a ++ (y ∷ []); after = b; whole = q ∙ sym (append-assoc a (y ∷ []) (x ∷ b)); rest = e ∙ sym (append-assoc a (y ∷ []) b) }
+
+pub joins-front : {x y : ℕ} {l l′ : List ℕ} → Joins x y l l′ → y ≡ null → l′ ≡ x ∷ l
+joins-front (front e q) f = q
+joins-front (after a b d e q) f = absurd (d f)
+
+-- The tree u is t with the slot x, which holds the pair (hash, key) and the place p, and stands in the chain behind y.
+pub record Grown (t u : Live) (h : Sound t) (x y hash key p : ℕ) : Type 0 where
   pub sound : Sound u
-  pub chain : sound .chain ≡ x ∷ h .chain
+  pub chain : Joins x y (h .chain) (sound .chain)
   pub slotted : OneFewer x (slots (sound .tree)) (slots (h .tree))
   pub keeps : (k : ℕ) → 1 ≤ times k (slots (h .tree)) → Alike t u k
   pub takes : Takes t u x hash key p
 
-module _ {t : Live} (fit : Fit t) (h : Sound t) (x hash key p : ℕ) (inside : x < slotsOf (t .names)) (unused : cell (t .cells) x state ≡ free) where
+module _ {t : Live} (fit : Fit t) (h : Sound t) (x y hash key p : ℕ) (inside : x < slotsOf (t .names)) (unused : cell (t .cells) x state ≡ free)
+    (seat : (y ≡ null) ⊎ (1 ≤ times y (h .chain))) where
   absent : times x (slots (h .tree)) ≡ 0
   absent = free-nowhere h x inside unused
 
   not-x : (k : ℕ) → 1 ≤ times k (slots (h .tree)) → k ≢ x
   not-x k z = none-of (slots (h .tree)) absent z
 
-  chain-x : (k : ℕ) → 1 ≤ times k (h .chain) → k ≢ x
-  chain-x k z = none-of (h .chain) (sym (same-slots h x inside) ∙ absent) z
-
-  not-first : (k : ℕ) → k < slotsOf (t .names) → times k (slots (h .tree)) ≡ 0 → k ≢ firstOf t
-  not-first k l z e = off-chain h fit k (firstOf t) l z (chain-starts (h .t7 .linked)) (sym e)
-
   room : (k : ℕ) → k < slotsOf (t .names) → roomy fields (t .cells) k ≡ true
   room k l = roomy-cells (t .cells) k (fit .seven) (omega (arith, half fit))
 
+  -- What follows in the chain behind y.
+  abbrev q : ℕ
+  q = followerOf t y
+
+  inside-chain : (k : ℕ) → 1 ≤ times k (h .chain) → k < slotsOf (t .names)
+  inside-chain k z = chain-inside (slotsOf (t .names)) (t .cells) (h .t7 .linked) z
+
+  once : (k : ℕ) → times k (h .chain) ≤ 1
+  once = chain-once (slotsOf (t .names)) (t .cells) (small fit) (firstOf t) (h .t7 .linked)
+
+  no-x : times x (h .chain) ≡ 0
+  no-x = sym (same-slots h x inside) ∙ absent
+
+  at-front : y ≡ null → q ≡ firstOf t
+  at-front e = pick-eq (firstOf t) (cell (t .cells) y next) e
+
+  not-null : 1 ≤ times y (h .chain) → y ≢ null
+  not-null z e = omega (arith, inside-chain y z, small fit)
+
+  further : y ≢ null → q ≡ cell (t .cells) y next
+  further d = pick-ne (firstOf t) (cell (t .cells) y next) d
+
+  follows : (q ≡ null) ⊎ (1 ≤ times q (h .chain))
+  follows = go seat
+    where
+      after-y : (m : List ℕ) × OneFewer y (h .chain) m → (cell (t .cells) y next ≡ null) ⊎ (1 ≤ times (cell (t .cells) y next) (h .chain))
+      after-y (m, o) = up (chain-next (o .before) y (o .after) (subst (λ (l : List ℕ). Chain (slotsOf (t .names)) (t .cells) null (firstOf t) l) (o .whole) (h .t7 .linked)))
+        where
+          up : (cell (t .cells) y next ≡ null) ⊎ (1 ≤ times (cell (t .cells) y next) (o .after)) → (cell (t .cells) y next ≡ null) ⊎ (1 ≤ times (cell (t .cells) y next) (h .chain))
+          up (inl e) = inl e
+          up (inr z) =
+              inr (rw (o .whole) (omega (arith, times-append (cell (t .cells) y next) (o .before) (y ∷ o .after), times-rest (cell (t .cells) y next) y (o .after))))
+
+      go : (y ≡ null) ⊎ (1 ≤ times y (h .chain)) → (q ≡ null) ⊎ (1 ≤ times q (h .chain))
+      go (inl e) = rw (at-front e) (chain-starts (h .t7 .linked))
+      go (inr z) = rw (further (not-null z)) (after-y (member y (h .chain) z))
+
+  -- A slot outside the tree is neither y nor what follows it.
+  not-y : (k : ℕ) → k < slotsOf (t .names) → times k (slots (h .tree)) ≡ 0 → k ≢ y
+  not-y k l z e = off-chain h fit k y l z seat (sym e)
+
+  not-q : (k : ℕ) → k < slotsOf (t .names) → times k (slots (h .tree)) ≡ 0 → k ≢ q
+  not-q k l z e = off-chain h fit k q l z follows (sym e)
+
   abbrev wide : List ℕ
-  wide = fronted (write (t .cells) x place p) x (firstOf t)
+  wide = seated (write (t .cells) x place p) x y q
 
   wide-length : length wide ≡ length (t .cells)
-  unfolding fronted
+  unfolding seated
   wide-length = simp length-write
 
   wide-still : (k : ℕ) → Still (t .cells) wide k
-  unfolding fronted
+  unfolding seated
   wide-still k = record { states = simp cell-across; parents = simp cell-across; lefts = simp cell-across; rights = simp cell-across }
 
-  wide-next : (k : ℕ) → k ≢ x → cell wide k next ≡ cell (t .cells) k next
-  unfolding fronted
-  wide-next k d = simp (cell-across, cell-else)
+  seats : Seated (slotsOf (t .names)) (t .cells) wide x y q
+  unfolding seated
+  seats =
+      let a : x ≢ y = not-y x inside absent in
+      let b : x ≢ q = not-q x inside absent in
+      record {
+        inside = inside;
+        x-prev = simp (cell-else, cell-across, cell-same, roomy-write, room x inside);
+        x-next = simp (cell-else, cell-across, cell-same, roomy-write, room x inside);
+        y-next = λ l. simp (cell-across, cell-same, roomy-write, room y l);
+        q-prev = λ l. simp (cell-same, roomy-write, room q l);
+        prevs = λ k d e. simp (cell-across, cell-else);
+        nexts = λ k d e. simp (cell-across, cell-else);
+      }
 
-  wide-prev : (k : ℕ) → k ≢ x → k ≢ firstOf t → cell wide k prev ≡ cell (t .cells) k prev
-  unfolding fronted
-  wide-prev k d e = simp cell-else
+  -- The chain with x.
+  abbrev top : ℕ
+  top = pick (eqb y null) x (firstOf t)
 
-  first-prev : firstOf t < slotsOf (t .names) → cell wide (firstOf t) prev ≡ x
-  unfolding fronted
-  first-prev l = simp (cell-same, roomy-write, room (firstOf t) l)
-
-  x-next : cell wide x next ≡ firstOf t
-  unfolding fronted
-  x-next = simp (cell-across, cell-same, roomy-write, room x inside)
-
-  x-prev : cell wide x prev ≡ null
-  unfolding fronted
-  x-prev = let d : x ≢ firstOf t = not-first x inside absent in simp (cell-else, cell-across, cell-same, roomy-write, room x inside)
+  joined : (l : List ℕ) × Joins x y (h .chain) l × Chain (slotsOf (t .names)) wide null top l
+  joined = go seat
+    where
+      go : (y ≡ null) ⊎ (1 ≤ times y (h .chain)) → (l : List ℕ) × Joins x y (h .chain) l × Chain (slotsOf (t .names)) wide null top l
+      go (inl e) =
+          let s : Seated (slotsOf (t .names)) (t .cells) wide x null q = subst (λ (j : ℕ). Seated (slotsOf (t .names)) (t .cells) wide x j q) e seats in
+          let c : Chain (slotsOf (t .names)) (t .cells) null q (h .chain) = rw (at-front e) (h .t7 .linked) in (
+            x ∷ h .chain,
+            front e refl,
+            rw (pick-eq x (firstOf t) e) (seated-front s once no-x (λ k z. omega (arith, inside-chain k z, small fit)) c),
+          )
+      go (inr z) = behind (member y (h .chain) z)
+        where
+          behind : (m : List ℕ) × OneFewer y (h .chain) m → (l : List ℕ) × Joins x y (h .chain) l × Chain (slotsOf (t .names)) wide null top l
+          behind (m, o) =
+              let s : Seated (slotsOf (t .names)) (t .cells) wide x y (cell (t .cells) y next) =
+              subst (λ (j : ℕ). Seated (slotsOf (t .names)) (t .cells) wide x y j) (further (not-null z)) seats in
+              let c : Chain (slotsOf (t .names)) (t .cells) null (firstOf t) (o .before ++ (y ∷ o .after)) =
+              subst (λ (l : List ℕ). Chain (slotsOf (t .names)) (t .cells) null (firstOf t) l) (o .whole) (h .t7 .linked) in
+              let few : (k : ℕ) → times k (o .before ++ (y ∷ o .after)) ≤ 1 = λ k. rw (o .whole) at (once k) in
+              let none : times x (o .before ++ (y ∷ o .after)) ≡ 0 = rw (o .whole) at no-x in (
+                o .before ++ (y ∷ (x ∷ o .after)),
+                after (o .before) (o .after) (not-null z) (o .whole) refl,
+                rw (pick-ne x (firstOf t) (not-null z)) (seated-behind (o .before) (o .after) s (small fit) few none (chain-next (o .before) y (o .after) c) c),
+              )
 
   roomN : roomy parts (t .names) x ≡ true
   roomN = roomy-names (t .names) x (fit .two) (omega (arith, half fit))
@@ -98,8 +177,8 @@ module _ {t : Live} (fit : Fit t) (h : Sound t) (x hash key p : ℕ) (inside : x
   hung-place l s k = claims .hangs-slot (slotsOf (t .names)) (slotsOf (t .names)) l s (h .tree) x hash key .keeps place place-aside .same k
 
   -- Which slot has which pair and place.
-  takes : Takes t (grown t x hash key p) x hash key p
-  unfolding grown fronted
+  takes : Takes t (grown t x y hash key p) x hash key p
+  unfolding grown seated
   takes =
       record {
         named = simp (name-across, name-same, roomy-rename, roomN);
@@ -111,19 +190,13 @@ module _ {t : Live} (fit : Fit t) (h : Sound t) (x hash key p : ℕ) (inside : x
       }
 
   abbrev names : List ℕ
-  names = grown t x hash key p .names
+  names = grown t x y hash key p .names
 
   abbrev links : Links
   links = record { cells = wide; root = rootOf t }
 
   abbrev hung : Links
   hung = inserted (slotsOf (t .names)) links x (spotted (slotsOf (t .names)) names links hash key)
-
-  fronted-chain : Chain (slotsOf (t .names)) wide null x (x ∷ h .chain)
-  fronted-chain =
-      linked {l = h .chain} inside x-prev
-      (rw x-next
-      (chain-behind (chain-once (slotsOf (t .names)) (t .cells) (small fit) (firstOf t) (h .t7 .linked)) first-prev (λ k z d. wide-prev k (chain-x k z) d) (λ k z. wide-next k (chain-x k z)) (h .t7 .linked)))
 
   holds : Holds (slotsOf (t .names)) links (h .tree)
   holds =
@@ -144,7 +217,7 @@ module _ {t : Live} (fit : Fit t) (h : Sound t) (x hash key p : ℕ) (inside : x
   hangs-slot : HangsSlot (slotsOf (t .names)) (slotsOf (t .names)) names links (h .tree) x hash key
   hangs-slot = claims .hangs-slot (slotsOf (t .names)) (slotsOf (t .names)) names links (h .tree) x hash key
 
-  pub grown-fit : Fit (grown t x hash key p)
+  pub grown-fit : Fit (grown t x y hash key p)
   unfolding grown
   grown-fit =
       record {
@@ -156,7 +229,7 @@ module _ {t : Live} (fit : Fit t) (h : Sound t) (x hash key p : ℕ) (inside : x
         three = headed-length (t .head) _ _ _ ∙ fit .three;
       }
 
-  cap : slotsOf ((grown t x hash key p) .names) ≡ slotsOf (t .names)
+  cap : slotsOf ((grown t x y hash key p) .names) ≡ slotsOf (t .names)
   unfolding grown
   cap = simp length-rename
 
@@ -172,17 +245,17 @@ module _ {t : Live} (fit : Fit t) (h : Sound t) (x hash key p : ℕ) (inside : x
     spared : (k : ℕ) → k ≢ x → times k (slots (h .tree)) ≡ 0 → Agree links hung k
     spared k d z = hangs-slot .spares holds (sound-balanced h) risen fresh-still inside absent (omega arith) k d z
 
-    hung-chain : Chain (slotsOf (t .names)) (hung .cells) null x (x ∷ h .chain)
-    hung-chain = chain-frame (λ k z. record { prevs = hangs-slot .keeps prev prev-aside .same k; nexts = hangs-slot .keeps next next-aside .same k }) fronted-chain
+    hung-chain : Chain (slotsOf (t .names)) (hung .cells) null top (joined .0)
+    hung-chain = chain-frame (λ k z. record { prevs = hangs-slot .keeps prev prev-aside .same k; nexts = hangs-slot .keeps next next-aside .same k }) (joined .2)
 
-    same : (k : ℕ) → k < slotsOf (t .names) → times k (slots (result .0)) ≡ times k (x ∷ h .chain)
+    same : (k : ℕ) → k < slotsOf (t .names) → times k (slots (result .0)) ≡ times k (joined .0)
     same k l = go (ℕ-discrete k x)
       where
-        go : Dec (k ≡ x) → times k (slots (result .0)) ≡ times k (x ∷ h .chain)
-        go (yes e) = rw e (without-same (result .4) ∙ omega (arith, times-head x (h .chain), same-slots h x inside))
-        go (no d) = without-else k (result .4) d ∙ same-slots h k l ∙ sym (times-else k x (h .chain) d)
+        go : Dec (k ≡ x) → times k (slots (result .0)) ≡ times k (joined .0)
+        go (yes e) = rw e (without-same (result .4) ∙ omega (arith, without-same (joins-one (joined .1)), same-slots h x inside))
+        go (no d) = without-else k (result .4) d ∙ same-slots h k l ∙ sym (without-else k (joins-one (joined .1)) d)
 
-    others : (k : ℕ) → k < slotsOf (t .names) → times k (slots (result .0)) ≡ 0 → (cell (hung .cells) k state ≡ free) × Cleared (grown t x hash key p) k
+    others : (k : ℕ) → k < slotsOf (t .names) → times k (slots (result .0)) ≡ 0 → (cell (hung .cells) k state ≡ free) × Cleared (grown t x y hash key p) k
     unfolding grown
     others k l z =
         let s = wide-still k in
@@ -196,8 +269,8 @@ module _ {t : Live} (fit : Fit t) (h : Sound t) (x hash key p : ℕ) (inside : x
             parents = a .same parent refl ∙ s .parents ∙ c .parents;
             lefts = a .same left refl ∙ s .lefts ∙ c .lefts;
             rights = a .same right refl ∙ s .rights ∙ c .rights;
-            prevs = a .same prev refl ∙ wide-prev k other (not-first k l gone) ∙ c .prevs;
-            nexts = a .same next refl ∙ wide-next k other ∙ c .nexts;
+            prevs = a .same prev refl ∙ seats .prevs k other (not-q k l gone) ∙ c .prevs;
+            nexts = a .same next refl ∙ seats .nexts k other (not-y k l gone) ∙ c .nexts;
           },
         )
       where
@@ -207,12 +280,12 @@ module _ {t : Live} (fit : Fit t) (h : Sound t) (x hash key p : ℕ) (inside : x
         gone : times k (slots (h .tree)) ≡ 0
         gone = sym (without-else k (result .4) other) ∙ z
 
-    built : Built (grown t x hash key p)
+    built : Built (grown t x y hash key p)
     unfolding grown
     built =
         record {
           tree = result .0;
-          chain = x ∷ h .chain;
+          chain = joined .0;
           rooted = rw (cap, headed-root (t .head) _ _ _ (fit .three)) (result .1 .rooted);
           rising = result .3;
           coloured = result .2 .coloured;
@@ -223,12 +296,12 @@ module _ {t : Live} (fit : Fit t) (h : Sound t) (x hash key p : ℕ) (inside : x
           count = headed-count (t .head) _ _ _ (fit .three) ∙ omega (arith, sound-count h, without-length (result .4));
         }
 
-    pub grown-sound : Grown t (grown t x hash key p) h x hash key p
+    pub grown-sound : Grown t (grown t x y hash key p) h x y hash key p
     unfolding grown built
     grown-sound =
         record {
           sound = built-sound grown-fit built;
-          chain = built-chain grown-fit built;
+          chain = rw (built-chain grown-fit built) (joined .1);
           slotted = rw (built-tree grown-fit built) (result .4);
           keeps = λ k z. takes .others k (not-x k z);
           takes = takes;

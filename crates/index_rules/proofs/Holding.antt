@@ -6,11 +6,10 @@ use Prim.Native.Nat.{ℕ, _≤_}
 use native.Mathlib.Omega.{arith}
 use lib.ListN.{length, length-map}
 use Rattle.slots.specs.Words.{place, cell}
-use Rattle.slots.specs.Pairs.{Pair, pair, pairOf}
+use Rattle.slots.specs.Pairs.{pair, pairOf}
 use Rattle.tree_rules.specs.Tree.{slots, times}
 use Rattle.tree_rules.proofs.Counting.{times-append, times-head, times-rest, times-cases}
 use Rattle.redblack.specs.Balance.{OneFewer}
-use Rattle.redblack.specs.Holding.{Has}
 use Rattle.index_rules.specs.Live.{Live, countOf}
 use Rattle.index_rules.specs.Sound.{Sound}
 use Rattle.index_rules.specs.Contents.{Entry, entry, entryOf, contents, put, without, In, first, later, Lacks, empty, other}
@@ -18,9 +17,9 @@ use Rattle.index_rules.specs.Calls.{Alike}
 use Rattle.index_rules.proofs.Frames.{sound-count}
 use Rattle.index_rules.proofs.Growing.{Grown}
 use Rattle.index_rules.proofs.Shrinking.{Shrunk}
-use Rattle.index_rules.proofs.Listing.{Ascends, ascends-map, put-at, without-at, in-lacks}
+use Rattle.index_rules.proofs.Listing.{Ascends, ascends-map, put-at, without-at, lower-lacks}
 
-map-append : (t : Live) (a b : List ℕ) → map (entryOf t) (a ++ b) ≡ map (entryOf t) a ++ map (entryOf t) b
+pub map-append : (t : Live) (a b : List ℕ) → map (entryOf t) (a ++ b) ≡ map (entryOf t) a ++ map (entryOf t) b
 map-append t [] b = refl
 map-append t (x ∷ a) b = ap (λ (l : List Entry). entryOf t x ∷ l) (map-append t a b)
 
@@ -44,7 +43,7 @@ pub record Split (t u : Live) (l k : List ℕ) (e : Entry) : Type 0 where
   pub more : map (entryOf u) l ≡ lower ++ (e ∷ upper)
   pub less : map (entryOf t) k ≡ lower ++ upper
 
-split : (t u : Live) (x : ℕ) (l k : List ℕ) (e : Entry) → OneFewer x l k → entryOf u x ≡ e → ((j : ℕ) → 1 ≤ times j k → Alike t u j)
+pub split : (t u : Live) (x : ℕ) (l k : List ℕ) (e : Entry) → OneFewer x l k → entryOf u x ≡ e → ((j : ℕ) → 1 ≤ times j k → Alike t u j)
     → Split t u l k e
 split t u x l k e h n keep =
     let a = h .before in
@@ -59,7 +58,7 @@ split t u x l k e h n keep =
       less = ap (map (entryOf t)) (h .rest) ∙ map-append t a b;
     }
 
-module _ {t u : Live} {h : Sound t} {x hash key p : ℕ} (g : Grown t u h x hash key p) where
+module _ {t u : Live} {h : Sound t} {x y hash key p : ℕ} (g : Grown t u h x y hash key p) where
   grown-split : Split t u (slots (g .sound .tree)) (slots (h .tree)) (entry hash key p)
   grown-split =
       split t u x (slots (g .sound .tree)) (slots (h .tree)) (entry hash key p) (g .slotted)
@@ -85,14 +84,14 @@ module _ {t u : Live} {h : Sound t} {x : ℕ} (g : Shrunk t u h x) where
   pub shrunk-contents : contents (g .sound) ≡ without (entryOf t x .hash) (entryOf t x .key) (contents h)
   shrunk-contents =
       shrunk-split .less
-      ∙ sym (ap (without (entryOf t x .hash) (entryOf t x .key)) (shrunk-split .more) ∙ without-at (entryOf t x) (shrunk-split .lower) (shrunk-split .upper) shrunk-ascends)
+      ∙ sym (ap (without (entryOf t x .hash) (entryOf t x .key)) (shrunk-split .more) ∙ without-at (entryOf t x) (shrunk-split .lower) (shrunk-split .upper) (lower-lacks (entryOf t x) (shrunk-split .lower) (shrunk-split .upper) shrunk-ascends))
 
 -- The contents are as many as the count.
 pub contents-length : {t : Live} (h : Sound t) → length (contents h) ≡ countOf t
 contents-length {t} h = length-map (slots (h .tree)) (entryOf t) ∙ sym (sound-count h)
 
 -- A slot of the tree has its entry there, and an entry a slot.
-in-map : (t : Live) (l : List ℕ) (k : ℕ) → 1 ≤ times k l → In (entryOf t k) (map (entryOf t) l)
+pub in-map : (t : Live) (l : List ℕ) (k : ℕ) → 1 ≤ times k l → In (entryOf t k) (map (entryOf t) l)
 unfolding times
 in-map t [] k z = absurd (omega arith)
 in-map t (x ∷ l) k z = times-cases k x l z (λ e. rw e first) (λ y. later (in-map t l k y))
@@ -109,7 +108,7 @@ in-one : {e : Entry} {m : List Entry} → In e m → (x : Entry) (l : List Entry
 in-one {e} (first {l = k}) x l q = let z : e ≡ x = cc in inl z
 in-one {e} (later {x = y} {l = k} i) x l q = let z : k ≡ l = cc in inr (subst (λ (r : List Entry). In e r) z i)
 
-map-in : (t : Live) (l : List ℕ) {e : Entry} → In e (map (entryOf t) l) → Slotted t l e
+pub map-in : (t : Live) (l : List ℕ) {e : Entry} → In e (map (entryOf t) l) → Slotted t l e
 map-in t [] i = none-in i refl
   where
     none-in : {e : Entry} {m : List Entry} → In e m → m ≡ [] → Slotted t [] e
@@ -125,14 +124,7 @@ pub in-stands : {t : Live} (h : Sound t) {e : Entry} → In e (contents h) → S
 in-stands {t} h i = map-in t (slots (h .tree)) i
 
 -- The tree lacks a pair exactly where its contents do.
-lacks-map : (t : Live) (l : List ℕ) (hash key : ℕ) → ((k : ℕ) → 1 ≤ times k l → pairOf (t .names) k ≡ pair hash key → ⊥) → Lacks hash key (map (entryOf t) l)
+pub lacks-map : (t : Live) (l : List ℕ) (hash key : ℕ) → ((k : ℕ) → 1 ≤ times k l → pairOf (t .names) k ≡ pair hash key → ⊥) → Lacks hash key (map (entryOf t) l)
 lacks-map t [] hash key n = empty
 lacks-map t (x ∷ l) hash key n =
     other (λ e f. n x (omega (arith, times-head x l)) (λ i. pair (e i) (f i))) (lacks-map t l hash key (λ k z e. n k (omega (arith, times-rest k x l)) e))
-
-pub lacks-of : {t : Live} (h : Sound t) (hash key : ℕ) → (Has (t .names) (h .tree) hash key → ⊥) → Lacks hash key (contents h)
-lacks-of {t} h hash key n = lacks-map t (slots (h .tree)) hash key (λ k z e. n (record { slot = k; stands = z; named = e }))
-
-pub of-lacks : {t : Live} (h : Sound t) (hash key : ℕ) → Lacks hash key (contents h) → Has (t .names) (h .tree) hash key → ⊥
-of-lacks {t} h hash key l a =
-    in-lacks (stands-in h (a .slot) (a .stands)) l (ap (λ (p : Pair). p .hash) (a .named)) (ap (λ (p : Pair). p .key) (a .named))

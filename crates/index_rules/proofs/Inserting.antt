@@ -6,7 +6,6 @@ use mathlib.Core.List.{_∷_}
 use Prim.Native.Nat.{ℕ, _<_}
 use native.Mathlib.Decide.{ℕ-discrete, decLt}
 use native.Mathlib.Omega.{arith}
-use lib.ListN.{length}
 use borrow.Author.Tests.{eq-eqb, ne-eqb}
 use Rattle.slots.specs.Words.{null, state, free, cell}
 use Rattle.slots.specs.Pairs.{pair, pairOf}
@@ -16,19 +15,20 @@ use Rattle.tree_rules.specs.Tree.{Tree}
 use Rattle.redblack.specs.Holding.{Has, Stands}
 use Rattle.index_rules.specs.Live.{Live, Fit}
 use Rattle.index_rules.specs.Sound.{Sound, sound}
-use Rattle.index_rules.specs.Index.{Index, FitIndex, Outcome, outcome, fitsIndex, lengthOf, linesOf, appended, at}
+use Rattle.index_rules.specs.Index.{Index, FitIndex, Outcome, outcome, fitsIndex, lengthOf, linesOf, insertKind, plainLine, appended}
 use Rattle.index_rules.specs.Insert.{lowestFree, soughtIn, inserts}
-use Rattle.index_rules.specs.Contents.{entry, contents, put}
+use Rattle.index_rules.specs.Contents.{entry, contents, listing, put}
 use Rattle.index_rules.specs.Calls.{Lowest, NoneFree, Takes, OneLine}
 use Rattle.index_rules.specs.Claims.{Inserts}
 use Rattle.index_rules.proofs.Rules.{small}
 use Rattle.index_rules.proofs.Sounding.{sound-yes, yes-sound, unsound}
 use Rattle.index_rules.proofs.Journal.{fits-index, index-fits, lines-capacity, one-line}
-use Rattle.index_rules.proofs.Growing.{grown-fit, grown-sound}
+use Rattle.index_rules.proofs.Growing.{joins-front, grown-fit, grown-sound}
 use Rattle.index_rules.proofs.Free.{lowest-free, none-free}
 use Rattle.index_rules.proofs.Deciding.{Seen, there, absent, seen}
 use Rattle.index_rules.proofs.Seeking.{found-at, found-none}
 use Rattle.index_rules.proofs.Holding.{grown-contents}
+use Rattle.index_rules.proofs.Lists.{grown-front}
 use Rattle.index_rules.proofs.Unrolling.{tree-one, grown-capacity}
 use Rattle.tree_rules.specs.Find.{slotsOf}
 
@@ -77,15 +77,13 @@ module _ (ix : Index) (hash key p : ℕ) where
   -- What an accepted insert leaves, of the very tree h.
   Leaves : Sound (ix .live) → ℕ → Outcome → Type 0
   Leaves h x o =
-      (g : Sound (o .left .live)) × FitIndex (o .left) × (contents g ≡ put (entry hash key p) (contents h)) × (g .chain ≡ x ∷ h .chain)
-      × OneLine (ix .lines) (o .left .lines) 1 hash key p × (slotsOf (o .left .live .names) ≡ slotsOf (ix .live .names))
+      (g : Sound (o .left .live)) × FitIndex (o .left) × (contents g ≡ put (entry hash key p) (contents h))
+      × (listing g ≡ entry hash key p ∷ listing h) × (g .chain ≡ x ∷ h .chain) × OneLine (ix .lines) (o .left .lines) (plainLine insertKind hash key p) × (slotsOf (o .left .live .names) ≡ slotsOf (ix .live .names))
       × Takes (ix .live) (o .left .live) x hash key p
 
   line-more : FitIndex ix → lengthOf (ix .lines) ≢ linesOf (ix .lines)
-      → OneLine (ix .lines) (appended (ix .lines) 1 hash key p) 1 hash key p
-  line-more f l =
-      let room : at (lengthOf (ix .lines)) 3 < length (ix .lines) = omega (arith, f .within, f .four, lines-capacity f) in
-      one-line (ix .lines) 1 hash key p room
+      → OneLine (ix .lines) (appended (ix .lines) (plainLine insertKind hash key p)) (plainLine insertKind hash key p)
+  line-more f l = one-line (ix .lines) (plainLine insertKind hash key p) (omega (arith, f .within, f .words, lines-capacity f))
 
   unfit-one : fitsIndex ix ≡ false → inserts ix hash key p ≡ outcome (refused 1) ix
   unfolding inserts
@@ -119,21 +117,22 @@ module _ (ix : Index) (hash key p : ℕ) where
         unfolding inserts Leaves
         done-leaves fit h n =
             let w = lowest-free (ix .live) d in
-            let g = grown-sound (fit .tree) h (lowestFree (ix .live)) hash key p (w .inside) (w .unused) n in
+            let g = grown-sound (fit .tree) h (lowestFree (ix .live)) null hash key p (w .inside) (w .unused) (inl refl) n in
             let j = line-more fit l in
             rw (e, f, s, ne-eqb (lowestFree (ix .live)) null d, ne-eqb (lengthOf (ix .lines)) (linesOf (ix .lines)) l) (
               g .sound,
               record {
-                tree = grown-fit (fit .tree) h (lowestFree (ix .live)) hash key p (w .inside) (w .unused);
+                tree = grown-fit (fit .tree) h (lowestFree (ix .live)) null hash key p (w .inside) (w .unused) (inl refl);
                 capacity = fit .capacity;
                 most = fit .most;
-                four = j .long ∙ fit .four;
+                words = j .long ∙ fit .words;
                 within = omega (arith, j .count, fit .within, lines-capacity fit);
               },
               grown-contents g,
-              g .chain,
+              grown-front (fit .tree) g refl,
+              joins-front (g .chain) refl,
               j,
-              grown-capacity (ix .live) (lowestFree (ix .live)) hash key p,
+              grown-capacity (ix .live) (lowestFree (ix .live)) null hash key p,
               g .takes,
             )
 

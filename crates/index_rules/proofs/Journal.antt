@@ -1,185 +1,190 @@
--- The words of the journal after a line is written, appended or cleared: those four words, and no other.
+-- The words of the journal after a line is written, appended or cleared: those six words, and no other.
 use mathlib.Core.Path.{_≡_, refl, _∙_}
 use mathlib.Core.Logic.{_≢_}
 use mathlib.Core.Bool.{true}
 use mathlib.Core.List.{List}
 use Prim.Native.Nat.{ℕ, zero, suc, _+_, _-_, _*_, _<_, _≤_}
-use native.Mathlib.Decide.{ℕ-discrete, decLt}
+use native.Mathlib.Decide.{decLt}
 use native.Mathlib.Omega.{arith}
 use lib.ListN.{length, getD, set, length-set}
 use lib.Seq.{getD-set-same, getD-set-other}
 use lib.Dec.{eqb, leb}
 use borrow.Author.Tests.{eqb-true, leb-true, eq-eqb, le-leb}
+use Rattle.slots.specs.Words.{mostLines}
 use Rattle.index_rules.specs.Live.{fits}
-use Rattle.index_rules.specs.Index.{Index, FitIndex, fitsJournal, fitsIndex, lengthOf, linesOf, at, lineWord, kindWord, hashWord, keyWord, placeWord, lined, appended}
+use Rattle.index_rules.specs.Index.{Index, FitIndex, JournalLine, lineWords, wholeLines, fitsJournal, fitsIndex, lengthOf, linesOf, at, plainLine, lineWord, lineOf, lined, appended}
 use Rattle.index_rules.specs.Rollback.{blanked}
 use Rattle.index_rules.specs.Calls.{OneLine, BackTo}
 use Rattle.index_rules.proofs.Fit.{both, fits-fit, fit-fits}
 use Rattle.index_rules.proofs.Rules.{and}
+
+-- The test of whole lines.
+pub whole-is : (lines : List ℕ) → wholeLines lines ≡ true → (linesOf lines ≤ mostLines) × (length lines ≡ 1 + lineWords * linesOf lines)
+unfolding wholeLines
+whole-is lines e =
+    let h = both (leb (linesOf lines) mostLines) _ e in
+    (leb-true _ _ (h .0), eqb-true _ _ (h .1))
+
+pub is-whole : (lines : List ℕ) (c : ℕ) → c ≤ mostLines → length lines ≡ 1 + lineWords * c → wholeLines lines ≡ true
+unfolding wholeLines
+is-whole lines c l e =
+    let z : linesOf lines ≡ c = omega arith in
+    rw z (and (le-leb c mostLines l) (eq-eqb (length lines) (1 + lineWords * c) e))
 
 -- The test of the whole index.
 pub fits-index : (ix : Index) → fitsIndex ix ≡ true → FitIndex ix
 unfolding fitsIndex fitsJournal
 fits-index ix e =
     let h = both (fits (ix .live)) _ e in
-    let h1 = both (leb (linesOf (ix .lines)) 1024) _ (h .1) in
-    let h2 = both (eqb (length (ix .lines)) (1 + 4 * linesOf (ix .lines))) _ (h1 .1) in
+    let j = both (wholeLines (ix .lines)) _ (h .1) in
+    let w = whole-is (ix .lines) (j .0) in
     record {
       tree = fits-fit (ix .live) (h .0);
       capacity = linesOf (ix .lines);
-      most = leb-true _ _ (h1 .0);
-      four = eqb-true _ _ (h2 .0);
-      within = leb-true _ _ (h2 .1);
+      most = w .0;
+      words = w .1;
+      within = leb-true _ _ (j .1);
     }
 
 pub lines-capacity : {ix : Index} (f : FitIndex ix) → linesOf (ix .lines) ≡ f .capacity
-lines-capacity f = omega (arith, f .four)
+lines-capacity f = omega (arith, f .words)
 
 pub index-fits : (ix : Index) → FitIndex ix → fitsIndex ix ≡ true
 unfolding fitsIndex fitsJournal
 index-fits ix f =
     and (fit-fits (ix .live) (f .tree))
-    (rw (lines-capacity f) (and (le-leb (f .capacity) 1024 (f .most)) (and (eq-eqb (length (ix .lines)) (1 + 4 * f .capacity) (f .four)) (le-leb (lengthOf (ix .lines)) (f .capacity) (f .within)))))
+    (and (is-whole (ix .lines) (f .capacity) (f .most) (f .words)) (le-leb (lengthOf (ix .lines)) (linesOf (ix .lines)) (omega (arith, f .within, lines-capacity f))))
 
-module _ (lines : List ℕ) (k kind hash key place : ℕ) where
+module _ (lines : List ℕ) (k : ℕ) (j : JournalLine) where
   abbrev one : List ℕ
-  one = set lines (at k kindWord) kind
+  one = set lines (at k 0) (j .kind)
 
   abbrev two : List ℕ
-  two = set one (at k hashWord) hash
+  two = set one (at k 1) (j .hash)
 
   abbrev three : List ℕ
-  three = set two (at k keyWord) key
+  three = set two (at k 2) (j .key)
 
-  pub lined-length : length (lined lines k kind hash key place) ≡ length lines
+  abbrev four : List ℕ
+  four = set three (at k 3) (j .place)
+
+  abbrev five : List ℕ
+  five = set four (at k 4) (j .priorHash)
+
+  pub lined-length : length (lined lines k j) ≡ length lines
   unfolding lined
   lined-length = simp length-set
 
-  lined-else : (j : ℕ) → j ≢ at k kindWord → j ≢ at k hashWord → j ≢ at k keyWord → j ≢ at k placeWord → getD (lined lines k kind hash key place) j 0 ≡ getD lines j 0
+  -- A word that is none of the line's stays.
+  lined-else : (i : ℕ) → ((f : ℕ) → f < lineWords → i ≢ at k f) → getD (lined lines k j) i 0 ≡ getD lines i 0
   unfolding lined
-  lined-else j a b c d =
-      getD-set-other three (at k placeWord) j place 0 d ∙ getD-set-other two (at k keyWord) j key 0 c
-      ∙ getD-set-other one (at k hashWord) j hash 0 b ∙ getD-set-other lines (at k kindWord) j kind 0 a
+  lined-else i d =
+      getD-set-other five (at k 5) i (j .priorKey) 0 (d 5 (omega arith)) ∙ getD-set-other four (at k 4) i (j .priorHash) 0 (d 4 (omega arith))
+      ∙ getD-set-other three (at k 3) i (j .place) 0 (d 3 (omega arith)) ∙ getD-set-other two (at k 2) i (j .key) 0 (d 2 (omega arith))
+      ∙ getD-set-other one (at k 1) i (j .hash) 0 (d 1 (omega arith)) ∙ getD-set-other lines (at k 0) i (j .kind) 0 (d 0 (omega arith))
 
-  pub lined-other : (j : ℕ) → (j < at k 0) → getD (lined lines k kind hash key place) j 0 ≡ getD lines j 0
-  lined-other j l = lined-else j (omega arith) (omega arith) (omega arith) (omega arith)
+  pub lined-other : (i : ℕ) → i < at k 0 → getD (lined lines k j) i 0 ≡ getD lines i 0
+  lined-other i l = lined-else i (λ f w. omega arith)
 
-  pub lined-past : (j : ℕ) → (at k 3 < j) → getD (lined lines k kind hash key place) j 0 ≡ getD lines j 0
-  lined-past j l = lined-else j (omega arith) (omega arith) (omega arith) (omega arith)
+  pub lined-past : (i : ℕ) → at (suc k) 0 ≤ i → getD (lined lines k j) i 0 ≡ getD lines i 0
+  lined-past i l = lined-else i (λ f w. omega arith)
 
-  module _ (room : at k 3 < length lines) where
-    pub lined-kind : lineWord (lined lines k kind hash key place) k kindWord ≡ kind
-    unfolding lined
-    lined-kind =
-        getD-set-other three (at k placeWord) (at k kindWord) place 0 (omega arith) ∙ getD-set-other two (at k keyWord) (at k kindWord) key 0 (omega arith)
-        ∙ getD-set-other one (at k hashWord) (at k kindWord) hash 0 (omega arith) ∙ getD-set-same lines (at k kindWord) kind 0 (omega arith)
+  -- A write of word f leaves the other words of the line, and is read back.
+  off : (l : List ℕ) (f g v : ℕ) → g ≢ f → lineWord (set l (at k f) v) k g ≡ lineWord l k g
+  off l f g v d = getD-set-other l (at k f) (at k g) v 0 (omega arith)
 
-    pub lined-hash : lineWord (lined lines k kind hash key place) k hashWord ≡ hash
-    unfolding lined
-    lined-hash =
-        getD-set-other three (at k placeWord) (at k hashWord) place 0 (omega arith) ∙ getD-set-other two (at k keyWord) (at k hashWord) key 0 (omega arith)
-        ∙ getD-set-same one (at k hashWord) hash 0 (omega (arith, length-set lines (at k kindWord) kind))
+  on : (l : List ℕ) (f v : ℕ) → length l ≡ length lines → at (suc k) 0 ≤ length lines → f < lineWords → lineWord (set l (at k f) v) k f ≡ v
+  on l f v e room w = getD-set-same l (at k f) v 0 (omega arith)
 
-    pub lined-key : lineWord (lined lines k kind hash key place) k keyWord ≡ key
-    unfolding lined
-    lined-key =
-        getD-set-other three (at k placeWord) (at k keyWord) place 0 (omega arith)
-        ∙ getD-set-same two (at k keyWord) key 0 (omega (arith, length-set lines (at k kindWord) kind, length-set one (at k hashWord) hash))
+  pub lined-line : at (suc k) 0 ≤ length lines → lineOf (lined lines k j) k ≡ j
+  unfolding lined
+  lined-line room =
+      λ i. record {
+        kind = (off five 5 0 (j .priorKey) (omega arith) ∙ off four 4 0 (j .priorHash) (omega arith) ∙ off three 3 0 (j .place) (omega arith) ∙ off two 2 0 (j .key) (omega arith) ∙ off one 1 0 (j .hash) (omega arith)
+            ∙ on lines 0 (j .kind) refl room (omega arith)) i;
+        hash = (off five 5 1 (j .priorKey) (omega arith) ∙ off four 4 1 (j .priorHash) (omega arith) ∙ off three 3 1 (j .place) (omega arith) ∙ off two 2 1 (j .key) (omega arith)
+            ∙ on one 1 (j .hash) (simp length-set) room (omega arith)) i;
+        key = (off five 5 2 (j .priorKey) (omega arith) ∙ off four 4 2 (j .priorHash) (omega arith) ∙ off three 3 2 (j .place) (omega arith) ∙ on two 2 (j .key) (simp length-set) room (omega arith)) i;
+        place = (off five 5 3 (j .priorKey) (omega arith) ∙ off four 4 3 (j .priorHash) (omega arith) ∙ on three 3 (j .place) (simp length-set) room (omega arith)) i;
+        priorHash = (off five 5 4 (j .priorKey) (omega arith) ∙ on four 4 (j .priorHash) (simp length-set) room (omega arith)) i;
+        priorKey = on five 5 (j .priorKey) (simp length-set) room (omega arith) i;
+      }
 
-    pub lined-place : lineWord (lined lines k kind hash key place) k placeWord ≡ place
-    unfolding lined
-    lined-place =
-        getD-set-same three (at k placeWord) place 0 (omega (arith, length-set lines (at k kindWord) kind, length-set one (at k hashWord) hash, length-set two (at k keyWord) key))
+-- A line goes by its words.
+pub same-line : (lines lines′ : List ℕ) (k : ℕ) → ((i : ℕ) → at k 0 ≤ i → i < at (suc k) 0 → getD lines′ i 0 ≡ getD lines i 0) → lineOf lines′ k ≡ lineOf lines k
+same-line lines lines′ k h =
+    λ i. record {
+      kind = h (at k 0) (omega arith) (omega arith) i;
+      hash = h (at k 1) (omega arith) (omega arith) i;
+      key = h (at k 2) (omega arith) (omega arith) i;
+      place = h (at k 3) (omega arith) (omega arith) i;
+      priorHash = h (at k 4) (omega arith) (omega arith) i;
+      priorKey = h (at k 5) (omega arith) (omega arith) i;
+    }
 
 -- A line more: the length is one more, the lines below are as they were, and this one is the last.
-module _ (lines : List ℕ) (kind hash key place : ℕ) (room : at (lengthOf lines) 3 < length lines) where
-  pub appended-length : length (appended lines kind hash key place) ≡ length lines
+module _ (lines : List ℕ) (j : JournalLine) (room : at (lengthOf lines + 1) 0 ≤ length lines) where
+  appended-word : (i : ℕ) → 0 < i → getD (appended lines j) i 0 ≡ getD (lined lines (lengthOf lines) j) i 0
   unfolding appended
-  appended-length = length-set (lined lines (lengthOf lines) kind hash key place) 0 (lengthOf lines + 1) ∙ lined-length lines (lengthOf lines) kind hash key place
+  appended-word i l = getD-set-other (lined lines (lengthOf lines) j) 0 i (lengthOf lines + 1) 0 (omega arith)
 
-  pub appended-count : lengthOf (appended lines kind hash key place) ≡ lengthOf lines + 1
+  pub one-line : OneLine lines (appended lines j) j
   unfolding appended
-  appended-count =
-      getD-set-same (lined lines (lengthOf lines) kind hash key place) 0 (lengthOf lines + 1) 0 (omega (arith, lined-length lines (lengthOf lines) kind hash key place))
-
-  pub appended-word : (j : ℕ) → 0 < j → getD (appended lines kind hash key place) j 0 ≡ getD (lined lines (lengthOf lines) kind hash key place) j 0
-  unfolding appended
-  appended-word j l = getD-set-other (lined lines (lengthOf lines) kind hash key place) 0 j (lengthOf lines + 1) 0 (omega arith)
-
-  pub appended-below : (j : ℕ) → 0 < j → j < at (lengthOf lines) 0 → getD (appended lines kind hash key place) j 0 ≡ getD lines j 0
-  appended-below j l h = appended-word j l ∙ lined-other lines (lengthOf lines) kind hash key place j h
-
-  pub appended-past : (j : ℕ) → at (lengthOf lines) 3 < j → getD (appended lines kind hash key place) j 0 ≡ getD lines j 0
-  appended-past j l = appended-word j (omega arith) ∙ lined-past lines (lengthOf lines) kind hash key place j l
-
-  pub appended-kind : lineWord (appended lines kind hash key place) (lengthOf lines) kindWord ≡ kind
-  appended-kind = appended-word (at (lengthOf lines) kindWord) (omega arith) ∙ lined-kind lines (lengthOf lines) kind hash key place room
-
-  pub appended-hash : lineWord (appended lines kind hash key place) (lengthOf lines) hashWord ≡ hash
-  appended-hash = appended-word (at (lengthOf lines) hashWord) (omega arith) ∙ lined-hash lines (lengthOf lines) kind hash key place room
-
-  pub appended-key : lineWord (appended lines kind hash key place) (lengthOf lines) keyWord ≡ key
-  appended-key = appended-word (at (lengthOf lines) keyWord) (omega arith) ∙ lined-key lines (lengthOf lines) kind hash key place room
-
-  pub appended-place : lineWord (appended lines kind hash key place) (lengthOf lines) placeWord ≡ place
-  appended-place = appended-word (at (lengthOf lines) placeWord) (omega arith) ∙ lined-place lines (lengthOf lines) kind hash key place room
-
-pub one-line : (lines : List ℕ) (kind hash key place : ℕ) → at (lengthOf lines) 3 < length lines → OneLine lines (appended lines kind hash key place) kind hash key place
-one-line lines kind hash key place room =
-    record {
-      long = appended-length lines kind hash key place room;
-      count = appended-count lines kind hash key place room;
-      kinds = appended-kind lines kind hash key place room;
-      hashes = appended-hash lines kind hash key place room;
-      keys = appended-key lines kind hash key place room;
-      places = appended-place lines kind hash key place room;
-      below = appended-below lines kind hash key place room;
-      past = appended-past lines kind hash key place room;
-    }
+  one-line =
+      record {
+        long = length-set (lined lines (lengthOf lines) j) 0 (lengthOf lines + 1) ∙ lined-length lines (lengthOf lines) j;
+        count = getD-set-same (lined lines (lengthOf lines) j) 0 (lengthOf lines + 1) 0 (omega (arith, lined-length lines (lengthOf lines) j));
+        line = same-line (lined lines (lengthOf lines) j) (appended lines j) (lengthOf lines) (λ i l h. appended-word i (omega arith)) ∙ lined-line lines (lengthOf lines) j (omega arith);
+        below = λ i l h. appended-word i l ∙ lined-other lines (lengthOf lines) j i h;
+        past = λ i l. appended-word i (omega arith) ∙ lined-past lines (lengthOf lines) j i (omega arith);
+      }
 
 -- Lines from m on cleared: those words are zero, and no other changes.
 pub blanked-length : (c : ℕ) (lines : List ℕ) (m : ℕ) → length (blanked c lines m) ≡ length lines
 unfolding blanked
 blanked-length zero lines m = refl
-blanked-length (suc c) lines m = blanked-length c (lined lines (m + c) 0 0 0 0) m ∙ lined-length lines (m + c) 0 0 0 0
+blanked-length (suc c) lines m = blanked-length c (lined lines (m + c) (plainLine 0 0 0 0)) m ∙ lined-length lines (m + c) (plainLine 0 0 0 0)
 
 pub blanked-below : (c : ℕ) (lines : List ℕ) (m j : ℕ) → j < at m 0 → getD (blanked c lines m) j 0 ≡ getD lines j 0
 unfolding blanked
 blanked-below zero lines m j l = refl
-blanked-below (suc c) lines m j l = blanked-below c (lined lines (m + c) 0 0 0 0) m j l ∙ lined-other lines (m + c) 0 0 0 0 j (omega arith)
+blanked-below (suc c) lines m j l = blanked-below c (lined lines (m + c) (plainLine 0 0 0 0)) m j l ∙ lined-other lines (m + c) (plainLine 0 0 0 0) j (omega arith)
 
 pub blanked-past : (c : ℕ) (lines : List ℕ) (m j : ℕ) → at (m + c) 0 ≤ j → getD (blanked c lines m) j 0 ≡ getD lines j 0
 unfolding blanked
 blanked-past zero lines m j l = refl
-blanked-past (suc c) lines m j l = blanked-past c (lined lines (m + c) 0 0 0 0) m j (omega arith) ∙ lined-past lines (m + c) 0 0 0 0 j (omega arith)
+blanked-past (suc c) lines m j l = blanked-past c (lined lines (m + c) (plainLine 0 0 0 0)) m j (omega arith) ∙ lined-past lines (m + c) (plainLine 0 0 0 0) j (omega arith)
 
--- A word of a line is one of four.
-word-of : (k j : ℕ) → at k 0 ≤ j → j < at (suc k) 0 → (P : ℕ → Type 0) → P (at k kindWord) → P (at k hashWord) → P (at k keyWord) → P (at k placeWord) → P j
-word-of k j a b P w x y z = go (ℕ-discrete j (at k kindWord)) (ℕ-discrete j (at k hashWord)) (ℕ-discrete j (at k keyWord)) (ℕ-discrete j (at k placeWord))
-  where
-    go : Dec (j ≡ at k kindWord) → Dec (j ≡ at k hashWord) → Dec (j ≡ at k keyWord) → Dec (j ≡ at k placeWord) → P j
-    go (yes e) d f g = rw e w
-    go (no c) (yes e) f g = rw e x
-    go (no c) (no d) (yes e) g = rw e y
-    go (no c) (no d) (no f) (yes e) = rw e z
-    go (no c) (no d) (no f) (no g) = absurd (omega arith)
+-- A word of a line is one of six.
+nth : (P : ℕ → Type 0) → P 0 → P 1 → P 2 → P 3 → P 4 → P 5 → (f : ℕ) → f < lineWords → P f
+nth P a b c d e g zero l = a
+nth P a b c d e g (suc zero) l = b
+nth P a b c d e g (suc (suc zero)) l = c
+nth P a b c d e g (suc (suc (suc zero))) l = d
+nth P a b c d e g (suc (suc (suc (suc zero)))) l = e
+nth P a b c d e g (suc (suc (suc (suc (suc zero))))) l = g
+nth P a b c d e g (suc (suc (suc (suc (suc (suc f)))))) l = absurd (omega arith)
 
-pub blanked-zero : (c : ℕ) (lines : List ℕ) (m j : ℕ) → at (m + c) 0 ≤ length lines → at m 0 ≤ j → j < at (m + c) 0 → getD (blanked c lines m) j 0 ≡ 0
+-- The words of a line of zeros.
+zero-word : (lines : List ℕ) (k f : ℕ) → f < lineWords → lineOf lines k ≡ plainLine 0 0 0 0 → lineWord lines k f ≡ 0
+zero-word lines k f l e =
+    nth (λ i. lineWord lines k i ≡ 0) (λ i. e i .kind) (λ i. e i .hash) (λ i. e i .key) (λ i. e i .place) (λ i. e i .priorHash) (λ i. e i .priorKey) f l
+
+pub blanked-zero : (c : ℕ) (lines : List ℕ) (m i : ℕ) → at (m + c) 0 ≤ length lines → at m 0 ≤ i → i < at (m + c) 0 → getD (blanked c lines m) i 0 ≡ 0
 unfolding blanked
-blanked-zero zero lines m j room a b = absurd (omega arith)
-blanked-zero (suc c) lines m j room a b = go (decLt j (at (m + c) 0)) (λ l. blanked-zero c (lined lines (m + c) 0 0 0 0) m j (omega (arith, lined-length lines (m + c) 0 0 0 0)) a l)
+blanked-zero zero lines m i room a b = absurd (omega arith)
+blanked-zero (suc c) lines m i room a b =
+    go (decLt i (at (m + c) 0)) (λ l. blanked-zero c (lined lines (m + c) (plainLine 0 0 0 0)) m i (omega (arith, lined-length lines (m + c) (plainLine 0 0 0 0))) a l)
   where
-    word : (j : ℕ) → at (m + c) 0 ≤ j → j < at (suc (m + c)) 0 → getD (lined lines (m + c) 0 0 0 0) j 0 ≡ 0
-    word j a b =
-        word-of (m + c) j a b (λ i. getD (lined lines (m + c) 0 0 0 0) i 0 ≡ 0)
-        (lined-kind lines (m + c) 0 0 0 0 (omega arith))
-        (lined-hash lines (m + c) 0 0 0 0 (omega arith))
-        (lined-key lines (m + c) 0 0 0 0 (omega arith))
-        (lined-place lines (m + c) 0 0 0 0 (omega arith))
+    word : (i : ℕ) → at (m + c) 0 ≤ i → i < at (suc (m + c)) 0 → getD (lined lines (m + c) (plainLine 0 0 0 0)) i 0 ≡ 0
+    word i a b =
+        let e : at (m + c) (i - at (m + c) 0) ≡ i = omega arith in
+        rw e at (zero-word (lined lines (m + c) (plainLine 0 0 0 0)) (m + c) (i - at (m + c) 0) (omega arith) (lined-line lines (m + c) (plainLine 0 0 0 0) (omega arith)))
 
-    go : Dec (j < at (m + c) 0) → (j < at (m + c) 0 → getD (blanked c (lined lines (m + c) 0 0 0 0) m) j 0 ≡ 0) → getD (blanked c (lined lines (m + c) 0 0 0 0) m) j 0 ≡ 0
+    go : Dec (i < at (m + c) 0) → (i < at (m + c) 0 → getD (blanked c (lined lines (m + c) (plainLine 0 0 0 0)) m) i 0 ≡ 0)
+        → getD (blanked c (lined lines (m + c) (plainLine 0 0 0 0)) m) i 0 ≡ 0
     go (yes l) rest = rest l
-    go (no n) rest = blanked-past c (lined lines (m + c) 0 0 0 0) m j (omega arith) ∙ word j (omega arith) (omega arith)
+    go (no n) rest = blanked-past c (lined lines (m + c) (plainLine 0 0 0 0)) m i (omega arith) ∙ word i (omega arith) (omega arith)
 
 -- The journal after a rollback to m.
 abbrev pub rolledLines : ℕ → List ℕ → ℕ → List ℕ

@@ -15,6 +15,7 @@ pub mod Undoing
 pub mod Journal
 pub mod Holding
 pub mod Placing
+pub mod Lists
 pub mod Unrolling
 pub mod Inserting
 pub mod Present

@@ -1,4 +1,5 @@
--- Entries in order: in a list whose pairs strictly rise an entry has one place, so that to put it in and to take it out undo each other.
+-- Entries in a list: where a pair stands once, to put its entry in, to take it out and to give it another place undo each other; a list
+-- whose pairs strictly rise is told by its entries.
 use mathlib.Core.Path.{_≡_, refl, ap, sym, _∙_, subst}
 use mathlib.Core.Logic.{_⊎_, inl, inr}
 use mathlib.Core.Bool.{Bool, true, false}
@@ -13,7 +14,7 @@ use Rattle.slots.specs.Pairs.{Pair, pair, pairOf, Less, before}
 use Rattle.slots.proofs.Order.{less-irreflexive, less-transitive, before-less}
 use Rattle.tree_rules.specs.Tree.{Below, Rising}
 use Rattle.index_rules.specs.Live.{Live}
-use Rattle.index_rules.specs.Contents.{Entry, entry, entryOf, put, isPair, without, withPlace, In, first, later, Lacks, empty, other}
+use Rattle.index_rules.specs.Contents.{Entry, entry, entryOf, put, isPair, without, behind, withPlace, In, first, later, Lacks, empty, other}
 
 abbrev pub pairIn : Entry → Pair
 pairIn e = pair (e .hash) (e .key)
@@ -39,14 +40,6 @@ ascends-map t (Rising.rise {i} b r) = step (above-map t i b) (ascends-map t r)
 above-mid : {e : Entry} (y : Entry) (a b : List Entry) → Above e (a ++ (y ∷ b)) → Less (pairIn e) (pairIn y)
 above-mid y [] b (more h r) = h
 above-mid y (x ∷ a) b (more h r) = above-mid y a b r
-
-above-weak : {e : Entry} (y : Entry) (a b : List Entry) → Above e (a ++ (y ∷ b)) → Above e (a ++ b)
-above-weak y [] b (more h r) = r
-above-weak y (x ∷ a) b (more h r) = more h (above-weak y a b r)
-
-pub ascends-weak : (y : Entry) (a b : List Entry) → Ascends (a ++ (y ∷ b)) → Ascends (a ++ b)
-ascends-weak y [] b (step h r) = r
-ascends-weak y (x ∷ a) b (step h r) = step (above-weak y a b h) (ascends-weak y a b r)
 
 -- The tests of the order and of the pair.
 goes-before : (e x : Entry) → Less (pairIn e) (pairIn x) → before (e .hash) (e .key) (x .hash) (x .key) ≡ true
@@ -88,14 +81,20 @@ put-at e [] [] r = refl
 put-at e [] (x ∷ b) (step (more h k) r) = rw (goes-before e x h)
 put-at e (x ∷ a) b (step h r) = rw (not-before e x (above-mid e a b h)) (ap (λ (l : List Entry). x ∷ l) (put-at e a b r))
 
--- To take its pair out.
-pub without-at : (e : Entry) (a b : List Entry) → Ascends (a ++ (e ∷ b)) → without (e .hash) (e .key) (a ++ (e ∷ b)) ≡ a ++ b
+-- To take its pair out, where no entry below has it.
+pub without-at : (e : Entry) (a b : List Entry) → Lacks (e .hash) (e .key) a → without (e .hash) (e .key) (a ++ (e ∷ b)) ≡ a ++ b
 unfolding without
-without-at e [] b r = rw (is-pair (e .hash) (e .key) e refl refl)
-without-at e (x ∷ a) b (step h r) = rw (not-pair (e .hash) (e .key) x (less-other e x (above-mid e a b h))) (ap (λ (l : List Entry). x ∷ l) (without-at e a b r))
+without-at e [] b n = rw (is-pair (e .hash) (e .key) e refl refl)
+without-at e (x ∷ a) b (other n k) = rw (not-pair (e .hash) (e .key) x n) (ap (λ (l : List Entry). x ∷ l) (without-at e a b k))
+
+-- To put an entry behind its pair.
+pub behind-at : (q e : Entry) (a b : List Entry) → Lacks (q .hash) (q .key) a → behind (q .hash) (q .key) e (a ++ (q ∷ b)) ≡ a ++ (q ∷ (e ∷ b))
+unfolding behind
+behind-at q e [] b n = rw (is-pair (q .hash) (q .key) q refl refl)
+behind-at q e (x ∷ a) b (other n k) = rw (not-pair (q .hash) (q .key) x n) (ap (λ (l : List Entry). x ∷ l) (behind-at q e a b k))
 
 -- To give its pair another place.
-lower-lacks : (e : Entry) (a b : List Entry) → Ascends (a ++ (e ∷ b)) → Lacks (e .hash) (e .key) a
+pub lower-lacks : (e : Entry) (a b : List Entry) → Ascends (a ++ (e ∷ b)) → Lacks (e .hash) (e .key) a
 lower-lacks e [] b r = empty
 lower-lacks e (x ∷ a) b (step h r) = other (less-other e x (above-mid e a b h)) (lower-lacks e a b r)
 
@@ -109,15 +108,7 @@ pub in-at : (e : Entry) (a b : List Entry) → In e (a ++ (e ∷ b))
 in-at e [] b = first
 in-at e (x ∷ a) b = later (in-at e a b)
 
-above-lacks : (e : Entry) {l : List Entry} → Above e l → Lacks (e .hash) (e .key) l
-above-lacks e none = empty
-above-lacks e (more {x} h r) = other (more-other e x h) (above-lacks e r)
-
-pub lacks-at : (e : Entry) (a b : List Entry) → Ascends (a ++ (e ∷ b)) → Lacks (e .hash) (e .key) (a ++ b)
-lacks-at e [] b (step h r) = above-lacks e h
-lacks-at e (x ∷ a) b (step h r) = other (less-other e x (above-mid e a b h)) (lacks-at e a b r)
-
--- An entry of a rising list stands at one place, which its pair tells.
+-- An entry of a list, with what stands below and above it.
 pub record Placed (e : Entry) (l : List Entry) : Type 0 where
   pub lower : List Entry
   pub upper : List Entry
@@ -134,50 +125,27 @@ lacks-in (other n k) (later i) p q = lacks-in k i p q
 pub in-lacks : {hash key : ℕ} {e : Entry} {l : List Entry} → In e l → Lacks hash key l → e .hash ≡ hash → e .key ≡ key → ⊥
 in-lacks i k p q = lacks-in k i p q
 
--- To put an entry in: it is there, the others stay, and to take its pair out gives the list back.
-pub in-put : (e : Entry) (l : List Entry) → In e (put e l)
-unfolding put
-in-put e [] = first
-in-put e (x ∷ l) = go (before (e .hash) (e .key) (x .hash) (x .key)) (in-put e l)
-  where
-    go : (b : Bool) → In e (put e l) → In e (pick b (e ∷ (x ∷ l)) (x ∷ put e l))
-    go true i = first
-    go false i = later i
+-- No two entries of the list have one pair.
+pub data Distinct : List Entry → Type 0 where
+  nobody : Distinct []
+  another : {x : Entry} {l : List Entry} → Lacks (x .hash) (x .key) l → Distinct l → Distinct (x ∷ l)
 
-pub without-put : (e : Entry) (l : List Entry) → Lacks (e .hash) (e .key) l → without (e .hash) (e .key) (put e l) ≡ l
-unfolding put without
-without-put e [] k = rw (is-pair (e .hash) (e .key) e refl refl)
-without-put e (x ∷ l) (other n k) = go (before (e .hash) (e .key) (x .hash) (x .key)) (without-put e l k)
-  where
-    go : (b : Bool) → without (e .hash) (e .key) (put e l) ≡ l → without (e .hash) (e .key) (pick b (e ∷ (x ∷ l)) (x ∷ put e l)) ≡ x ∷ l
-    go true q = rw (is-pair (e .hash) (e .key) e refl refl)
-    go false q = rw (not-pair (e .hash) (e .key) x n) (ap (λ (r : List Entry). x ∷ r) q)
+pub distinct-lower : (e : Entry) (a b : List Entry) → Distinct (a ++ (e ∷ b)) → Lacks (e .hash) (e .key) a
+distinct-lower e [] b d = empty
+distinct-lower e (x ∷ a) b (another n d) = other (λ p q. in-lacks (in-at e a b) n (sym p) (sym q)) (distinct-lower e a b d)
 
--- What stands in a list that was put to, or taken from.
+pub distinct-upper : (e : Entry) (a b : List Entry) → Distinct (a ++ (e ∷ b)) → Lacks (e .hash) (e .key) b
+distinct-upper e [] b (another n d) = n
+distinct-upper e (x ∷ a) b (another n d) = distinct-upper e a b d
+
+pub lacks-append : {hash key : ℕ} {a b : List Entry} → Lacks hash key a → Lacks hash key b → Lacks hash key (a ++ b)
+lacks-append empty k = k
+lacks-append (other n r) k = other n (lacks-append r k)
+
+-- What stands in a list that was taken from, or put to.
 in-case : {e : Entry} {m : List Entry} → In e m → (x : Entry) (l : List Entry) → m ≡ x ∷ l → (e ≡ x) ⊎ In e l
 in-case {e} (first {l = k}) x l q = let z : e ≡ x = cc in inl z
 in-case {e} (later {x = y} {l = k} i) x l q = let z : k ≡ l = cc in inr (subst (λ (r : List Entry). In e r) z i)
-
-pub put-all : (P : Entry → Type 0) (e : Entry) (l : List Entry) → P e → ((x : Entry) → In x l → P x) → (x : Entry) → In x (put e l) → P x
-unfolding put
-put-all P e [] p h x i = go (in-case i e [] refl)
-  where
-    go : (x ≡ e) ⊎ In x [] → P x
-    go (inl q) = rw q p
-    go (inr j) = h x j
-put-all P e (y ∷ l) p h x i = go (before (e .hash) (e .key) (y .hash) (y .key)) i (λ j. put-all P e l p (λ z w. h z (later w)) x j)
-  where
-    head : (x ≡ e) ⊎ In x (y ∷ l) → P x
-    head (inl q) = rw q p
-    head (inr j) = h x j
-
-    rest : (In x (put e l) → P x) → (x ≡ y) ⊎ In x (put e l) → P x
-    rest again (inl q) = h x (subst (λ (r : Entry). In r (y ∷ l)) (sym q) first)
-    rest again (inr j) = again j
-
-    go : (b : Bool) → In x (pick b (e ∷ (y ∷ l)) (y ∷ put e l)) → (In x (put e l) → P x) → P x
-    go true j again = head (in-case j e (y ∷ l) refl)
-    go false j again = rest again (in-case j y (put e l) refl)
 
 pub without-in : (hash key : ℕ) (l : List Entry) (x : Entry) → In x (without hash key l) → In x l
 unfolding without
@@ -210,31 +178,54 @@ with-all P hash key p (y ∷ l) q h x i = go (isPair hash key y) i (λ j. with-a
     go true j again = head (in-case j (entry hash key p) l refl)
     go false j again = rest again (in-case j y (withPlace hash key p l) refl)
 
--- To take an entry of a rising list out: its pair is gone, and to put it back gives the list again.
-module _ (e : Entry) (l : List Entry) (r : Ascends l) (i : In e l) where
+pub behind-all : (P : Entry → Type 0) (hash key : ℕ) (e : Entry) (l : List Entry) → P e → ((x : Entry) → In x l → P x) → (x : Entry) → In x (behind hash key e l) → P x
+unfolding behind
+behind-all P hash key e [] q h x i = h x i
+behind-all P hash key e (y ∷ l) q h x i = go (isPair hash key y) i (λ j. behind-all P hash key e l q (λ z w. h z (later w)) x j)
+  where
+    own : x ≡ y → P x
+    own w = h x (subst (λ (r : Entry). In r (y ∷ l)) (sym w) first)
+
+    new : (x ≡ e) ⊎ In x l → P x
+    new (inl w) = rw w q
+    new (inr j) = h x (later j)
+
+    here : (x ≡ y) ⊎ In x (e ∷ l) → P x
+    here (inl w) = own w
+    here (inr j) = new (in-case j e l refl)
+
+    rest : (In x (behind hash key e l) → P x) → (x ≡ y) ⊎ In x (behind hash key e l) → P x
+    rest again (inl w) = own w
+    rest again (inr j) = again j
+
+    go : (b : Bool) → In x (pick b (y ∷ (e ∷ l)) (y ∷ behind hash key e l)) → (In x (behind hash key e l) → P x) → P x
+    go true j again = here (in-case j y (e ∷ l) refl)
+    go false j again = rest again (in-case j y (behind hash key e l) refl)
+
+pub first-all : (P : Entry → Type 0) (e : Entry) (l : List Entry) → P e → ((x : Entry) → In x l → P x) → (x : Entry) → In x (e ∷ l) → P x
+first-all P e l q h x i = go (in-case i e l refl)
+  where
+    go : (x ≡ e) ⊎ In x l → P x
+    go (inl w) = rw w q
+    go (inr j) = h x j
+
+-- An entry of a list of distinct pairs: to give its pair another place leaves it there with that one, and to give it its own again gives
+-- the list back.
+module _ (e : Entry) (l : List Entry) (r : Distinct l) (i : In e l) where
   split-at : Placed e l
   split-at = in-placed i
 
-  rises : Ascends (split-at .lower ++ (e ∷ split-at .upper))
-  rises = rw (split-at .is) at r
-
-  less : without (e .hash) (e .key) l ≡ split-at .lower ++ split-at .upper
-  less = ap (without (e .hash) (e .key)) (split-at .is) ∙ without-at e (split-at .lower) (split-at .upper) rises
-
-  pub lacks-without : Lacks (e .hash) (e .key) (without (e .hash) (e .key) l)
-  lacks-without = rw less (lacks-at e (split-at .lower) (split-at .upper) rises)
-
-  pub put-without : put e (without (e .hash) (e .key) l) ≡ l
-  put-without = ap (put e) less ∙ put-at e (split-at .lower) (split-at .upper) rises ∙ sym (split-at .is)
+  alone : Lacks (e .hash) (e .key) (split-at .lower)
+  alone = distinct-lower e (split-at .lower) (split-at .upper) (rw (split-at .is) at r)
 
   pub length-without : suc (length (without (e .hash) (e .key) l)) ≡ length l
   length-without =
+      let less : without (e .hash) (e .key) l ≡ split-at .lower ++ split-at .upper =
+      ap (without (e .hash) (e .key)) (split-at .is) ∙ without-at e (split-at .lower) (split-at .upper) alone in
       omega (arith, ap length less, ap length (split-at .is), length-append (split-at .lower) (split-at .upper), length-append (split-at .lower) (e ∷ split-at .upper))
 
-  -- To give its pair another place: it is there with that one, and to give it its own again gives the list back.
   moves : (p : ℕ) → withPlace (e .hash) (e .key) p l ≡ split-at .lower ++ (entry (e .hash) (e .key) p ∷ split-at .upper)
-  moves p =
-      ap (withPlace (e .hash) (e .key) p) (split-at .is) ∙ with-at e p (split-at .lower) (split-at .upper) (lower-lacks e (split-at .lower) (split-at .upper) rises)
+  moves p = ap (withPlace (e .hash) (e .key) p) (split-at .is) ∙ with-at e p (split-at .lower) (split-at .upper) alone
 
   pub in-with : (p : ℕ) → In (entry (e .hash) (e .key) p) (withPlace (e .hash) (e .key) p l)
   in-with p = rw (moves p) (in-at (entry (e .hash) (e .key) p) (split-at .lower) (split-at .upper))
@@ -242,7 +233,7 @@ module _ (e : Entry) (l : List Entry) (r : Ascends l) (i : In e l) where
   pub with-again : (p : ℕ) → withPlace (e .hash) (e .key) (e .at) (withPlace (e .hash) (e .key) p l) ≡ l
   with-again p =
       ap (withPlace (e .hash) (e .key) (e .at)) (moves p)
-      ∙ with-at (entry (e .hash) (e .key) p) (e .at) (split-at .lower) (split-at .upper) (lower-lacks e (split-at .lower) (split-at .upper) rises)
+      ∙ with-at (entry (e .hash) (e .key) p) (e .at) (split-at .lower) (split-at .upper) alone
       ∙ sym (split-at .is)
 
 -- Two rising lists with the same entries are one list.

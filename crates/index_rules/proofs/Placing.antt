@@ -7,7 +7,7 @@ use mathlib.Core.List.{List, [], _∷_, map}
 use Prim.Native.Nat.{ℕ, _+_, _*_, _<_, _≤_}
 use native.Mathlib.Decide.{ℕ-discrete}
 use native.Mathlib.Omega.{arith}
-use lib.ListN.{length, getD}
+use lib.ListN.{getD}
 use lib.Seq.{getD-set-other}
 use lib.Dec.{ltb, eqb}
 use Rattle.slots.specs.Words.{place, state, parent, left, right, prev, next, free, fields, cell, write, roomy}
@@ -21,12 +21,12 @@ use Rattle.redblack.specs.Holding.{Stands}
 use Rattle.index_rules.specs.Live.{Live, Fit}
 use Rattle.index_rules.specs.Sound.{Sound, Cleared}
 use Rattle.index_rules.specs.Replace.{placedAt}
-use Rattle.index_rules.specs.Contents.{Entry, entry, entryOf, contents, withPlace}
-use Rattle.index_rules.specs.Calls.{Alike, OthersStay, OnlyPlace}
+use Rattle.index_rules.specs.Contents.{entry, entryOf, contents, withPlace}
+use Rattle.index_rules.specs.Calls.{OthersStay, OnlyPlace}
 use Rattle.index_rules.proofs.Built.{Built}
 use Rattle.index_rules.proofs.Fit.{half}
 use Rattle.index_rules.proofs.Building.{built-sound, built-tree, built-chain}
-use Rattle.index_rules.proofs.Frames.{Still, none-of, tree-inside, same-slots, nowhere-free, sound-count, hangs-frame, chain-frame, roomy-cells}
+use Rattle.index_rules.proofs.Frames.{none-of, tree-inside, same-slots, nowhere-free, sound-count, hangs-frame, chain-frame, roomy-cells}
 use Rattle.index_rules.proofs.Seeking.{found-at}
 use Rattle.index_rules.proofs.Listing.{is-pair, not-pair}
 use Rattle.index_rules.proofs.Holding.{entry-is, entry-as, map-same}
@@ -173,12 +173,11 @@ module _ {t : Live} (fit : Fit t) (h : Sound t) (x p : ℕ) (z : Stands x (h .tr
         others = stay;
       }
 
--- The entries along any slots of the tree.
-module _ {t u : Live} {h : Sound t} {x p : ℕ} (fit : Fit t) (g : Placed t u h x p) (z : Stands x (h .tree)) (hash key : ℕ) (n : pairOf (t .names) x ≡ pair hash key) where
-  own : entryOf u x ≡ entry hash key p
-  own = entry-as u x hash key p (ap (λ (l : List ℕ). pairOf l x) (g .only .names) ∙ n) (g .only .placed)
+pub placed-own : {t u : Live} {h : Sound t} {x p : ℕ} (g : Placed t u h x p) (hash key : ℕ) → pairOf (t .names) x ≡ pair hash key → entryOf u x ≡ entry hash key p
+placed-own {t} {u} {h} {x} {p} g hash key n = entry-as u x hash key p (ap (λ (l : List ℕ). pairOf l x) (g .only .names) ∙ n) (g .only .placed)
 
-  pub placed-contents : contents (g .sound) ≡ withPlace hash key p (contents h)
-  placed-contents =
-      ap (λ (r : Tree). map (entryOf u) (slots r)) (g .tree)
-      ∙ placed-map t u x hash key p (slots (h .tree)) own n (g .others) (λ j w m. slot-one fit h hash key x j z n w m) (h .t3 .rooted .once x)
+pub placed-contents : {t u : Live} {h : Sound t} {x p : ℕ} → Fit t → (g : Placed t u h x p) → Stands x (h .tree) → (hash key : ℕ)
+    → pairOf (t .names) x ≡ pair hash key → contents (g .sound) ≡ withPlace hash key p (contents h)
+placed-contents {t} {u} {h} {x} {p} fit g z hash key n =
+    ap (λ (r : Tree). map (entryOf u) (slots r)) (g .tree)
+    ∙ placed-map t u x hash key p (slots (h .tree)) (placed-own g hash key n) n (g .others) (λ j w m. slot-one fit h hash key x j z n w m) (h .t3 .rooted .once x)

@@ -4,20 +4,20 @@ use mathlib.Core.Logic.{_≢_, _⊎_}
 use mathlib.Core.List.{List}
 use Prim.Native.Nat.{ℕ, _<_}
 use native.Mathlib.Omega.{arith}
-use lib.ListN.{length}
 use Rattle.slots.specs.Words.{place, cell}
 use Rattle.slots.specs.Pairs.{pair, pairOf}
 use Rattle.slots.specs.Answers.{given}
 use Rattle.tree_rules.specs.Tree.{Tree}
 use Rattle.redblack.specs.Holding.{Stands}
 use Rattle.index_rules.specs.Sound.{Sound}
-use Rattle.index_rules.specs.Index.{Index, FitIndex, lengthOf, linesOf, at, bothPlaces}
+use Rattle.index_rules.specs.Index.{Index, FitIndex, lengthOf, linesOf, replaceKind, plainLine, bothPlaces}
 use Rattle.index_rules.specs.Replace.{afterReplace, replaces}
-use Rattle.index_rules.specs.Contents.{contents, withPlace}
+use Rattle.index_rules.specs.Contents.{contents, listing, withPlace}
 use Rattle.index_rules.specs.Calls.{OneLine, OnlyPlace}
 use Rattle.index_rules.specs.Claims.{Replaces}
 use Rattle.index_rules.proofs.Journal.{lines-capacity, one-line}
 use Rattle.index_rules.proofs.Placing.{placed-sound, placed-contents}
+use Rattle.index_rules.proofs.Lists.{placed-listing}
 use Rattle.index_rules.proofs.Unrolling.{tree-one}
 use Rattle.index_rules.proofs.Present.{asks-present, present-left, present-settled}
 use Rattle.tree_rules.specs.Find.{slotsOf}
@@ -26,26 +26,28 @@ module _ (ix : Index) (hash key p : ℕ) where
   -- What an accepted replace leaves, of the very tree h.
   Leaves : Sound (ix .live) → ℕ → Index → Type 0
   Leaves h x jx =
-      (g : Sound (jx .live)) × FitIndex jx × (contents g ≡ withPlace hash key p (contents h)) × (g .tree ≡ h .tree) × (g .chain ≡ h .chain)
-      × OneLine (ix .lines) (jx .lines) 3 hash key (bothPlaces p (cell (ix .live .cells) x place))
+      (g : Sound (jx .live)) × FitIndex jx × (contents g ≡ withPlace hash key p (contents h)) × (listing g ≡ withPlace hash key p (listing h))
+      × (g .tree ≡ h .tree) × (g .chain ≡ h .chain)
+      × OneLine (ix .lines) (jx .lines) (plainLine replaceKind hash key (bothPlaces p (cell (ix .live .cells) x place)))
       × (slotsOf (jx .live .names) ≡ slotsOf (ix .live .names)) × OnlyPlace (ix .live) (jx .live) x p
 
   leaves : FitIndex ix → (h : Sound (ix .live)) (x : ℕ) → Stands x (h .tree) → pairOf (ix .live .names) x ≡ pair hash key
       → lengthOf (ix .lines) < linesOf (ix .lines) → Leaves h x (afterReplace ix hash key p x)
   unfolding Leaves afterReplace
   leaves fit h x z n l =
-      let room : at (lengthOf (ix .lines)) 3 < length (ix .lines) = omega (arith, fit .within, fit .four, lines-capacity fit) in
       let g = placed-sound (fit .tree) h x p z in
-      let j = one-line (ix .lines) 3 hash key (bothPlaces p (cell (ix .live .cells) x place)) room in (
+      let j =
+      one-line (ix .lines) (plainLine replaceKind hash key (bothPlaces p (cell (ix .live .cells) x place))) (omega (arith, fit .within, fit .words, lines-capacity fit)) in (
         g .sound,
         record {
           tree = g .fit;
           capacity = fit .capacity;
           most = fit .most;
-          four = j .long ∙ fit .four;
+          words = j .long ∙ fit .words;
           within = omega (arith, j .count, fit .within, lines-capacity fit);
         },
         placed-contents (fit .tree) g z hash key n,
+        placed-listing (fit .tree) g z hash key n,
         g .tree,
         g .chain,
         j,

@@ -12,7 +12,7 @@ use Rattle.index_rules.specs.Live.{Live}
 use Rattle.index_rules.specs.Sound.{Sound, sound}
 use Rattle.index_rules.specs.Index.{Index, FitIndex, Outcome, outcome, fitsIndex, lengthOf}
 use Rattle.index_rules.specs.Rollback.{Undo, stays, misfit, unrolled, rolls}
-use Rattle.index_rules.specs.Contents.{contents}
+use Rattle.index_rules.specs.Contents.{listing}
 use Rattle.index_rules.specs.Undoing.{Undoes, Fits}
 use Rattle.index_rules.specs.Calls.{BackTo}
 use Rattle.index_rules.specs.Claims.{Rolls}
@@ -38,7 +38,7 @@ module _ (ix : Index) (m : ℕ) where
   fits-of f h l t s = subst (λ (k : ℕ). Rolled h (ix .lines) m k t) (whole l) (unrolled-undoes (ix .lines) m count (f .tree) h t s)
 
   of-fits : FitIndex ix → (h : Sound (ix .live)) → m ≤ lengthOf (ix .lines)
-      → Fits (slotsOf (ix .live .names)) (ix .lines) m (lengthOf (ix .lines)) (contents h)
+      → Fits (slotsOf (ix .live .names)) (ix .lines) m (lengthOf (ix .lines)) (listing h)
       → (t : Live) × (unrolled count (ix .live) (ix .lines) m ≡ stays t)
   of-fits f h l r = undoes-unrolled (ix .lines) m count (lengthOf (ix .lines)) (r .1) (sym (whole l)) (f .tree) h refl refl
 
@@ -46,7 +46,7 @@ module _ (ix : Index) (m : ℕ) where
   Leaves : Sound (ix .live) → Outcome → Type 0
   Leaves h o =
       (g : Sound (o .left .live)) × FitIndex (o .left)
-      × Undoes (slotsOf (ix .live .names)) (ix .lines) m (lengthOf (ix .lines)) (contents h) (contents g)
+      × Undoes (slotsOf (ix .live .names)) (ix .lines) m (lengthOf (ix .lines)) (listing h) (listing g)
       × BackTo m (ix .lines) (o .left .lines) × (slotsOf (o .left .live .names) ≡ slotsOf (ix .live .names))
 
   unfit-one : fitsIndex ix ≡ false → rolls ix m ≡ outcome (refused 1) ix
@@ -76,14 +76,14 @@ module _ (ix : Index) (m : ℕ) where
       unfolding rolls Leaves
       done-leaves fit h =
           let r = fits-of fit h l t s in
-          let b = back-to (ix .lines) m l (omega (arith, fit .within, fit .four)) in
+          let b = back-to (ix .lines) m l (omega (arith, fit .within, fit .words)) in
           rw (e, f, le-ltb (lengthOf (ix .lines)) m l, s) (
             r .sound,
             record {
               tree = r .fit;
               capacity = fit .capacity;
               most = fit .most;
-              four = b .long ∙ fit .four;
+              words = b .long ∙ fit .words;
               within = omega (arith, b .count, fit .within);
             },
             r .undoes,
@@ -96,7 +96,7 @@ module _ (ix : Index) (m : ℕ) where
     one : (FitIndex ix → ⊥) → rolls ix m ≡ outcome (refused 1) ix → Did
     two : FitIndex ix → (Sound (ix .live) → ⊥) → rolls ix m ≡ outcome (refused 2) ix → Did
     seven : FitIndex ix → Sound (ix .live) → lengthOf (ix .lines) < m → rolls ix m ≡ outcome (refused 7) ix → Did
-    eight : FitIndex ix → (h : Sound (ix .live)) → m ≤ lengthOf (ix .lines) → (Fits (slotsOf (ix .live .names)) (ix .lines) m (lengthOf (ix .lines)) (contents h) → ⊥)
+    eight : FitIndex ix → (h : Sound (ix .live)) → m ≤ lengthOf (ix .lines) → (Fits (slotsOf (ix .live .names)) (ix .lines) m (lengthOf (ix .lines)) (listing h) → ⊥)
         → rolls ix m ≡ outcome (refused 8) ix → Did
     taken : FitIndex ix → (h : Sound (ix .live)) → m ≤ lengthOf (ix .lines) → (t : Live) → unrolled count (ix .live) (ix .lines) m ≡ stays t
         → rolls ix m .answer ≡ given count → ((h : Sound (ix .live)) → Leaves h (rolls ix m)) → Did
@@ -156,10 +156,10 @@ module _ (ix : Index) (m : ℕ) where
       go (taken f h l t s e r) = absurd (omega (arith, number (sym q ∙ e)))
 
   eight-then : rolls ix m .answer ≡ refused 8
-      → FitIndex ix × (m ≤ lengthOf (ix .lines)) × ((h : Sound (ix .live)) × (Fits (slotsOf (ix .live .names)) (ix .lines) m (lengthOf (ix .lines)) (contents h) → ⊥))
+      → FitIndex ix × (m ≤ lengthOf (ix .lines)) × ((h : Sound (ix .live)) × (Fits (slotsOf (ix .live .names)) (ix .lines) m (lengthOf (ix .lines)) (listing h) → ⊥))
   eight-then q = go did
     where
-      go : Did → FitIndex ix × (m ≤ lengthOf (ix .lines)) × ((h : Sound (ix .live)) × (Fits (slotsOf (ix .live .names)) (ix .lines) m (lengthOf (ix .lines)) (contents h) → ⊥))
+      go : Did → FitIndex ix × (m ≤ lengthOf (ix .lines)) × ((h : Sound (ix .live)) × (Fits (slotsOf (ix .live .names)) (ix .lines) m (lengthOf (ix .lines)) (listing h) → ⊥))
       go (one n e) = absurd (omega (arith, clash e q))
       go (two f n e) = absurd (omega (arith, clash e q))
       go (seven f h l e) = absurd (omega (arith, clash e q))
@@ -167,17 +167,17 @@ module _ (ix : Index) (m : ℕ) where
       go (taken f h l t s e r) = absurd (omega (arith, number (sym q ∙ e)))
 
   given-then : (c : ℕ) → rolls ix m .answer ≡ given c
-      → FitIndex ix × (m ≤ lengthOf (ix .lines)) × (c ≡ lengthOf (ix .lines) - m) × ((h : Sound (ix .live)) × Fits (slotsOf (ix .live .names)) (ix .lines) m (lengthOf (ix .lines)) (contents h))
+      → FitIndex ix × (m ≤ lengthOf (ix .lines)) × (c ≡ lengthOf (ix .lines) - m) × ((h : Sound (ix .live)) × Fits (slotsOf (ix .live .names)) (ix .lines) m (lengthOf (ix .lines)) (listing h))
   given-then c q = go did
     where
-      go : Did → FitIndex ix × (m ≤ lengthOf (ix .lines)) × (c ≡ lengthOf (ix .lines) - m) × ((h : Sound (ix .live)) × Fits (slotsOf (ix .live .names)) (ix .lines) m (lengthOf (ix .lines)) (contents h))
+      go : Did → FitIndex ix × (m ≤ lengthOf (ix .lines)) × (c ≡ lengthOf (ix .lines) - m) × ((h : Sound (ix .live)) × Fits (slotsOf (ix .live .names)) (ix .lines) m (lengthOf (ix .lines)) (listing h))
       go (one n e) = absurd (omega (arith, clash e q))
       go (two f n e) = absurd (omega (arith, clash e q))
       go (seven f h l e) = absurd (omega (arith, clash e q))
       go (eight f h l n e) = absurd (omega (arith, clash e q))
       go (taken f h l t s e r) =
           let o = fits-of f h l t s in
-          (f, l, sym (value-inj (sym e ∙ q) refl refl), (h, (contents (o .sound), o .undoes)))
+          (f, l, sym (value-inj (sym e ∙ q) refl refl), (h, (listing (o .sound), o .undoes)))
 
   nothing-written : rolls ix m .answer .number ≢ 0 → rolls ix m .left ≡ ix
   nothing-written q = go did
@@ -224,12 +224,12 @@ module _ (ix : Index) (m : ℕ) where
         done = done;
       }
     where
-      no-undo : FitIndex ix → (h : Sound (ix .live)) → m ≤ lengthOf (ix .lines) → (Fits (slotsOf (ix .live .names)) (ix .lines) m (lengthOf (ix .lines)) (contents h) → ⊥)
+      no-undo : FitIndex ix → (h : Sound (ix .live)) → m ≤ lengthOf (ix .lines) → (Fits (slotsOf (ix .live .names)) (ix .lines) m (lengthOf (ix .lines)) (listing h) → ⊥)
           → unrolled count (ix .live) (ix .lines) m ≡ misfit
       no-undo f h l n = go (unrolled count (ix .live) (ix .lines) m) refl
         where
           go : (o : Undo) → unrolled count (ix .live) (ix .lines) m ≡ o → unrolled count (ix .live) (ix .lines) m ≡ misfit
-          go (stays t) e = let r = fits-of f h l t e in absurd (n (contents (r .sound), r .undoes))
+          go (stays t) e = let r = fits-of f h l t e in absurd (n (listing (r .sound), r .undoes))
           go misfit e = e
 
   -- Refused, or given the lines undone.

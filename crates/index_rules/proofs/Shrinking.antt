@@ -13,7 +13,7 @@ use Rattle.slots.specs.Pairs.{Pair, pair, pairOf}
 use Rattle.slots.proofs.Laws.{pick-eq, pick-ne, cell-same, cell-across, cell-else, roomy-write, length-write}
 use Rattle.tree_rules.specs.Tree.{Tree, slots, times, Rooted}
 use Rattle.tree_rules.specs.Chain.{Chain, linked}
-use Rattle.tree_rules.proofs.Counting.{times-append, times-head, times-rest, times-cases}
+use Rattle.tree_rules.proofs.Counting.{times-append, times-head, times-rest}
 use Rattle.tree_rules.proofs.Chaining.{chain-inside, chain-once}
 use Rattle.redblack.specs.Links.{Links, read}
 use Rattle.redblack.specs.Removal.{removed}
@@ -31,17 +31,8 @@ use Rattle.index_rules.specs.Calls.{Alike, OthersStay, Frees}
 use Rattle.index_rules.proofs.Fit.{half}
 use Rattle.index_rules.proofs.Rules.{small}
 use Rattle.index_rules.proofs.Building.{built-sound, built-tree, built-chain}
-use Rattle.index_rules.proofs.Frames.{Still, none-of, off-chain, sound-balanced, tree-inside, same-slots, nowhere-free, sound-count, hangs-frame, chain-frame, chain-behind, chain-starts, rising-frame, rising-without, without-else, without-same, without-length, roomy-cells, roomy-names, name-same, name-across, name-else, roomy-rename, length-rename, headed-length, headed-root, headed-first, headed-count}
+use Rattle.index_rules.proofs.Frames.{Still, none-of, member, off-chain, sound-balanced, tree-inside, same-slots, nowhere-free, sound-count, hangs-frame, chain-frame, chain-behind, chain-starts, rising-frame, rising-without, without-else, without-same, without-length, roomy-cells, roomy-names, name-same, name-across, name-else, roomy-rename, length-rename, headed-length, headed-root, headed-first, headed-count}
 use Rattle.tree_rules.specs.Find.{slotsOf}
-
--- A member of a list can be taken out of it.
-taken : (x : ℕ) (l : List ℕ) → 1 ≤ times x l → (m : List ℕ) × OneFewer x l m
-unfolding times
-taken x [] z = absurd (omega arith)
-taken x (y ∷ l) z = times-cases x y l z (λ e. (l, record { before = []; after = l; whole = ap (λ (j : ℕ). j ∷ l) (sym e); rest = refl })) (λ w. onward (taken x l w))
-  where
-    onward : (m : List ℕ) × OneFewer x l m → (m : List ℕ) × OneFewer x (y ∷ l) m
-    onward (m, h) = (y ∷ m, record { before = y ∷ h .before; after = h .after; whole = ap (λ (j : List ℕ). y ∷ j) (h .whole); rest = ap (λ (j : List ℕ). y ∷ j) (h .rest) })
 
 module _ {n : ℕ} {cells : List ℕ} where
   -- The chain after x, and the slot before x.
@@ -56,6 +47,16 @@ module _ {n : ℕ} {cells : List ℕ} where
       go : ((cell cells x prev ≡ y) × (a ≡ [])) ⊎ (1 ≤ times (cell cells x prev) a) → 1 ≤ times (cell cells x prev) (y ∷ a)
       go (inl e) = rw (e .0) (omega (arith, times-head y a))
       go (inr z) = omega (arith, times-rest (cell cells x prev) y a)
+
+-- The slot before x ends what comes before it.
+pub chain-last : {n q i : ℕ} {cells : List ℕ} (a : List ℕ) (x : ℕ) (b : List ℕ) → Chain n cells q i (a ++ (x ∷ b))
+    → ((cell cells x prev ≡ q) × (a ≡ [])) ⊎ ((c : List ℕ) × (a ≡ c ++ (cell cells x prev ∷ [])))
+chain-last [] x b (linked w p r) = inl (p, refl)
+chain-last {cells = cells} (y ∷ a) x b (linked w p r) = inr (go (chain-last a x b r))
+  where
+    go : ((cell cells x prev ≡ y) × (a ≡ [])) ⊎ ((c : List ℕ) × (a ≡ c ++ (cell cells x prev ∷ []))) → (c : List ℕ) × (y ∷ a ≡ c ++ (cell cells x prev ∷ []))
+    go (inl e) = ([], λ i. sym (e .0) i ∷ e .1 i)
+    go (inr e) = (y ∷ e .0, ap (λ (l : List ℕ). y ∷ l) (e .1))
 
 -- The words after the chain writes, and where the chain starts without x.
 module _ (cells : List ℕ) (x : ℕ) where
@@ -190,7 +191,7 @@ module _ {t : Live} (fit : Fit t) (h : Sound t) (x : ℕ) (here : 1 ≤ times x 
   result = removes-slot .removes holds (sound-balanced h) here (omega arith)
 
   others-chain : (m : List ℕ) × OneFewer x (h .chain) m
-  others-chain = taken x (h .chain) in-chain
+  others-chain = member x (h .chain) in-chain
 
   -- The old chain around x.
   abbrev front : List ℕ

@@ -1,84 +1,100 @@
--- Undoing goes by the lines alone: it ends in one way, it can be cut at any mark, and other words of the journal do not matter.
-use mathlib.Core.Path.{_≡_, refl, sym, _∙_, subst}
+-- Undoing goes by the lines alone: it ends in one way, it can be cut at any mark, and other words of the journal do not matter. The line of
+-- a call takes the call back.
+use mathlib.Core.Path.{_≡_, refl, ap, sym, _∙_, subst}
 use mathlib.Core.Logic.{_≢_}
-use mathlib.Core.List.{List}
-use Prim.Native.Nat.{ℕ, suc, _-_, _<_, _≤_}
+use mathlib.Core.List.{List, [], _∷_, _++_, append-assoc}
+use Prim.Native.Nat.{ℕ, suc, _<_, _≤_}
 use native.Mathlib.Decide.{ℕ-discrete}
 use native.Mathlib.Omega.{arith}
-use Rattle.index_rules.specs.Contents.{Entry, entry, put, without, withPlace, In, Lacks}
-use Rattle.index_rules.specs.Index.{lineWord, kindWord, hashWord, keyWord, placeWord}
-use Rattle.index_rules.specs.Undoing.{lineEntry, Undoes, back, insertLine, removeLine, replaceLine}
+use lib.ListN.{length}
+use Rattle.index_rules.specs.Contents.{Entry, without, behind, withPlace, In, first, Lacks, empty}
+use Rattle.index_rules.specs.Index.{JournalLine, insertKind, replaceKind, plainLine, notedLine, bothPlaces, lineOf}
+use Rattle.index_rules.specs.Undoing.{lineEntry, UndoneTo, insertLine, removeLine, behindLine, replaceLine, Undoes, back, down}
+use Rattle.index_rules.specs.Calls.{Notes, none, one, Places}
+use Rattle.index_rules.proofs.Listing.{Distinct, distinct-lower, distinct-upper, lacks-append, in-at, without-at, behind-at, without-in, first-all, behind-all, with-all, in-with, with-again}
+
+-- A line is undone in one way.
+pub undone-one : {n : ℕ} {j : JournalLine} {l a b : List Entry} → UndoneTo n j l a → UndoneTo n j l b → a ≡ b
+undone-one (insertLine p i) (insertLine q k) = refl
+undone-one (insertLine p i) (removeLine q c) = absurd (omega arith)
+undone-one (insertLine p i) (behindLine q c k) = absurd (omega arith)
+undone-one (insertLine p i) (replaceLine q w x y k) = absurd (omega arith)
+undone-one (removeLine p c) (insertLine q k) = absurd (omega arith)
+undone-one (removeLine p c) (removeLine q d) = refl
+undone-one (removeLine p c) (behindLine q d k) = absurd (omega arith)
+undone-one (removeLine p c) (replaceLine q w x y k) = absurd (omega arith)
+undone-one (behindLine p c i) (insertLine q k) = absurd (omega arith)
+undone-one (behindLine p c i) (removeLine q d) = absurd (omega arith)
+undone-one (behindLine p c i) (behindLine q d k) = refl
+undone-one (behindLine p c i) (replaceLine q w x y k) = absurd (omega arith)
+undone-one (replaceLine p v s r i) (insertLine q k) = absurd (omega arith)
+undone-one (replaceLine p v s r i) (removeLine q d) = absurd (omega arith)
+undone-one (replaceLine p v s r i) (behindLine q d k) = absurd (omega arith)
+undone-one {j = j} {l} (replaceLine {old = old} p v s r i) (replaceLine {old = old′} q w x y k) =
+    let same : old ≡ old′ = omega arith in
+    ap (λ (o : ℕ). withPlace (j .hash) (j .key) o l) same
+
+-- Undoing leaves 32-bit places.
+undone-places : {n : ℕ} {j : JournalLine} {l l′ : List Entry} → UndoneTo n j l l′ → Places l → Places l′
+undone-places {j = j} {l} (insertLine p i) w = λ e k. w e (without-in (j .hash) (j .key) l e k)
+undone-places {j = j} {l} (removeLine p c) w = first-all (λ (e : Entry). e .at < 4294967296) (lineEntry j) l (c .small) w
+undone-places {j = j} {l} (behindLine p c i) w = behind-all (λ (e : Entry). e .at < 4294967296) (j .priorHash) (j .priorKey) (lineEntry j) l (c .small) w
+undone-places {j = j} {l} (replaceLine {old = old} p v s r i) w = with-all (λ (e : Entry). e .at < 4294967296) (j .hash) (j .key) old l r w
+
+pub undoes-places : {n m k : ℕ} {lines : List ℕ} {l l′ : List Entry} → Undoes n lines m k l l′ → Places l → Places l′
+undoes-places (back e) w = w
+undoes-places (down h o u) w = undoes-places u (undone-places o w)
 
 module _ {n m : ℕ} {lines : List ℕ} where
   -- In one way.
   pub undoes-one : {k : ℕ} {l a b : List Entry} → Undoes n lines m k l a → Undoes n lines m k l b → a ≡ b
   undoes-one (back e) (back f) = refl
-  undoes-one (back e) (insertLine h p i u) = absurd (omega arith)
-  undoes-one (back e) (removeLine h p i w q u) = absurd (omega arith)
-  undoes-one (back e) (replaceLine h p w a b i u) = absurd (omega arith)
-  undoes-one (insertLine h p i u) (back f) = absurd (omega arith)
-  undoes-one (insertLine h p i u) (insertLine g q j v) = undoes-one u v
-  undoes-one (insertLine h p i u) (removeLine g q j w r v) = absurd (omega arith)
-  undoes-one (insertLine h p i u) (replaceLine g q w a b j v) = absurd (omega arith)
-  undoes-one (removeLine h p i w r u) (back f) = absurd (omega arith)
-  undoes-one (removeLine h p i w r u) (insertLine g q j v) = absurd (omega arith)
-  undoes-one (removeLine h p i w r u) (removeLine g q j x y v) = undoes-one u v
-  undoes-one (removeLine h p i w r u) (replaceLine g q x a b j v) = absurd (omega arith)
-  undoes-one (replaceLine h p w a b i u) (back f) = absurd (omega arith)
-  undoes-one (replaceLine h p w a b i u) (insertLine g q j v) = absurd (omega arith)
-  undoes-one (replaceLine h p w a b i u) (removeLine g q j x y v) = absurd (omega arith)
-  undoes-one (replaceLine {k} {new} {old} {l} h p w a b i u) (replaceLine {new = new′} {old = old′} {l′ = r} g q x c d j v) =
-      let same : old′ ≡ old = omega arith in
-      undoes-one u (subst (λ (o : ℕ). Undoes n lines m k (withPlace (lineWord lines k hashWord) (lineWord lines k keyWord) o l) r) same v)
+  undoes-one (back e) (down h o u) = absurd (omega arith)
+  undoes-one (down h o u) (back f) = absurd (omega arith)
+  undoes-one (down {k} h o u) (down {l′ = r} g q v) = undoes-one u (subst (λ (l : List Entry). Undoes n lines m k l r) (undone-one q o) v)
 
   -- Cut at a mark.
   pub undoes-cut : {k : ℕ} {l l′ : List Entry} (mid : ℕ) → m ≤ mid → mid ≤ k → Undoes n lines m k l l′
       → (c : List Entry) × Undoes n lines mid k l c × Undoes n lines m mid c l′
   undoes-cut {k} {l} mid h w (back e) = let p : k ≡ mid = omega arith in let q : mid ≡ m = omega arith in (l, back p, back q)
-  undoes-cut mid h w (insertLine {k} {l} {l′} g p i u) = go (ℕ-discrete mid (suc k)) (λ d. undoes-cut mid h (omega arith) u)
+  undoes-cut mid h w (down {k} {l} {mid = step} {l′} g o u) = go (ℕ-discrete mid (suc k)) (λ d. undoes-cut mid h (omega arith) u)
     where
-      go : Dec (mid ≡ suc k)
-          → (mid ≢ suc k → (c : List Entry) × Undoes n lines mid k (without (lineWord lines k hashWord) (lineWord lines k keyWord) l) c × Undoes n lines m mid c l′)
+      go : Dec (mid ≡ suc k) → (mid ≢ suc k → (c : List Entry) × Undoes n lines mid k step c × Undoes n lines m mid c l′)
           → (c : List Entry) × Undoes n lines mid (suc k) l c × Undoes n lines m mid c l′
-      go (yes e) rest = (l, back (sym e), subst (λ (j : ℕ). Undoes n lines m j l l′) (sym e) (insertLine g p i u))
-      go (no d) rest = let r = rest d in let w : mid ≤ k = omega arith in (r .0, insertLine w p i (r .1), r .2)
-  undoes-cut mid h w (removeLine {k} {l} {l′} g p i f q u) = go (ℕ-discrete mid (suc k)) (λ d. undoes-cut mid h (omega arith) u)
-    where
-      go : Dec (mid ≡ suc k)
-          → (mid ≢ suc k → (c : List Entry) × Undoes n lines mid k (put (lineEntry lines k) l) c × Undoes n lines m mid c l′)
-          → (c : List Entry) × Undoes n lines mid (suc k) l c × Undoes n lines m mid c l′
-      go (yes e) rest = (l, back (sym e), subst (λ (j : ℕ). Undoes n lines m j l l′) (sym e) (removeLine g p i f q u))
-      go (no d) rest = let r = rest d in let w : mid ≤ k = omega arith in (r .0, removeLine w p i f q (r .1), r .2)
-  undoes-cut mid h w (replaceLine {k} {new} {old} {l} {l′} g p s a b i u) = go (ℕ-discrete mid (suc k)) (λ d. undoes-cut mid h (omega arith) u)
-    where
-      go : Dec (mid ≡ suc k)
-          → (mid ≢ suc k → (c : List Entry) × Undoes n lines mid k (withPlace (lineWord lines k hashWord) (lineWord lines k keyWord) old l) c × Undoes n lines m mid c l′)
-          → (c : List Entry) × Undoes n lines mid (suc k) l c × Undoes n lines m mid c l′
-      go (yes e) rest = (l, back (sym e), subst (λ (j : ℕ). Undoes n lines m j l l′) (sym e) (replaceLine g p s a b i u))
-      go (no d) rest = let r = rest d in let w : mid ≤ k = omega arith in (r .0, replaceLine w p s a b i (r .1), r .2)
+      go (yes e) rest = (l, back (sym e), subst (λ (j : ℕ). Undoes n lines m j l l′) (sym e) (down g o u))
+      go (no d) rest = let r = rest d in let w : mid ≤ k = omega arith in (r .0, down w o (r .1), r .2)
 
 -- Other words do not matter.
-pub record SameLine (lines lines′ : List ℕ) (k : ℕ) : Type 0 where
-  pub kinds : lineWord lines′ k kindWord ≡ lineWord lines k kindWord
-  pub hashes : lineWord lines′ k hashWord ≡ lineWord lines k hashWord
-  pub keys : lineWord lines′ k keyWord ≡ lineWord lines k keyWord
-  pub places : lineWord lines′ k placeWord ≡ lineWord lines k placeWord
-
-same-entry : {lines lines′ : List ℕ} (k : ℕ) → SameLine lines lines′ k → lineEntry lines k ≡ lineEntry lines′ k
-same-entry k s = λ i. entry (sym (s .hashes) i) (sym (s .keys) i) (sym (s .places) i)
-
-pub undoes-frame : {n m k : ℕ} {lines : List ℕ} {l l′ : List Entry} (lines′ : List ℕ) → ((j : ℕ) → m ≤ j → j < k → SameLine lines lines′ j)
+pub undoes-frame : {n m k : ℕ} {lines : List ℕ} {l l′ : List Entry} (lines′ : List ℕ) → ((j : ℕ) → m ≤ j → j < k → lineOf lines′ j ≡ lineOf lines j)
     → Undoes n lines m k l l′ → Undoes n lines′ m k l l′
 undoes-frame lines′ s (back e) = back e
-undoes-frame {n} {m} {lines = lines} lines′ s (insertLine {k} {l} {l′} h p i u) =
-    let c = s k h (omega arith) in
-    insertLine h (c .kinds ∙ p) (subst (λ (e : Entry). In e l) (same-entry k c) i)
-    (subst (λ (e : Entry). Undoes n lines′ m k (without (e .hash) (e .key) l) l′) (same-entry k c) (undoes-frame lines′ (λ j a b. s j a (omega arith)) u))
-undoes-frame {n} {m} {lines = lines} lines′ s (removeLine {k} {l} {l′} h p i f q u) =
-    let c = s k h (omega arith) in
-    removeLine h (c .kinds ∙ p) (subst (λ (e : Entry). Lacks (e .hash) (e .key) l) (same-entry k c) i) f (rw (c .places) q)
-    (subst (λ (e : Entry). Undoes n lines′ m k (put e l) l′) (same-entry k c) (undoes-frame lines′ (λ j a b. s j a (omega arith)) u))
-undoes-frame {n} {m} {lines = lines} lines′ s (replaceLine {k} {new} {old} {l} {l′} h p w a b i u) =
-    let c = s k h (omega arith) in
-    replaceLine h (c .kinds ∙ p) (c .places ∙ w) a b (subst (λ (e : Entry). In (entry (e .hash) (e .key) new) l) (same-entry k c) i)
-    (subst (λ (e : Entry). Undoes n lines′ m k (withPlace (e .hash) (e .key) old l) l′) (same-entry k c) (undoes-frame lines′ (λ j a b. s j a (omega arith)) u))
+undoes-frame {n} lines′ s (down {k} {l} {mid} h o u) =
+    down h (subst (λ (j : JournalLine). UndoneTo n j l mid) (sym (s k h (omega arith))) o) (undoes-frame lines′ (λ j a b. s j a (omega arith)) u)
+
+-- An insert's line takes its entry from the front.
+pub insert-undone : (n : ℕ) (e : Entry) (l : List Entry) → UndoneTo n (plainLine insertKind (e .hash) (e .key) (e .at)) (e ∷ l) l
+insert-undone n e l =
+    subst (λ (r : List Entry). UndoneTo n (plainLine insertKind (e .hash) (e .key) (e .at)) (e ∷ l) r) (without-at e [] l empty) (insertLine refl first)
+
+-- A remove's line puts its entry back where it stood.
+pub remove-undone : {n : ℕ} {e : Entry} {l : List Entry} {j : JournalLine} → Distinct l → Notes e l j → length (without (e .hash) (e .key) l) < n
+    → e .at < 4294967296 → UndoneTo n j (without (e .hash) (e .key) l) l
+remove-undone {n} {e} {l} d (none b q) room small =
+    let less : without (e .hash) (e .key) l ≡ b = ap (without (e .hash) (e .key)) q ∙ without-at e [] b empty in
+    let lacks : Lacks (e .hash) (e .key) b = distinct-upper e [] b (rw q at d) in
+    rw (less, q) (removeLine refl (record { lacks = lacks; room = rw less at room; small = small }))
+remove-undone {n} {e} {l} d (one a b q r) room small =
+    let split : l ≡ (a ++ (q ∷ [])) ++ (e ∷ b) = r ∙ sym (append-assoc a (q ∷ []) (e ∷ b)) in
+    let lower = distinct-lower e (a ++ (q ∷ [])) b (rw split at d) in
+    let upper = distinct-upper e (a ++ (q ∷ [])) b (rw split at d) in
+    let less : without (e .hash) (e .key) l ≡ a ++ (q ∷ b) = ap (without (e .hash) (e .key)) split ∙ without-at e (a ++ (q ∷ [])) b lower ∙ append-assoc a (q ∷ []) b in
+    let lacks : Lacks (e .hash) (e .key) (a ++ (q ∷ b)) = rw (append-assoc a (q ∷ []) b) at (lacks-append lower upper) in
+    let again : behind (q .hash) (q .key) e (a ++ (q ∷ b)) ≡ l = behind-at q e a b (distinct-lower q a (e ∷ b) (rw r at d)) ∙ sym r in
+    rw less (subst (λ (k : List Entry). UndoneTo n (notedLine (e .hash) (e .key) (e .at) (q .hash) (q .key)) (a ++ (q ∷ b)) k) again (behindLine refl (record { lacks = lacks; room = rw less at room; small = small }) (q .at, in-at q a b)))
+
+-- A replace's line gives its entry the old place.
+pub replace-undone : (n : ℕ) (e : Entry) (p : ℕ) (l : List Entry) → Distinct l → In e l → p < 4294967296 → e .at < 4294967296
+    → UndoneTo n (plainLine replaceKind (e .hash) (e .key) (bothPlaces p (e .at))) (withPlace (e .hash) (e .key) p l) l
+replace-undone n e p l d i new old =
+    subst (λ (r : List Entry). UndoneTo n (plainLine replaceKind (e .hash) (e .key) (bothPlaces p (e .at))) (withPlace (e .hash) (e .key) p l) r) (with-again e l d i p)
+    (replaceLine refl refl new old (in-with e l d i p))

@@ -1,13 +1,13 @@
 -- Calls on a live tree and its journal, one after another.
 use mathlib.Core.Path.{_≡_}
-use mathlib.Core.List.{List, [], _∷_}
+use mathlib.Core.List.{List, [], _∷_, _++_}
 use mathlib.Core.Logic.{_≢_}
 use Prim.Native.Nat.{ℕ, _+_, _*_, _<_, _≤_}
 use lib.ListN.{length, getD}
 use Rattle.slots.specs.Words.{place, state, free, fields, cell}
 use Rattle.slots.specs.Pairs.{pair, pairOf}
 use Rattle.index_rules.specs.Live.{Live}
-use Rattle.index_rules.specs.Index.{Index, Outcome, lengthOf, lineWord, at, kindWord, hashWord, keyWord, placeWord}
+use Rattle.index_rules.specs.Index.{Index, Outcome, JournalLine, lengthOf, at, lineOf, removeKind, plainLine, notedLine}
 use Rattle.index_rules.specs.Insert.{inserts}
 use Rattle.index_rules.specs.Remove.{removes}
 use Rattle.index_rules.specs.Replace.{replaces}
@@ -83,15 +83,17 @@ pub record OnlyPlace (t u : Live) (x p : ℕ) : Type 0 where
   pub others : (j : ℕ) → j ≢ fields * x + place → getD (u .cells) j 0 ≡ getD (t .cells) j 0
 
 -- "Each accepted insert, remove or replace appends one": the length, this line, and every other word as it was.
-pub record OneLine (lines lines′ : List ℕ) (kind hash key p : ℕ) : Type 0 where
+pub record OneLine (lines lines′ : List ℕ) (j : JournalLine) : Type 0 where
   pub long : length lines′ ≡ length lines
   pub count : lengthOf lines′ ≡ lengthOf lines + 1
-  pub kinds : lineWord lines′ (lengthOf lines) kindWord ≡ kind
-  pub hashes : lineWord lines′ (lengthOf lines) hashWord ≡ hash
-  pub keys : lineWord lines′ (lengthOf lines) keyWord ≡ key
-  pub places : lineWord lines′ (lengthOf lines) placeWord ≡ p
-  pub below : (j : ℕ) → 0 < j → j < at (lengthOf lines) 0 → getD lines′ j 0 ≡ getD lines j 0
-  pub past : (j : ℕ) → at (lengthOf lines) 3 < j → getD lines′ j 0 ≡ getD lines j 0
+  pub line : lineOf lines′ (lengthOf lines) ≡ j
+  pub below : (i : ℕ) → 0 < i → i < at (lengthOf lines) 0 → getD lines′ i 0 ≡ getD lines i 0
+  pub past : (i : ℕ) → at (lengthOf lines + 1) 0 ≤ i → getD lines′ i 0 ≡ getD lines i 0
+
+-- "A remove line also notes the pair that stood just before it in the chain, or that none did": the line of the entry e of a listing.
+pub data Notes (e : Entry) (l : List Entry) : JournalLine → Type 0 where
+  none : (b : List Entry) → l ≡ e ∷ b → Notes e l (plainLine removeKind (e .hash) (e .key) (e .at))
+  one : (a b : List Entry) (q : Entry) → l ≡ a ++ (q ∷ (e ∷ b)) → Notes e l (notedLine (e .hash) (e .key) (e .at) (q .hash) (q .key))
 
 -- The journal rolled back to m: the kept lines are the old ones, the lines undone are zero, and the words past them as they were.
 pub record BackTo (m : ℕ) (lines lines′ : List ℕ) : Type 0 where

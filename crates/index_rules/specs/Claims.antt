@@ -18,15 +18,15 @@ use Rattle.index_rules.specs.Sound.{Sound, T1, T2, T3, T4, T5, T6, T7, r
 use Rattle.tree_rules.specs.Tree.{Tree, slots, times, Rising}
 use Rattle.redblack.specs.Balance.{OneFewer}
 use Rattle.redblack.specs.Holding.{Stands, Has}
-use Rattle.index_rules.specs.Index.{Index, FitIndex, Outcome, lengthOf, linesOf, at, bothPlaces}
+use Rattle.index_rules.specs.Index.{Index, FitIndex, Outcome, JournalLine, lengthOf, linesOf, at, insertKind, replaceKind, plainLine, bothPlaces}
 use Rattle.index_rules.specs.Insert.{inserts}
 use Rattle.index_rules.specs.Remove.{removes}
 use Rattle.index_rules.specs.Replace.{replaces}
 use Rattle.index_rules.specs.Rollback.{rolls}
 use Rattle.index_rules.specs.Fresh.{FitLengths, freshes}
-use Rattle.index_rules.specs.Contents.{entry, contents, HoldSame, put, without, withPlace}
+use Rattle.index_rules.specs.Contents.{Entry, entry, contents, listing, HoldSame, put, without, withPlace, In}
 use Rattle.index_rules.specs.Undoing.{Undoes, Fits}
-use Rattle.index_rules.specs.Calls.{Call, after, Allowed, Places, Lowest, NoneFree, Takes, Frees, OnlyPlace, OneLine, BackTo}
+use Rattle.index_rules.specs.Calls.{Call, after, Allowed, Places, Lowest, NoneFree, Takes, Frees, OnlyPlace, Notes, OneLine, BackTo}
 
 -- find on any words, for any pair.
 pub record Finds (t : Live) (hash key : ℕ) : Type 0 where
@@ -81,6 +81,12 @@ pub record Contained (t : Live) (fit : Fit t) : Type 0 where
   pub many : (h : Sound t) → length (contents h) ≡ countOf t
   pub same : (h : Sound t) (u : Live) (g : Sound u) → HoldSame h g ↔ (contents h ≡ contents g)
 
+-- The listing of a sound tree is one list, with the very entries of the contents, each once.
+pub record Lists (t : Live) (fit : Fit t) : Type 0 where
+  pub one : (h g : Sound t) → listing h ≡ listing g
+  pub same : (h : Sound t) (e : Entry) → In e (listing h) ↔ In e (contents h)
+  pub many : (h : Sound t) → length (listing h) ≡ length (contents h)
+
 -- insert on any words: each refusal exactly when the rules' table says and no earlier number holds.
 pub record Inserts (ix : Index) (hash key p : ℕ) : Type 0 where
   -- 1 Unfit, "slice lengths disagree, a capacity .. breaks its rule, or the journal's length passes its capacity"
@@ -101,12 +107,12 @@ pub record Inserts (ix : Index) (hash key p : ℕ) : Type 0 where
       ↔ (FitIndex ix × ((h : Sound (ix .live)) × (Has (ix .live .names) (h .tree) hash key → ⊥) × Lowest (ix .live) x × (lengthOf (ix .lines) < linesOf (ix .lines))))
   -- "A refusal .. writes nothing."
   pub nothing-written : (inserts ix hash key p .answer .number ≢ 0) → inserts ix hash key p .left ≡ ix
-  -- accepted: sound after, with exactly this entry more; the chain is the new slot and then the old chain; exactly one line more, of kind 1;
-  -- the slot answered is the one that took the pair
+  -- accepted: sound after, with exactly this entry more, and in front of the listing; the chain is the new slot and then the old chain;
+  -- exactly one line more, of kind 1; the slot answered is the one that took the pair
   pub done : (x : ℕ) → inserts ix hash key p .answer ≡ given x → (h : Sound (ix .live))
       → (g : Sound (inserts ix hash key p .left .live)) × FitIndex (inserts ix hash key p .left)
-      × (contents g ≡ put (entry hash key p) (contents h)) × (g .chain ≡ x ∷ h .chain)
-      × OneLine (ix .lines) (inserts ix hash key p .left .lines) 1 hash key p × (slotsOf ((inserts ix hash key p .left .live) .names) ≡ slotsOf (ix .live .names))
+      × (contents g ≡ put (entry hash key p) (contents h)) × (listing g ≡ entry hash key p ∷ listing h) × (g .chain ≡ x ∷ h .chain)
+      × OneLine (ix .lines) (inserts ix hash key p .left .lines) (plainLine insertKind hash key p) × (slotsOf ((inserts ix hash key p .left .live) .names) ≡ slotsOf (ix .live .names))
       × Takes (ix .live) (inserts ix hash key p .left .live) x hash key p
 
 -- A call on a pair that has to be there, of outcome o on any words.
@@ -125,23 +131,23 @@ pub record AsksPresent (ix : Index) (hash key : ℕ) (o : Outcome) : Type 0 wher
 -- remove on any words.
 pub record Removes (ix : Index) (hash key : ℕ) : Type 0 where
   pub asks : AsksPresent ix hash key (removes ix hash key)
-  -- accepted: sound after, with exactly this pair's entry gone; the chain without the slot; exactly one line more, of kind 2, with the
-  -- place it had; the slot answered is free
+  -- accepted: sound after, with exactly this pair's entry gone, from the listing too; the chain without the slot; exactly one line more, of
+  -- kind 2, with the place it had and a note of what stood before it; the slot answered is free
   pub done : (x : ℕ) → removes ix hash key .answer ≡ given x → (h : Sound (ix .live))
       → (g : Sound (removes ix hash key .left .live)) × FitIndex (removes ix hash key .left)
-      × (contents g ≡ without hash key (contents h)) × OneFewer x (h .chain) (g .chain)
-      × OneLine (ix .lines) (removes ix hash key .left .lines) 2 hash key (cell (ix .live .cells) x place) × (slotsOf ((removes ix hash key .left .live) .names) ≡ slotsOf (ix .live .names))
+      × (contents g ≡ without hash key (contents h)) × (listing g ≡ without hash key (listing h)) × OneFewer x (h .chain) (g .chain)
+      × ((j : JournalLine) × Notes (entry hash key (cell (ix .live .cells) x place)) (listing h) j × OneLine (ix .lines) (removes ix hash key .left .lines) j) × (slotsOf ((removes ix hash key .left .live) .names) ≡ slotsOf (ix .live .names))
       × Frees (ix .live) (removes ix hash key .left .live) x
 
 -- replace on any words, whatever the old place is.
 pub record Replaces (ix : Index) (hash key p : ℕ) : Type 0 where
   pub asks : AsksPresent ix hash key (replaces ix hash key p)
-  -- accepted: sound after, the same tree and chain, with exactly this pair's place changed; exactly one line more, of kind 3, with both
-  -- places; no other word of the tree is another
+  -- accepted: sound after, the same tree and chain, with exactly this pair's place changed, where it stands in the listing; exactly one line
+  -- more, of kind 3, with both places; no other word of the tree is another
   pub done : (x : ℕ) → replaces ix hash key p .answer ≡ given x → (h : Sound (ix .live))
       → (g : Sound (replaces ix hash key p .left .live)) × FitIndex (replaces ix hash key p .left)
-      × (contents g ≡ withPlace hash key p (contents h)) × (g .tree ≡ h .tree) × (g .chain ≡ h .chain)
-      × OneLine (ix .lines) (replaces ix hash key p .left .lines) 3 hash key (bothPlaces p (cell (ix .live .cells) x place))
+      × (contents g ≡ withPlace hash key p (contents h)) × (listing g ≡ withPlace hash key p (listing h)) × (g .tree ≡ h .tree) × (g .chain ≡ h .chain)
+      × OneLine (ix .lines) (replaces ix hash key p .left .lines) (plainLine replaceKind hash key (bothPlaces p (cell (ix .live .cells) x place)))
       × (slotsOf ((replaces ix hash key p .left .live) .names) ≡ slotsOf (ix .live .names))
       × OnlyPlace (ix .live) (replaces ix hash key p .left .live) x p
 
@@ -153,16 +159,16 @@ pub record Rolls (ix : Index) (m : ℕ) : Type 0 where
   pub seven : (rolls ix m .answer ≡ refused 7) ↔ (FitIndex ix × Sound (ix .live) × (lengthOf (ix .lines) < m))
   -- 8 Misfit, "the lines do not fit"
   pub eight : (rolls ix m .answer ≡ refused 8)
-      ↔ (FitIndex ix × (m ≤ lengthOf (ix .lines)) × ((h : Sound (ix .live)) × (Fits (slotsOf (ix .live .names)) (ix .lines) m (lengthOf (ix .lines)) (contents h) → ⊥)))
+      ↔ (FitIndex ix × (m ≤ lengthOf (ix .lines)) × ((h : Sound (ix .live)) × (Fits (slotsOf (ix .live .names)) (ix .lines) m (lengthOf (ix .lines)) (listing h) → ⊥)))
   -- accepted exactly else, and it answers the lines undone
   pub accepted : (c : ℕ) → (rolls ix m .answer ≡ given c)
       ↔ (FitIndex ix × (m ≤ lengthOf (ix .lines)) × (c ≡ lengthOf (ix .lines) - m)
-      × ((h : Sound (ix .live)) × Fits (slotsOf (ix .live .names)) (ix .lines) m (lengthOf (ix .lines)) (contents h)))
+      × ((h : Sound (ix .live)) × Fits (slotsOf (ix .live .names)) (ix .lines) m (lengthOf (ix .lines)) (listing h)))
   pub nothing-written : (rolls ix m .answer .number ≢ 0) → rolls ix m .left ≡ ix
-  -- accepted: sound after, the contents are those that undoing gives, and the journal is back at the mark
+  -- accepted: sound after, the listing is the one that undoing gives, and the journal is back at the mark
   pub done : (c : ℕ) → rolls ix m .answer ≡ given c → (h : Sound (ix .live))
       → (g : Sound (rolls ix m .left .live)) × FitIndex (rolls ix m .left)
-      × Undoes (slotsOf (ix .live .names)) (ix .lines) m (lengthOf (ix .lines)) (contents h) (contents g)
+      × Undoes (slotsOf (ix .live .names)) (ix .lines) m (lengthOf (ix .lines)) (listing h) (listing g)
       × BackTo m (ix .lines) (rolls ix m .left .lines) × (slotsOf ((rolls ix m .left .live) .names) ≡ slotsOf (ix .live .names))
 
 -- An empty index is written into any slices of fit lengths, whatever their words were.
@@ -183,6 +189,8 @@ pub record Demand3 (ix : Index) (fit : FitIndex ix) (h : Sound (ix .live)) (word
   pub accepted : rolls (after calls ix) (lengthOf (ix .lines)) .answer ≡ given (lengthOf (after calls ix .lines) - lengthOf (ix .lines))
   pub sound : Sound (rolls (after calls ix) (lengthOf (ix .lines)) .left .live)
   pub holds : contents sound ≡ contents h
+  -- "listing from first gives the same pairs in the same order as at the mark", with their places
+  pub listed : listing sound ≡ listing h
   -- the lines below the mark are word for word the old ones
   pub kept : (j : ℕ) → 0 < j → j < at (lengthOf (ix .lines)) 0 → getD (rolls (after calls ix) (lengthOf (ix .lines)) .left .lines) j 0 ≡ getD (ix .lines) j 0
   -- the length is the mark, the lines undone are zero, and the words past the length just before are untouched
@@ -194,6 +202,7 @@ pub record Claims : Type 0 where
   pub sound : (t : Live) → Sounds t
   pub find-sound : (t : Live) (fit : Fit t) (h : Sound t) (hash key : ℕ) → FindsSound t fit h hash key
   pub holds : (t : Live) (fit : Fit t) → Contained t fit
+  pub lists : (t : Live) (fit : Fit t) → Lists t fit
   pub insert : (ix : Index) (hash key p : ℕ) → Inserts ix hash key p
   pub remove : (ix : Index) (hash key : ℕ) → Removes ix hash key
   pub replace : (ix : Index) (hash key p : ℕ) → Replaces ix hash key p

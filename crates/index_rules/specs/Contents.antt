@@ -31,6 +31,10 @@ listed t tree = map (entryOf t) (slots tree)
 abbrev pub contents : {t : Live} → Sound t → List Entry
 contents {t} h = listed t (h .tree)
 
+-- "listing from first": the entries along the chain, in order.
+abbrev pub listing : {t : Live} → Sound t → List Entry
+listing {t} h = map (entryOf t) (h .chain)
+
 -- The tree has the pair with the place: some slot of it has both.
 pub record HasAt (t : Live) (tree : Tree) (hash key p : ℕ) : Type 0 where
   pub slot : ℕ
@@ -55,15 +59,23 @@ unfoldable pub without : ℕ → ℕ → List Entry → List Entry
 without hash key [] = []
 without hash key (x ∷ l) = pick (isPair hash key x) l (x ∷ without hash key l)
 
+-- The list with one entry more, right behind the entry of a pair.
+unfoldable pub behind : ℕ → ℕ → Entry → List Entry → List Entry
+behind hash key e [] = []
+behind hash key e (x ∷ l) = pick (isPair hash key x) (x ∷ (e ∷ l)) (x ∷ behind hash key e l)
+
 -- The list with the place p for a pair, where it stands.
 unfoldable pub withPlace : ℕ → ℕ → ℕ → List Entry → List Entry
 withPlace hash key p [] = []
 withPlace hash key p (x ∷ l) = pick (isPair hash key x) (entry hash key p ∷ l) (x ∷ withPlace hash key p l)
 
--- The entry stands in the list; no entry of the list has the pair.
+-- The entry stands in the list; some entry of the list has the pair, and none has.
 pub data In (e : Entry) : List Entry → Type 0 where
   first : {l : List Entry} → In e (e ∷ l)
   later : {x : Entry} {l : List Entry} → In e l → In e (x ∷ l)
+
+abbrev pub HasPair : ℕ → ℕ → List Entry → Type 0
+HasPair hash key l = (p : ℕ) × In (entry hash key p) l
 
 pub data Lacks (hash key : ℕ) : List Entry → Type 0 where
   empty : Lacks hash key []

@@ -7,7 +7,7 @@ use lib.Dec.{eqb, leb}
 use Rattle.slots.specs.Words.{null, pick, rename, hashPart, keyPart, _and_, mostLines}
 use Rattle.slots.specs.Answers.{given, refused}
 use Rattle.index_rules.specs.Live.{Live, Fit, fits}
-use Rattle.index_rules.specs.Index.{Index, index, Outcome, outcome, linesOf}
+use Rattle.index_rules.specs.Index.{Index, index, Outcome, outcome, lineWords, linesOf, wholeLines}
 use Rattle.index_rules.specs.Insert.{headed}
 use Rattle.index_rules.specs.Remove.{wiped}
 use Rattle.index_rules.specs.Rollback.{blanked}
@@ -18,12 +18,10 @@ pub record FitLengths (ix : Index) : Type 0 where
   pub tree : Fit (ix .live)
   pub capacity : ℕ
   pub most : capacity ≤ mostLines
-  pub four : length (ix .lines) ≡ 1 + 4 * capacity
+  pub words : length (ix .lines) ≡ 1 + lineWords * capacity
 
 unfoldable pub fitsLengths : Index → Bool
-fitsLengths ix =
-    let c = linesOf (ix .lines) in
-    fits (ix .live) and leb c mostLines and eqb (length (ix .lines)) (1 + 4 * c)
+fitsLengths ix = fits (ix .live) and wholeLines (ix .lines)
 
 -- The first so many slots cleared, their names too.
 unfoldable pub bared : ℕ → Live → Live

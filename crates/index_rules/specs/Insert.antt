@@ -10,7 +10,7 @@ use Rattle.redblack.specs.Links.{Links}
 use Rattle.redblack.specs.Hanging.{inserted, spotted}
 use Rattle.index_rules.specs.Live.{Live, rootOf, firstOf, countOf}
 use Rattle.index_rules.specs.Sound.{sound}
-use Rattle.index_rules.specs.Index.{Index, index, Outcome, outcome, fitsIndex, lengthOf, linesOf, appended}
+use Rattle.index_rules.specs.Index.{Index, index, Outcome, outcome, fitsIndex, lengthOf, linesOf, insertKind, plainLine, appended}
 
 -- The lowest free slot of so many from k on, null where there is none.
 unfoldable pub freeFrom : ℕ → List ℕ → ℕ → ℕ
@@ -24,20 +24,24 @@ lowestFree t = freeFrom (slotsOf (t .names)) (t .cells) 0
 unfoldable pub soughtIn : Live → ℕ → ℕ → Value
 soughtIn t hash key = found (t .names) (t .cells) (rootOf t) hash key .answer .value
 
--- The slot x before first in the chain.
-unfoldable pub fronted : List ℕ → ℕ → ℕ → List ℕ
-fronted cells x first = write (write (write cells x prev null) x next first) first prev x
+-- What stands in the chain right behind y; at the front, where y is null, the first.
+abbrev pub followerOf : Live → ℕ → ℕ
+followerOf t y = pick (eqb y null) (firstOf t) (cell (t .cells) y next)
+
+-- The slot x in the chain between y and q. A null link has no words, so nothing is written to it.
+unfoldable pub seated : List ℕ → ℕ → ℕ → ℕ → List ℕ
+seated cells x y q = write (write (write (write cells x prev y) x next q) y next x) q prev x
 
 abbrev pub headed : List ℕ → ℕ → ℕ → ℕ → List ℕ
 headed head root first count = set (set (set head 0 root) 1 first) 2 count
 
--- After the check: the free slot x takes the pair and its place.
-unfoldable pub grown : Live → ℕ → ℕ → ℕ → ℕ → Live
-grown t x hash key p =
+-- After the check: the free slot x takes the pair and its place, and stands in the chain right behind y, at the front where y is null.
+unfoldable pub grown : Live → ℕ → ℕ → ℕ → ℕ → ℕ → Live
+grown t x y hash key p =
     let names = rename (rename (t .names) x hashPart hash) x keyPart key in
-    let links : Links = record { cells = fronted (write (t .cells) x place p) x (firstOf t); root = rootOf t } in
+    let links : Links = record { cells = seated (write (t .cells) x place p) x y (followerOf t y); root = rootOf t } in
     let hung = inserted (slotsOf (t .names)) links x (spotted (slotsOf (t .names)) names links hash key) in
-    record { names = names; cells = hung .cells; head = headed (t .head) (hung .root) x (countOf t + 1) }
+    record { names = names; cells = hung .cells; head = headed (t .head) (hung .root) (pick (eqb y null) x (firstOf t)) (countOf t + 1) }
 
 -- "insert 1, 2, 3, 5, 6": a refusal writes nothing.
 unfoldable pub inserts : Index → ℕ → ℕ → ℕ → Outcome
@@ -50,7 +54,7 @@ inserts ix hash key p =
       | some slot ↦ outcome (record { number = 3; value = some slot }) ix
       | none ↦ pick (eqb x null) (outcome (refused 5) ix)
           (pick (eqb (lengthOf (ix .lines)) (linesOf (ix .lines))) (outcome (refused 6) ix)
-          (outcome (given x) (index (grown t x hash key p) (appended (ix .lines) 1 hash key p))))
+          (outcome (given x) (index (grown t x null hash key p) (appended (ix .lines) (plainLine insertKind hash key p)))))
     ])
     (outcome (refused 2) ix))
     (outcome (refused 1) ix)

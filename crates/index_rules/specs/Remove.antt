@@ -2,10 +2,10 @@
 use mathlib.Core.List.{List}
 use Prim.Native.Nat.{ℕ, _-_}
 use lib.Dec.{eqb}
-use Rattle.slots.specs.Words.{null, pick, place, state, parent, left, right, prev, next, free, cell, write, rename, hashPart, keyPart}
+use Rattle.slots.specs.Words.{null, pick, place, state, parent, left, right, prev, next, free, cell, write, nameOf, rename, hashPart, keyPart}
 use Rattle.redblack.specs.Removal.{removed}
 use Rattle.index_rules.specs.Live.{Live, rootOf, firstOf, countOf}
-use Rattle.index_rules.specs.Index.{Index, index, Outcome, appended}
+use Rattle.index_rules.specs.Index.{Index, index, Outcome, JournalLine, removeKind, plainLine, notedLine, appended}
 use Rattle.index_rules.specs.Insert.{headed}
 use Rattle.index_rules.specs.Present.{wherePresent}
 use Rattle.tree_rules.specs.Find.{slotsOf}
@@ -35,9 +35,15 @@ shrunk t x =
       head = headed (t .head) (gone .root) (newFirst t x) (countOf t - 1);
     }
 
--- And a line more, with the place that it had.
+-- The line of it, with the place that the slot had and the pair of the slot before it, if one stood there.
+unfoldable pub removalOf : Live → ℕ → ℕ → ℕ → JournalLine
+removalOf t hash key x =
+    let p = cell (t .cells) x place in
+    let y = cell (t .cells) x prev in
+    pick (eqb y null) (plainLine removeKind hash key p) (notedLine hash key p (nameOf (t .names) y hashPart) (nameOf (t .names) y keyPart))
+
 unfoldable pub afterRemove : Index → ℕ → ℕ → ℕ → Index
-afterRemove ix hash key x = let t = ix .live in index (shrunk t x) (appended (ix .lines) 2 hash key (cell (t .cells) x place))
+afterRemove ix hash key x = index (shrunk (ix .live) x) (appended (ix .lines) (removalOf (ix .live) hash key x))
 
 -- "remove 1, 2, 4, 6".
 unfoldable pub removes : Index → ℕ → ℕ → Outcome

@@ -2,7 +2,7 @@
 use Prim.Native.Nat.{ℕ}
 use Rattle.slots.specs.Words.{place, cell, write}
 use Rattle.index_rules.specs.Live.{Live, lentTree}
-use Rattle.index_rules.specs.Index.{Index, index, Outcome, bothPlaces, appended}
+use Rattle.index_rules.specs.Index.{Index, index, Outcome, replaceKind, plainLine, bothPlaces, appended}
 use Rattle.index_rules.specs.Present.{wherePresent}
 
 -- After the check: the slot x has the place p.
@@ -13,7 +13,7 @@ placedAt t x p = lentTree (t .names) (write (t .cells) x place p) (t .head)
 unfoldable pub afterReplace : Index → ℕ → ℕ → ℕ → ℕ → Index
 afterReplace ix hash key p x =
     let t = ix .live in
-    index (placedAt t x p) (appended (ix .lines) 3 hash key (bothPlaces p (cell (t .cells) x place)))
+    index (placedAt t x p) (appended (ix .lines) (plainLine replaceKind hash key (bothPlaces p (cell (t .cells) x place))))
 
 -- "Refusals: 1, 2, 4, 6, in that order."
 unfoldable pub replaces : Index → ℕ → ℕ → ℕ → Outcome

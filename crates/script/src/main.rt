@@ -8,6 +8,9 @@ use index::fresh::fresh;
 use libc::STDIN_FILENO;
 use libc::STDOUT_FILENO;
 
+// The words of the journal: its length, and six to each of 512 lines.
+const JOURNAL_WORDS: usize = 1 + 6 * 512;
+
 // Answers all of a chunk, a buffer at a time.
 fn answer(
     line: Line,
@@ -77,7 +80,7 @@ fn main() {
     let mut names = [0u64; 1024];
     let mut cells = [0u32; 3584];
     let mut head = [0u32; 3];
-    let mut lines = [0u64; 2049];
+    let mut lines = [0u64; JOURNAL_WORDS];
     let mut out = [0u8; 524288];
     let mut chunk = [0u8; 65536];
     fresh(&mut names, &mut cells, &mut head, &mut lines);

@@ -14,6 +14,9 @@ use slots::NULL;
 use slots::answer::Answer;
 use slots::answer::Value;
 
+// The words of a journal of one line: its length, and six.
+const JOURNAL_WORDS: usize = 1 + 6;
+
 // The value of an answer, or what the list has for none.
 fn value_or(none: u32, value: Value) -> u32 {
     match value {
@@ -41,7 +44,7 @@ fn try_insert(
     let hash = number(text, at);
     let key = number(text, hash.at);
     let place = number(text, key.at);
-    let mut lines = [0u64; 5];
+    let mut lines = [0u64; JOURNAL_WORDS];
     let inserted = insert(
         names,
         cells,
@@ -64,7 +67,7 @@ fn try_remove(
 ) -> Held {
     let hash = number(text, at);
     let key = number(text, hash.at);
-    let mut lines = [0u64; 5];
+    let mut lines = [0u64; JOURNAL_WORDS];
     let removed = remove(
         names,
         cells,

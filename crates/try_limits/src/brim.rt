@@ -12,6 +12,8 @@ use index::rollback::RolledBack;
 use index::rollback::rollback;
 use index::sound::Soundness;
 use index::sound::sound;
+use slots::KEY;
+use slots::NEXT;
 use slots::NULL;
 use slots::PLACE;
 use slots::answer::Answer;
@@ -144,7 +146,7 @@ fn one_pair_moved() {
     let mut names = [0u64; 2];
     let mut cells = [0u32; 7];
     let mut head = [0u32; 3];
-    let mut lines = [0u64; 17];
+    let mut lines = [0u64; 25];
     fresh(&mut names, &mut cells, &mut head, &mut lines);
     move_about(&mut names, &mut cells, &mut head, &mut lines);
     move_back(
@@ -179,7 +181,7 @@ fn one_slot() {
     let mut names = [0u64; 2];
     let mut cells = [0u32; 7];
     let mut head = [0u32; 3];
-    let mut lines = [0u64; 17];
+    let mut lines = [0u64; 25];
     fresh(&mut names, &mut cells, &mut head, &mut lines);
     print_inserted(
         b"capacity 1, insert 1",
@@ -344,12 +346,42 @@ fn right_pairs(names: &[u64], cells: &[u32], head: &[u32]) -> u32 {
     count
 }
 
+// How many pairs went in before the one that slot x has, when the tree was filled: 1,103 times 687 is 1 but for multiples of 4,096.
+fn turn_of(names: &[u64], x: u32) -> u64 {
+    name(names, x, KEY) % 4096 * 687 % 4096
+}
+
+// 1 if slot x has one behind it in the chain whose pair went in before its own, 0 if not.
+fn is_listed(names: &[u64], cells: &[u32], x: u32) -> u32 {
+    let y = get(cells, x, NEXT);
+    if y != NULL {
+        if turn_of(names, y) < turn_of(names, x) {
+            return 1;
+        }
+    }
+    0
+}
+
+// How many neighbours of the chain stand in the order that they had when the tree was full: the last that went in first.
+fn listed_pairs(names: &[u64], cells: &[u32], head: &[u32]) -> u32 {
+    let mut count: u32 = 0;
+    let mut x = get(head, 0, 1);
+    let mut i: u32 = 0;
+    while i < 4096 {
+        let one = is_listed(names, cells, x);
+        count = std::num::wrapping_add_u32(count, one);
+        x = get(cells, x, NEXT);
+        i += 1;
+    }
+    count
+}
+
 // The largest capacity and the largest journal, each filled up and emptied.
 fn all_slots() {
     let mut names = [0u64; 8192];
     let mut cells = [0u32; 28672];
     let mut head = [0u32; 3];
-    let mut lines = [0u64; 4097];
+    let mut lines = [0u64; 6145];
     fresh(&mut names, &mut cells, &mut head, &mut lines);
     let first = fill(&mut names, &mut cells, &mut head, &mut lines, 1024);
     line(b"capacity 4096, journal 1024", b": accepted ", first);
@@ -401,6 +433,11 @@ fn all_slots() {
         b"pairs as at the mark",
         b": ",
         right_pairs(&names, &cells, &head),
+    );
+    line(
+        b"neighbours listed as at the mark",
+        b": ",
+        listed_pairs(&names, &cells, &head),
     );
 }
 

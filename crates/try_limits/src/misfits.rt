@@ -3,6 +3,12 @@
 use crate::contents::say_entries;
 use index::fresh::fresh;
 use index::insert::insert;
+use index::journal::LINE_KEY;
+use index::journal::LINE_KIND;
+use index::journal::LINE_PLACE;
+use index::journal::LINE_PRIOR_HASH;
+use index::journal::LINE_PRIOR_KEY;
+use index::journal::NOTED_REMOVE;
 use index::remove::remove;
 use index::replace::replace;
 use index::rollback::RolledBack;
@@ -15,12 +21,8 @@ use trials::print::answer;
 use trials::print::say;
 use trials::same::same_index;
 
-// The words of a line, by their place.
-const KIND: u32 = 0;
-
-const KEY: u32 = 2;
-
-const LINE_PLACE: u32 = 3;
+// The words of a journal of three lines: its length, and six to a line.
+const JOURNAL_WORDS: usize = 1 + 6 * 3;
 
 // One more than a 32-bit word holds.
 const HIGH: u64 = 4294967296;
@@ -67,12 +69,12 @@ fn ask(label: &[u8], k: u32, f: u32, value: u64, root: u32, mark: u32) {
     let mut names = [0u64; 6];
     let mut cells = [0u32; 21];
     let mut head = [0u32; 3];
-    let mut lines = [0u64; 13];
+    let mut lines = [0u64; JOURNAL_WORDS];
     fresh(&mut names, &mut cells, &mut head, &mut lines);
     insert(&mut names, &mut cells, &mut head, &mut lines, 0, 1, 10);
     insert(&mut names, &mut cells, &mut head, &mut lines, 0, 2, 20);
     remove(&mut names, &mut cells, &mut head, &mut lines, 0, 1);
-    put_name(&mut lines, 0, 4 * (k % 4) + f % 4 + 1, value);
+    put_name(&mut lines, 0, 6 * (k % 4) + f % 6 + 1, value);
     set_root(&mut head, root);
     let names_before = names;
     let cells_before = cells;
@@ -99,12 +101,12 @@ fn ask_replaced(label: &[u8], k: u32, f: u32, value: u64, mark: u32) {
     let mut names = [0u64; 6];
     let mut cells = [0u32; 21];
     let mut head = [0u32; 3];
-    let mut lines = [0u64; 13];
+    let mut lines = [0u64; JOURNAL_WORDS];
     fresh(&mut names, &mut cells, &mut head, &mut lines);
     insert(&mut names, &mut cells, &mut head, &mut lines, 0, 1, 10);
     insert(&mut names, &mut cells, &mut head, &mut lines, 0, 2, 20);
     replace(&names, &mut cells, &head, &mut lines, 0, 1, 11);
-    put_name(&mut lines, 0, 4 * (k % 4) + f % 4 + 1, value);
+    put_name(&mut lines, 0, 6 * (k % 4) + f % 6 + 1, value);
     let names_before = names;
     let cells_before = cells;
     let head_before = head;
@@ -129,7 +131,7 @@ fn ask_only_place(label: &[u8]) {
     let mut names = [0u64; 6];
     let mut cells = [0u32; 21];
     let mut head = [0u32; 3];
-    let mut lines = [0u64; 13];
+    let mut lines = [0u64; JOURNAL_WORDS];
     fresh(&mut names, &mut cells, &mut head, &mut lines);
     insert(&mut names, &mut cells, &mut head, &mut lines, 0, 1, 10);
     insert(&mut names, &mut cells, &mut head, &mut lines, 0, 2, 20);
@@ -156,7 +158,7 @@ fn ask_back(label: &[u8]) {
     let mut names = [0u64; 6];
     let mut cells = [0u32; 21];
     let mut head = [0u32; 3];
-    let mut lines = [0u64; 13];
+    let mut lines = [0u64; JOURNAL_WORDS];
     fresh(&mut names, &mut cells, &mut head, &mut lines);
     insert(&mut names, &mut cells, &mut head, &mut lines, 0, 1, 10);
     insert(&mut names, &mut cells, &mut head, &mut lines, 0, 2, 20);
@@ -184,7 +186,7 @@ fn ask_full(label: &[u8]) {
     let mut names = [0u64; 2];
     let mut cells = [0u32; 7];
     let mut head = [0u32; 3];
-    let mut lines = [0u64; 5];
+    let mut lines = [0u64; 7];
     fresh(&mut names, &mut cells, &mut head, &mut lines);
     insert(&mut names, &mut cells, &mut head, &mut lines, 0, 1, 10);
     put_name(&mut lines, 0, 1, 2);
@@ -206,6 +208,73 @@ fn ask_full(label: &[u8]) {
     );
     print(label, rolled, unchanged);
     end(&names, &cells, &head, 1, unchanged);
+}
+
+// Four slots and four lines. 1, 2 and 3 are inserted and 2, which then has 3 before it and 1 behind it in the chain, is removed; then
+// word f of line k is set to value, and the lines are rolled back to mark.
+fn ask_noted(label: &[u8], k: u32, f: u32, value: u64, mark: u32) {
+    let mut names = [0u64; 8];
+    let mut cells = [0u32; 28];
+    let mut head = [0u32; 3];
+    let mut lines = [0u64; 25];
+    fresh(&mut names, &mut cells, &mut head, &mut lines);
+    insert(&mut names, &mut cells, &mut head, &mut lines, 0, 1, 10);
+    insert(&mut names, &mut cells, &mut head, &mut lines, 0, 2, 20);
+    insert(&mut names, &mut cells, &mut head, &mut lines, 0, 3, 30);
+    remove(&mut names, &mut cells, &mut head, &mut lines, 0, 2);
+    put_name(&mut lines, 0, 6 * (k % 4) + f % 6 + 1, value);
+    let names_before = names;
+    let cells_before = cells;
+    let head_before = head;
+    let lines_before = lines;
+    let rolled = rollback(&mut names, &mut cells, &mut head, &mut lines, mark);
+    let unchanged = same_index(
+        &names,
+        &cells,
+        &head,
+        &lines,
+        &names_before,
+        &cells_before,
+        &head_before,
+        &lines_before,
+    );
+    print(label, rolled, unchanged);
+    end(&names, &cells, &head, 4, unchanged);
+}
+
+// The same of the pair that a remove line notes: it has to be there at that point, and the pair comes back right behind it, at the front
+// where none is noted. No other line's words of a pair before are read.
+fn noted_pairs() {
+    ask_noted(b"a noted pair as written", 3, LINE_PRIOR_KEY, 3, 3);
+    ask_noted(b"another noted pair that is there", 3, LINE_PRIOR_KEY, 1, 3);
+    ask_noted(b"a noted pair that is not there", 3, LINE_PRIOR_KEY, 7, 3);
+    ask_noted(b"a noted hash that is not there", 3, LINE_PRIOR_HASH, 1, 3);
+    ask_noted(b"the line's own pair noted", 3, LINE_PRIOR_KEY, 2, 3);
+    ask_noted(b"kind 2, a pair before not read", 3, LINE_KIND, 2, 3);
+    ask_noted(b"kind 3 with a high half", 3, LINE_KIND, HIGH + 3, 3);
+    ask_noted(b"kind 2 with a higher half", 3, LINE_KIND, 2 * HIGH + 2, 3);
+    ask_noted(
+        b"an insert line's pair before is not read",
+        2,
+        LINE_PRIOR_KEY,
+        7,
+        2,
+    );
+    ask_noted(
+        b"an insert line's kind with a high half",
+        2,
+        LINE_KIND,
+        HIGH + 1,
+        2,
+    );
+    ask_noted(b"all lines as written", 3, LINE_KIND, NOTED_REMOVE, 0);
+    ask_replaced(
+        b"a replace line's pair before is not read",
+        2,
+        LINE_PRIOR_KEY,
+        7,
+        2,
+    );
 }
 
 // The word of a replace line: the new place, and the old one above it.
@@ -246,46 +315,38 @@ fn replace_lines() {
     );
     ask_replaced(b"another new place", 2, LINE_PLACE, 12 + 10 * HIGH, 2);
     ask_replaced(b"the places exchanged", 2, LINE_PLACE, 10 + 11 * HIGH, 2);
-    ask_replaced(b"a pair that is not there", 2, KEY, 7, 2);
-    ask_replaced(b"another pair that is there", 2, KEY, 2, 2);
-    ask_replaced(b"a replace line as an insert line", 2, KIND, 1, 2);
-    ask_replaced(b"a replace line as a remove line", 2, KIND, 2, 2);
-    ask_replaced(b"a replace line as kind 4", 2, KIND, 4, 2);
+    ask_replaced(b"a pair that is not there", 2, LINE_KEY, 7, 2);
+    ask_replaced(b"another pair that is there", 2, LINE_KEY, 2, 2);
+    ask_replaced(b"a replace line as an insert line", 2, LINE_KIND, 1, 2);
+    ask_replaced(b"a replace line as a remove line", 2, LINE_KIND, 2, 2);
+    ask_replaced(b"a replace line as kind 4", 2, LINE_KIND, 4, 2);
     ask_replaced(
         b"a replace line's kind with a high half",
         2,
-        KIND,
+        LINE_KIND,
         HIGH + 3,
         2,
     );
-    ask_replaced(b"an insert line as a replace line", 1, KIND, 3, 1);
+    ask_replaced(b"an insert line as a replace line", 1, LINE_KIND, 3, 1);
     ask_only_place(b"a replace, but for the place");
     ask_back(b"a replace, rolled back");
 }
 
 // A question for each way in which a line can misfit, between lines and marks that fit.
 pub fn run() {
-    ask(b"the lines as written", 0, KEY, 1, NULL, 0);
-    ask(b"the same, to mark 1", 0, KEY, 1, NULL, 1);
-    ask(b"the same, to mark 2", 0, KEY, 1, NULL, 2);
-    ask(b"mark at the length", 0, KEY, 1, NULL, 3);
-    ask(b"mark above the length", 0, KEY, 1, NULL, 4);
-    ask(b"kind 0", 2, KIND, 0, NULL, 0);
-    ask(b"kind 4", 2, KIND, 4, NULL, 0);
-    ask(b"a remove line as a replace line", 2, KIND, 3, NULL, 0);
+    ask(b"the lines as written", 0, LINE_KEY, 1, NULL, 0);
+    ask(b"the same, to mark 1", 0, LINE_KEY, 1, NULL, 1);
+    ask(b"the same, to mark 2", 0, LINE_KEY, 1, NULL, 2);
+    ask(b"mark at the length", 0, LINE_KEY, 1, NULL, 3);
+    ask(b"mark above the length", 0, LINE_KEY, 1, NULL, 4);
+    ask(b"kind 0", 2, LINE_KIND, 0, NULL, 0);
+    ask(b"kind 4", 2, LINE_KIND, 4, NULL, 0);
+    ask(b"a remove line as a replace line", 2, LINE_KIND, 3, NULL, 0);
     ask(
         b"an insert line's kind with a high half",
         1,
-        KIND,
+        LINE_KIND,
         HIGH + 1,
-        NULL,
-        0,
-    );
-    ask(
-        b"a remove line's kind with a high half",
-        2,
-        KIND,
-        HIGH + 2,
         NULL,
         0,
     );
@@ -305,7 +366,7 @@ pub fn run() {
         NULL,
         0,
     );
-    ask(b"a pair that is not there", 1, KEY, 7, NULL, 0);
+    ask(b"a pair that is not there", 1, LINE_KEY, 7, NULL, 0);
     ask(b"another place", 1, LINE_PLACE, 21, NULL, 0);
     ask(
         b"another place in the first line",
@@ -315,9 +376,24 @@ pub fn run() {
         NULL,
         0,
     );
-    ask(b"a remove line whose pair is there", 2, KEY, 2, NULL, 0);
+    ask(
+        b"a remove line whose pair is there",
+        2,
+        LINE_KEY,
+        2,
+        NULL,
+        0,
+    );
     ask_full(b"no free slot");
-    ask(b"a tree that is not sound", 0, KEY, 1, 2, 0);
-    ask(b"lines below the mark are not read", 0, KIND, 4, NULL, 1);
+    ask(b"a tree that is not sound", 0, LINE_KEY, 1, 2, 0);
+    ask(
+        b"lines below the mark are not read",
+        0,
+        LINE_KIND,
+        4,
+        NULL,
+        1,
+    );
     replace_lines();
+    noted_pairs();
 }

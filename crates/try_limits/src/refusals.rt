@@ -101,13 +101,13 @@ fn ask_part(
 
 // An empty index of 4,096 slots and 1,024 lines in the first words of each slice.
 fn empty(names: &mut [u64], cells: &mut [u32], head: &mut [u32], lines: &mut [u64])
-    requires { ⌜ (8192 ≤ size (now names)) × (28672 ≤ size (now cells)) × (3 ≤ size (now head)) × (4097 ≤ size (now lines)) ⌝ }
+    requires { ⌜ (8192 ≤ size (now names)) × (28672 ≤ size (now cells)) × (3 ≤ size (now head)) × (6145 ≤ size (now lines)) ⌝ }
 {
     fresh(
         &mut names[..8192],
         &mut cells[..28672],
         &mut head[..3],
-        &mut lines[..4097],
+        &mut lines[..6145],
     );
 }
 
@@ -117,7 +117,7 @@ fn ask(label: &[u8], n: usize, c: usize, h: usize, l: usize, length: u64, root: 
     let mut names = [0u64; 8195];
     let mut cells = [0u32; 28680];
     let mut head = [0u32; 4];
-    let mut lines = [0u64; 4102];
+    let mut lines = [0u64; 6152];
     empty(&mut names, &mut cells, &mut head, &mut lines);
     put(&mut head, 0, 0, root);
     put(&mut head, 0, 2, count);
@@ -142,34 +142,35 @@ fn ask(label: &[u8], n: usize, c: usize, h: usize, l: usize, length: u64, root: 
 
 // Each slice one word off, beside words that fit.
 fn lengths() {
-    ask(b"four slots", 8, 28, 3, 17, 0, NULL, 0);
-    ask(b"names one short", 7, 28, 3, 17, 0, NULL, 0);
-    ask(b"names one long", 9, 28, 3, 17, 0, NULL, 0);
-    ask(b"cells one short", 8, 27, 3, 17, 0, NULL, 0);
-    ask(b"cells one long", 8, 29, 3, 17, 0, NULL, 0);
-    ask(b"header one short", 8, 28, 2, 17, 0, NULL, 0);
-    ask(b"header one long", 8, 28, 4, 17, 0, NULL, 0);
-    ask(b"lines one short", 8, 28, 3, 16, 0, NULL, 0);
-    ask(b"lines one long", 8, 28, 3, 18, 0, NULL, 0);
+    ask(b"four slots", 8, 28, 3, 25, 0, NULL, 0);
+    ask(b"names one short", 7, 28, 3, 25, 0, NULL, 0);
+    ask(b"names one long", 9, 28, 3, 25, 0, NULL, 0);
+    ask(b"cells one short", 8, 27, 3, 25, 0, NULL, 0);
+    ask(b"cells one long", 8, 29, 3, 25, 0, NULL, 0);
+    ask(b"header one short", 8, 28, 2, 25, 0, NULL, 0);
+    ask(b"header one long", 8, 28, 4, 25, 0, NULL, 0);
+    ask(b"lines one short", 8, 28, 3, 24, 0, NULL, 0);
+    ask(b"lines one long", 8, 28, 3, 26, 0, NULL, 0);
+    ask(b"lines of four words each", 8, 28, 3, 17, 0, NULL, 0);
 }
 
 // The capacities of the tree and of the journal, and one past each.
 fn capacities() {
-    ask(b"capacity 0", 0, 0, 3, 17, 0, NULL, 0);
-    ask(b"capacity 4096", 8192, 28672, 3, 17, 0, NULL, 0);
-    ask(b"capacity 4097", 8194, 28679, 3, 17, 0, NULL, 0);
+    ask(b"capacity 0", 0, 0, 3, 25, 0, NULL, 0);
+    ask(b"capacity 4096", 8192, 28672, 3, 25, 0, NULL, 0);
+    ask(b"capacity 4097", 8194, 28679, 3, 25, 0, NULL, 0);
     ask(b"no word of a journal", 8, 28, 3, 0, 0, NULL, 0);
     ask(b"journal of 0 lines", 8, 28, 3, 1, 0, NULL, 0);
-    ask(b"journal of 1024 lines", 8, 28, 3, 4097, 0, NULL, 0);
-    ask(b"journal of 1025 lines", 8, 28, 3, 4101, 0, NULL, 0);
-    ask(b"length at the capacity", 8, 28, 3, 17, 4, NULL, 0);
-    ask(b"length past the capacity", 8, 28, 3, 17, 5, NULL, 0);
+    ask(b"journal of 1024 lines", 8, 28, 3, 6145, 0, NULL, 0);
+    ask(b"journal of 1025 lines", 8, 28, 3, 6151, 0, NULL, 0);
+    ask(b"length at the capacity", 8, 28, 3, 25, 4, NULL, 0);
+    ask(b"length past the capacity", 8, 28, 3, 25, 5, NULL, 0);
     ask(
         b"length with a high half",
         8,
         28,
         3,
-        17,
+        25,
         4294967296,
         NULL,
         0,
@@ -178,21 +179,21 @@ fn capacities() {
 
 // Trees that are not sound, and what comes before that and after it.
 fn damages() {
-    ask(b"count that lies", 8, 28, 3, 17, 0, NULL, 1);
-    ask(b"root without a count", 8, 28, 3, 17, 0, 0, 0);
-    ask(b"root that names no slot", 8, 28, 3, 17, 0, 4, 0);
-    ask(b"damaged, length at the capacity", 8, 28, 3, 17, 4, NULL, 1);
+    ask(b"count that lies", 8, 28, 3, 25, 0, NULL, 1);
+    ask(b"root without a count", 8, 28, 3, 25, 0, 0, 0);
+    ask(b"root that names no slot", 8, 28, 3, 25, 0, 4, 0);
+    ask(b"damaged, length at the capacity", 8, 28, 3, 25, 4, NULL, 1);
     ask(
         b"damaged, length past the capacity",
         8,
         28,
         3,
-        17,
+        25,
         5,
         NULL,
         1,
     );
-    ask(b"damaged, names one short", 7, 28, 3, 17, 0, NULL, 1);
+    ask(b"damaged, names one short", 7, 28, 3, 25, 0, NULL, 1);
 }
 
 pub fn run() {

@@ -157,7 +157,7 @@ fn main() {
     let mut names = [0u64; MOST_NAMES];
     let mut cells = [0u32; MOST_CELLS];
     let mut head = [0u32; 3];
-    let mut lines = [0u64; 5];
+    let mut lines = [0u64; 7];
     grow(&mut names, &mut cells, &mut head, &mut lines, 0, b"rising");
     grow(&mut names, &mut cells, &mut head, &mut lines, 1, b"falling");
     grow(&mut names, &mut cells, &mut head, &mut lines, 2, b"drawn");

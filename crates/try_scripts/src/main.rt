@@ -8,12 +8,15 @@ ghost use Prim.Native.Nat.{_≤_};
 // How many scripts there are: data/01.in with its answers data/01.out, and so on.
 const SCRIPTS: u32 = 55;
 
+// The words of the journal: its length, and six to each of 512 lines, as in the script program.
+const JOURNAL_WORDS: usize = 1 + 6 * 512;
+
 // Whether a script, in pieces of so many bytes, gives all of its answers and nothing else.
 fn runs(input: &[u8], expected: &[u8], cut: usize, out: &mut [u8]) -> bool {
     let mut names = [0u64; 1024];
     let mut cells = [0u32; 3584];
     let mut head = [0u32; 3];
-    let mut lines = [0u64; 2049];
+    let mut lines = [0u64; JOURNAL_WORDS];
     fresh(&mut names, &mut cells, &mut head, &mut lines);
     let met = play(
         input,

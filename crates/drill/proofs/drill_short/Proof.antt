@@ -20,41 +20,8 @@ slice-aggregate-try-short c = simp length-take (omega arith)
 try-short-requires : tie.Need-try-short-requires
 try-short-requires c κs = search needs
 
-slice-aggregate-number : tie.Need-slice-aggregate-number
-slice-aggregate-number c = search needs
-
-number-requires : tie.Need-number-requires
-number-requires c κs = search needs
-
-slice-aggregate-number-2 : tie.Need-slice-aggregate-number-2
-slice-aggregate-number-2 c = search needs
-
-number-requires-2 : tie.Need-number-requires-2
-number-requires-2 c κs = search needs
-
-slice-aggregate-number-3 : tie.Need-slice-aggregate-number-3
-slice-aggregate-number-3 c = search needs
-
-number-requires-3 : tie.Need-number-requires-3
-number-requires-3 c κs = search needs
-
-slice-aggregate-number-4 : tie.Need-slice-aggregate-number-4
-slice-aggregate-number-4 c = search needs
-
-number-requires-4 : tie.Need-number-requires-4
-number-requires-4 c κs = search needs
-
-slice-aggregate-number-5 : tie.Need-slice-aggregate-number-5
-slice-aggregate-number-5 c = search needs
-
-number-requires-5 : tie.Need-number-requires-5
-number-requires-5 c κs = search needs
-
-slice-aggregate-say : tie.Need-slice-aggregate-say
-slice-aggregate-say c = search needs
-
-say-requires : tie.Need-say-requires
-say-requires c κs = search needs
+print-marks-requires : tie.Need-print-marks-requires
+print-marks-requires c κs = search needs
 
 same-length : tie.Need-same-length
 same-length c = search needs
@@ -77,18 +44,7 @@ drill-short-spec =
     slice-reshare-prefix-try-short
     slice-aggregate-try-short
     try-short-requires
-    slice-aggregate-number
-    number-requires
-    slice-aggregate-number-2
-    number-requires-2
-    slice-aggregate-number-3
-    number-requires-3
-    slice-aggregate-number-4
-    number-requires-4
-    slice-aggregate-number-5
-    number-requires-5
-    slice-aggregate-say
-    say-requires
+    print-marks-requires
     same-length
     same-length-2
     same-length-3

@@ -13,7 +13,7 @@ Inv-loop calls n words names₀ cells₀ head₀ lines₀ made₀ t₀ k₀ name
     × (length names ≡ 128)
     × (length cells ≡ 448)
     × (length head ≡ 3)
-    × (length lines ≡ 513)
+    × (length lines ≡ 769)
     × (length made ≡ 128)
 
 abbrev μ-loop : tie.MeasureT-loop

@@ -14,7 +14,7 @@ Inv-loop script answers out₀ names₀ cells₀ head₀ lines₀ made₀ t₀ s
     × (length names ≡ 1024)
     × (length cells ≡ 3584)
     × (length head ≡ 3)
-    × (length lines ≡ 4097)
+    × (length lines ≡ 6145)
     × (length made ≡ 1024)
 
 abbrev μ-loop : tie.MeasureT-loop

@@ -5,10 +5,10 @@ use Rattle.drill.proofs.table.cut_at.Statement.{statement}
 use Rattle.drill.proofs.table.cut_at.Tie as tie
 
 abbrev Inv-loop : tie.InvT-loop
-Inv-loop lines old m k₀ k = k ≤ 2049
+Inv-loop lines old m k₀ k = k ≤ 3073
 
 abbrev μ-loop : tie.MeasureT-loop
-μ-loop lines old m k₀ k = 2049 - k
+μ-loop lines old m k₀ k = 3073 - k
 
 loop-holds : tie.Need-loop-holds Inv-loop μ-loop
 loop-holds c = search needs

@@ -30,17 +30,15 @@ returns c =
     let a = c1 .before .before .before .before .before .before .before .before .before .args in
     fresh-unfit (now (a .names)) (now (a .cells)) (now (a .head)) (now (a .lines)) (c1 .fit-lengths .ensures) (not-true (c1 .fit-lengths .result) (c .if1 .taken))
 
-sub-capacity : tie.Need-sub-capacity
-sub-capacity c =
-    let c1 = c .before in
-    let fit = lengths-fit _ (sym (c1 .fit-lengths .ensures) ∙ not-false (c1 .fit-lengths .result) (c .if1 .left)) in
-    omega (arith, fit .four, fit .most, fit .tree .two, fit .tree .most)
+capacity-of-requires : tie.Need-capacity-of-requires
+capacity-of-requires c κs = search needs
 
 cast-bare : tie.Need-cast-bare
 cast-bare c =
-    let c1 = c .before .before .before .before in
-    let fit = lengths-fit _ (sym (c1 .fit-lengths .ensures) ∙ not-false (c1 .fit-lengths .result) (c .before .before .before .if1 .left)) in
-    omega (arith, fit .four, fit .most, fit .tree .two, fit .tree .most)
+    let c2 = c .before .before .before .before .before in
+    let c3 = c2 .before in
+    let fit = lengths-fit _ (sym (c3 .fit-lengths .ensures) ∙ not-false (c3 .fit-lengths .result) (c2 .if1 .left)) in
+    omega (arith, fit .tree .two, fit .tree .most)
 
 bare-requires : tie.Need-bare-requires
 bare-requires c κs = search needs
@@ -50,9 +48,11 @@ head-put-requires c κs = search needs
 
 cast-cut : tie.Need-cast-cut
 cast-cut c =
-    let c1 = c .before .before .before .before .before .before .before .before .before .before .before .before .before .before in
-    let fit = lengths-fit _ (sym (c1 .fit-lengths .ensures) ∙ not-false (c1 .fit-lengths .result) (c .before .before .before .before .before .before .before .before .before .before .before .before .before .if1 .left)) in
-    omega (arith, fit .four, fit .most, fit .tree .two, fit .tree .most)
+    let c6 = c .before .before .before .before .before .before .before .before .before .before .before .before .before in
+    let c7 = c6 .before .before in
+    let c8 = c7 .before in
+    let fit = lengths-fit _ (sym (c8 .fit-lengths .ensures) ∙ not-false (c8 .fit-lengths .result) (c7 .if1 .left)) in
+    omega (arith, c6 .capacity-of .ensures, fit .words, fit .most)
 
 cut-requires : tie.Need-cut-requires
 cut-requires c κs = search needs
@@ -75,10 +75,11 @@ returns-2 c =
     let c4 = c2 .before .before .before .before in
     let c7 = c4 .before .before .before .before .before .before in
     let c8 = c7 .before .before .before .before in
-    let c9 = c8 .before in
-    let a = c9 .before .before .before .before .before .before .before .before .before .args in
-    fresh-made (now (a .names)) (now (a .cells)) (now (a .head)) (now (a .lines)) (c9 .fit-lengths .ensures)
-    (not-false (c9 .fit-lengths .result) (c8 .if1 .left)) (c7 .bare .ensures) (c4 .head-put .ensures) (c2 .cut .ensures)
+    let c9 = c8 .before .before in
+    let c10 = c9 .before in
+    let a = c10 .before .before .before .before .before .before .before .before .before .args in
+    fresh-made (now (a .names)) (now (a .cells)) (now (a .head)) (now (a .lines)) (c10 .fit-lengths .ensures)
+    (not-false (c10 .fit-lengths .result) (c9 .if1 .left)) (c8 .capacity-of .ensures) (c7 .bare .ensures) (c4 .head-put .ensures) (c2 .cut .ensures)
 
 pub fresh-spec : {M : Type 1} → statement M
 fresh-spec =
@@ -90,7 +91,7 @@ fresh-spec =
     same-length-3
     same-length-4
     returns
-    sub-capacity
+    capacity-of-requires
     cast-bare
     bare-requires
     head-put-requires

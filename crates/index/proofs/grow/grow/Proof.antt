@@ -1,14 +1,24 @@
 -- What is read is read before a write, and the writes are those of `grown`, in order.
-use Rattle.index.proofs.Growing.{grow-wide, grow-null, grow}
+use Rattle.index.proofs.Growing.{grow-wide, grow-null, grow, follower, top}
+use Rattle.index_rules.specs.Live.{lentTree}
 use denote.Ref.{now}
 use borrow.Author.Needs.{needs}
 use Rattle.index.proofs.grow.grow.Statement.{statement}
 use Rattle.index.proofs.grow.grow.Tie as tie
+use Rattle.index.proofs.grow.grow.Reads as reads
+use Rattle.index.proofs.grow.grow.Lts as lts
+use Rattle.index.proofs.grow.head_put.Reads as head-put-reads
+use Rattle.index.proofs.grow.put_pair.Reads as put-pair-reads
+use Rattle.index.proofs.grow.seat.Reads as seat-reads
+use Rattle.links.proofs.hang.hang_slot.Reads as hang-slot-reads
+use Rattle.slots.proofs.get.Reads as get-reads
+use Rattle.slots.proofs.put.Reads as put-reads
+use Rattle.slots.proofs.word.Reads as word-reads
 
 returns : tie.Need-returns
 returns c =
     let a = c .before .before .before .before .args in
-    grow-wide (record { names = now (a .names); cells = now (a .cells); head = now (a .head) }) (a .x) (a .hash) (a .key) (a .place)
+    grow-wide (lentTree (now (a .names)) (now (a .cells)) (now (a .head))) (a .x) (a .y) (a .hash) (a .key) (a .place)
     (c .if1 .taken)
 
 word-requires : tie.Need-word-requires
@@ -22,7 +32,7 @@ returns-2 c =
     let c1 = c .before in
     let c2 = c1 .before .before in
     let a = c2 .before .before .before .before .args in
-    grow-null (record { names = now (a .names); cells = now (a .cells); head = now (a .head) }) (a .x) (a .hash) (a .key) (a .place)
+    grow-null (lentTree (now (a .names)) (now (a .cells)) (now (a .head))) (a .x) (a .y) (a .hash) (a .key) (a .place)
     (c2 .if1 .left)
     (c1 .word .ensures)
     (c .if2 .taken)
@@ -39,14 +49,17 @@ word-requires-3 c κs = search needs
 add-more : tie.Need-add-more
 add-more c = search needs
 
+get-requires : tie.Need-get-requires
+get-requires c κs = search needs
+
 put-pair-requires : tie.Need-put-pair-requires
 put-pair-requires c κs = search needs
 
 put-requires : tie.Need-put-requires
 put-requires c κs = search needs
 
-front-requires : tie.Need-front-requires
-front-requires c κs = search needs
+seat-requires : tie.Need-seat-requires
+seat-requires c κs = search needs
 
 hang-slot-requires : tie.Need-hang-slot-requires
 hang-slot-requires c κs = search needs
@@ -65,28 +78,33 @@ same-length-4 c = search needs
 
 returns-3 : tie.Need-returns-3
 returns-3 c =
-    let c1 = c .before .before in
-    let c2 = c1 .before .before .before .before in
-    let c3 = c2 .before .before .before .before .before in
-    let c4 = c3 .before .before .before .before in
-    let c5 = c4 .before .before .before .before in
-    let c6 = c5 .before .before in
-    let c7 = c6 .before .before in
-    let c8 = c7 .before .before in
-    let c9 = c8 .before in
-    let c10 = c9 .before .before in
-    let a = c10 .before .before .before .before .args in
-    grow (record { names = now (a .names); cells = now (a .cells); head = now (a .head) }) (a .x) (a .hash) (a .key) (a .place)
-    (c10 .if1 .left)
-    (c9 .word .ensures)
-    (c8 .if2 .left)
-    (c7 .word2 .ensures)
-    (c6 .word3 .ensures)
-    (c5 .put-pair .ensures)
-    (c4 .put .ensures)
-    (c3 .front .ensures)
-    (c2 .hang-slot .ensures)
-    (c1 .head-put .ensures)
+    let c2 = c .before .before in
+    let c4 = c2 .before .before .before .before in
+    let c6 = c4 .before .before .before .before .before in
+    let c8 = c6 .before .before .before .before in
+    let c10 = c8 .before .before .before .before in
+    let c11 = c10 .before .before in
+    let c12 = c11 .before in
+    let c13 = c12 .before in
+    let c14 = c13 .before .before in
+    let c15 = c14 .before .before in
+    let c16 = c15 .before .before in
+    let c17 = c16 .before in
+    let c18 = c17 .before .before in
+    let a = c18 .before .before .before .before .args in
+    let t = lentTree (now (a .names)) (now (a .cells)) (now (a .head)) in
+    grow t (a .x) (a .y) (a .hash) (a .key) (a .place)
+    (c18 .if1 .left)
+    (c17 .word .ensures)
+    (c16 .if2 .left)
+    (c15 .word2 .ensures)
+    (follower t (a .x) (a .y) (c14 .word3 .ensures) (c12 .if3 .came) (c13 .get .ensures) (λ w. (w .0 .taken, w .1)) (λ w. (w .0 .left, w .1)))
+    (top t (a .x) (a .y) (c14 .word3 .ensures) (c11 .if4 .came) (λ w. (w .0 .taken, w .1)) (λ w. (w .0 .left, w .1)))
+    (c10 .put-pair .ensures)
+    (c8 .put .ensures)
+    (c6 .seat .ensures)
+    (c4 .hang-slot .ensures)
+    (c2 .head-put .ensures)
 
 pub grow-spec : {M : Type 1} → statement M
 grow-spec =
@@ -100,9 +118,10 @@ grow-spec =
     word-requires-2
     word-requires-3
     add-more
+    get-requires
     put-pair-requires
     put-requires
-    front-requires
+    seat-requires
     hang-slot-requires
     head-put-requires
     same-length-2

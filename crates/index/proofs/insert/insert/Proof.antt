@@ -59,8 +59,8 @@ returns-2 c =
     let a = c10 .before .before .before .before .before .before .before .before .before .args in
     let d = done _ _ _ (settled _ (a .hash) (a .key) (a .place)) _ (ap insertedOf (sym (c8 .asked .given .1)) ∙ c10 .ask .ensures (a .place)) in
     joined _ _ _ _
-    (c6 .grow .ensures ∙ grown-is _ (names-most d) _ _ _ _ (count-below d))
-    (c2 .append .ensures ∙ appended-is _ _ _ _ _ (lines-most d))
+    (c6 .grow .ensures ∙ grown-is _ (names-most d) _ _ _ _ _ (count-below d))
+    (c2 .append .ensures ∙ appended-is _ _ (lines-most d))
     (d .left)
 
 pub insert-spec : {M : Type 1} → statement M

@@ -1,5 +1,6 @@
 -- The line is written past the last, and the length is one more.
 use Rattle.index.proofs.Writing.{append, no-append}
+use Rattle.index_rules.specs.Index.{lineMade}
 use denote.Ref.{now}
 use borrow.Author.Needs.{needs}
 use Rattle.index.proofs.journal.append.Statement.{statement}
@@ -15,7 +16,7 @@ returns : tie.Need-returns
 returns c =
     let c1 = c .before in
     let a = c1 .before .before .before .args in
-    no-append (now (a .lines)) (a .kind) (a .hash) (a .key) (a .place)
+    no-append (now (a .lines)) (lineMade (a .kind) (a .hash) (a .key) (a .place) (a .prehash) (a .prekey))
     (c1 .length-of .ensures)
     (c .if1 .taken)
 
@@ -38,7 +39,7 @@ returns-2 c =
     let c3 = c2 .before .before in
     let c4 = c3 .before in
     let a = c4 .before .before .before .args in
-    append (now (a .lines)) (a .kind) (a .hash) (a .key) (a .place)
+    append (now (a .lines)) (lineMade (a .kind) (a .hash) (a .key) (a .place) (a .prehash) (a .prekey))
     (c4 .length-of .ensures)
     (c3 .if1 .left)
     (c2 .put-line .ensures)

@@ -1,42 +1,36 @@
 -- Each way out closes by the tests that led there.
-use mathlib.Core.Path.{_≡_}
-use native.Mathlib.Omega.{arith}
-use denote.Ref.{now}
-use lib.ListN.{length}
-use borrow.Author.Tests.{lt-leb, le-leb, eq-eqb, ne-eqb}
+use borrow.Author.Tests.{not-true, not-false}
 use Rattle.index_rules.specs.Index.{fitsJournal}
 use borrow.Author.Needs.{needs}
 use Rattle.index.proofs.journal.fit_journal.Statement.{statement}
 use Rattle.index.proofs.journal.fit_journal.Tie as tie
+use Rattle.index.proofs.journal.fit_journal.Reads as reads
+use Rattle.index.proofs.journal.fit_journal.Lts as lts
+use Rattle.index.proofs.journal.capacity_of.Reads as capacity-of-reads
+use Rattle.index.proofs.journal.is_whole.Reads as is-whole-reads
+use Rattle.index.proofs.journal.length_of.Reads as length-of-reads
+
+is-whole-requires : tie.Need-is-whole-requires
+is-whole-requires c κs = search needs
 
 returns : tie.Need-returns
 unfolding fitsJournal
-returns c =
-    let a = c .before .before .args in
-    let z : length (now (a .lines)) ≡ 0 = omega arith in
-    rw (z)
+returns c = rw (← c .before .is-whole .ensures, not-true (c .before .is-whole .result) (c .if1 .taken))
 
-returns-2 : tie.Need-returns-2
-unfolding fitsJournal
-returns-2 c = rw (lt-leb _ _ (c .if2 .taken))
-
-mul-if3 : tie.Need-mul-if3
-mul-if3 c = search needs
-
-add-if3 : tie.Need-add-if3
-add-if3 c = search needs
-
-returns-3 : tie.Need-returns-3
-unfolding fitsJournal
-returns-3 c = rw (le-leb _ _ (c .before .if2 .left), ne-eqb _ _ (c .if3 .taken))
+capacity-of-requires : tie.Need-capacity-of-requires
+capacity-of-requires c κs = search needs
 
 length-of-requires : tie.Need-length-of-requires
 length-of-requires c κs = search needs
 
-returns-4 : tie.Need-returns-4
+returns-2 : tie.Need-returns-2
 unfolding fitsJournal
-returns-4 c = rw (le-leb _ _ (c .before .before .if2 .left), eq-eqb _ _ (c .before .if3 .left), ← c .length-of .ensures)
+returns-2 c =
+    let c1 = c .before in
+    let c3 = c1 .before .before in
+    rw (← c3 .is-whole .ensures, not-false (c3 .is-whole .result) (c1 .before .if1 .left), ← c1 .capacity-of .ensures, ← c .length-of .ensures)
 
 pub fit-journal-spec : {M : Type 1} → statement M
 fit-journal-spec =
-    tie.close (tie.spec returns returns-2 mul-if3 add-if3 returns-3 length-of-requires returns-4)
+    tie.close
+    (tie.spec is-whole-requires returns capacity-of-requires length-of-requires returns-2)

@@ -1,25 +1,20 @@
 -- The length word against the lines that the words have room for.
-use mathlib.Core.Path.{_≡_}
-use Prim.Native.Nat.{_-_, _/_}
-use native.Mathlib.Omega.{arith}
-use denote.Ref.{now}
-use lib.ListN.{length}
 use borrow.Author.Needs.{needs}
 use Rattle.index.proofs.journal.is_full.Statement.{statement}
 use Rattle.index.proofs.journal.is_full.Tie as tie
+use Rattle.index.proofs.journal.is_full.Reads as reads
+use Rattle.index.proofs.journal.is_full.Lts as lts
+use Rattle.index.proofs.journal.capacity_of.Reads as capacity-of-reads
+use Rattle.index.proofs.journal.length_of.Reads as length-of-reads
 
 length-of-requires : tie.Need-length-of-requires
 length-of-requires c κs = search needs
 
-returns : tie.Need-returns
-returns c =
-    let c1 = c .before in
-    let a = c1 .before .before .args in
-    let z : (length (now (a .lines)) - 1) / 4 ≡ 0 = omega arith in
-    rw (z, ← c1 .length-of .ensures)
+capacity-of-requires : tie.Need-capacity-of-requires
+capacity-of-requires c κs = search needs
 
-returns-2 : tie.Need-returns-2
-returns-2 c = rw (← c .before .length-of .ensures)
+returns : tie.Need-returns
+returns c = rw (← c .before .length-of .ensures, ← c .capacity-of .ensures)
 
 pub is-full-spec : {M : Type 1} → statement M
-is-full-spec = tie.close (tie.spec length-of-requires returns returns-2)
+is-full-spec = tie.close (tie.spec length-of-requires capacity-of-requires returns)

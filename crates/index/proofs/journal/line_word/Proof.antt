@@ -26,7 +26,7 @@ returns c = search needs
 returns-2 : tie.Need-returns-2
 returns-2 c =
     let a = c .before .before .args in
-    let out : length (now (a .lines)) ≤ 1 + 4 * a .k + a .f = omega arith in
+    let out : length (now (a .lines)) ≤ 1 + 6 * a .k + a .f = omega arith in
     sym (List·getD-eq-default (now (a .lines)) 0 out)
 
 pub line-word-spec : {M : Type 1} → statement M

@@ -1,14 +1,17 @@
--- The four writes are those of `lined`; a line whose number is not below the length has no word.
+-- The six writes are those of `lined`; a line whose number is not below the length has no word.
 use Rattle.index.proofs.Writing.{line, no-line}
 use denote.Ref.{now}
 use borrow.Author.Needs.{needs}
 use Rattle.index.proofs.journal.put_line.Statement.{statement}
 use Rattle.index.proofs.journal.put_line.Tie as tie
+use Rattle.index.proofs.journal.put_line.Reads as reads
+use Rattle.index.proofs.journal.put_line.Lts as lts
+use Rattle.slots.proofs.put_wide.Reads as put-wide-reads
 
 returns : tie.Need-returns
 returns c =
     let a = c .before .before .args in
-    no-line (now (a .lines)) (a .k) (a .kind) (a .hash) (a .key) (a .place)
+    no-line (now (a .lines)) (a .k) (a .kind) (a .hash) (a .key) (a .place) (a .prehash) (a .prekey)
     (c .if1 .taken)
 
 mul-at : tie.Need-mul-at
@@ -38,6 +41,18 @@ add-put-wide-3 c = search needs
 put-wide-requires-4 : tie.Need-put-wide-requires-4
 put-wide-requires-4 c κs = search needs
 
+add-put-wide-4 : tie.Need-add-put-wide-4
+add-put-wide-4 c = search needs
+
+put-wide-requires-5 : tie.Need-put-wide-requires-5
+put-wide-requires-5 c κs = search needs
+
+add-put-wide-5 : tie.Need-add-put-wide-5
+add-put-wide-5 c = search needs
+
+put-wide-requires-6 : tie.Need-put-wide-requires-6
+put-wide-requires-6 c κs = search needs
+
 same-length : tie.Need-same-length
 same-length c = search needs
 
@@ -47,13 +62,17 @@ returns-2 c =
     let c2 = c1 .before .before .before .before in
     let c3 = c2 .before .before .before .before in
     let c4 = c3 .before .before .before .before in
-    let c5 = c4 .before .before in
-    let a = c5 .before .before .args in
-    line (now (a .lines)) (a .k) (a .kind) (a .hash) (a .key) (a .place)
-    (c4 .put-wide .ensures)
-    (c3 .put-wide2 .ensures)
-    (c2 .put-wide3 .ensures)
-    (c1 .put-wide4 .ensures)
+    let c5 = c4 .before .before .before .before in
+    let c6 = c5 .before .before .before .before in
+    let c7 = c6 .before .before in
+    let a = c7 .before .before .args in
+    line (now (a .lines)) (a .k) (a .kind) (a .hash) (a .key) (a .place) (a .prehash) (a .prekey)
+    (c6 .put-wide .ensures)
+    (c5 .put-wide2 .ensures)
+    (c4 .put-wide3 .ensures)
+    (c3 .put-wide4 .ensures)
+    (c2 .put-wide5 .ensures)
+    (c1 .put-wide6 .ensures)
 
 pub put-line-spec : {M : Type 1} → statement M
 put-line-spec =
@@ -69,5 +88,9 @@ put-line-spec =
     put-wide-requires-3
     add-put-wide-3
     put-wide-requires-4
+    add-put-wide-4
+    put-wide-requires-5
+    add-put-wide-5
+    put-wide-requires-6
     same-length
     returns-2)

@@ -4,6 +4,7 @@ use Rattle.index.specs.Frees.{freeOf}
 use Rattle.index.proofs.Room.{grown-is}
 use Rattle.index.proofs.Asking.{sought-at, sought-not}
 use Rattle.index.proofs.Undoing.{put-there, put-full, put-wide, put-done}
+use Rattle.index_rules.specs.Index.{lineMade}
 use borrow.Author.Needs.{needs}
 use Rattle.index.proofs.lines.put_back.Statement.{statement}
 use Rattle.index.proofs.lines.put_back.Tie as tie
@@ -39,12 +40,13 @@ same-length-3 : tie.Need-same-length-3
 same-length-3 c = search needs
 
 returns : tie.Need-returns
-returns c =
+returns c kind prehash prekey =
     let c2 = c .before .before in
     let c3 = c2 .before .before in
     let c4 = c3 .before in
     let c5 = c4 .before .before .before in
-    put-full _ _ _ _
+    let a = c5 .before .before .before .before .before .args in
+    put-full _ (lineMade kind (a .hash) (a .key) (a .place) prehash prekey) (a .y)
     (sought-not _ _ _ (c5 .word .ensures) (c4 .find-tree-node .result) (c4 .find-tree-node .ensures) (c3 .match .keys2))
     (ap freeOf (sym (c .enum-told2 .given .1)) ∙ c2 .lowest-free .ensures)
 
@@ -58,13 +60,14 @@ same-length-6 : tie.Need-same-length-6
 same-length-6 c = search needs
 
 returns-2 : tie.Need-returns-2
-returns-2 c =
+returns-2 c kind prehash prekey =
     let c2 = c .before .before in
     let c4 = c2 .before .before in
     let c5 = c4 .before .before in
     let c6 = c5 .before in
     let c7 = c6 .before .before .before in
-    put-wide _ _ _ _
+    let a = c7 .before .before .before .before .before .args in
+    put-wide _ (lineMade kind (a .hash) (a .key) (a .place) prehash prekey) (a .y)
     (sought-not _ _ _ (c7 .word .ensures) (c6 .find-tree-node .result) (c6 .find-tree-node .ensures) (c5 .match .keys2))
     (ap freeOf (sym (c2 .free .given .1)) ∙ c4 .lowest-free .ensures)
     (c .if1 .taken)
@@ -85,7 +88,7 @@ same-length-9 : tie.Need-same-length-9
 same-length-9 c = search needs
 
 returns-3 : tie.Need-returns-3
-returns-3 c =
+returns-3 c kind prehash prekey =
     let c4 = c .before .before .before .before .before .before in
     let c5 = c4 .before .before .before .before in
     let c7 = c5 .before .before in
@@ -94,11 +97,12 @@ returns-3 c =
     let c11 = c10 .before in
     let c12 = c11 .before .before .before in
     let c13 = c12 .before .before .before .before .before in
-    put-done _ _ _ _
+    let a = c13 .args in
+    put-done _ (lineMade kind (a .hash) (a .key) (a .place) prehash prekey) (a .y)
     (sought-not _ _ _ (c12 .word .ensures) (c11 .find-tree-node .result) (c11 .find-tree-node .ensures) (c10 .match .keys2))
     (ap freeOf (sym (c7 .free .given .1)) ∙ c9 .lowest-free .ensures)
     (c5 .if1 .left)
-    (c4 .grow .ensures ∙ grown-is _ (c13 .pre .0) _ _ _ _ (c13 .pre .1))
+    (c4 .grow .ensures ∙ grown-is _ (c13 .pre .0) _ _ _ _ _ (c13 .pre .1))
 
 same-length-10 : tie.Need-same-length-10
 same-length-10 c = search needs
@@ -110,10 +114,12 @@ same-length-12 : tie.Need-same-length-12
 same-length-12 c = search needs
 
 returns-4 : tie.Need-returns-4
-returns-4 c =
+returns-4 c kind prehash prekey =
     let c2 = c .before .before in
     let c3 = c2 .before .before .before in
-    put-there _ _ _ _ (sought-at _ _ _ (c3 .word .ensures) (c2 .find-tree-node .result) (c2 .find-tree-node .ensures) (c .enum-told .given .1))
+    let a = c3 .before .before .before .before .before .args in
+    put-there _ (lineMade kind (a .hash) (a .key) (a .place) prehash prekey) (a .y)
+    (sought-at _ _ _ (c3 .word .ensures) (c2 .find-tree-node .result) (c2 .find-tree-node .ensures) (c .enum-told .given .1))
 
 pub put-back-spec : {M : Type 1} → statement M
 put-back-spec =

@@ -1,9 +1,17 @@
--- The kind of the line decides which driver undoes it.
-use Rattle.index.proofs.Undoing.{line-insert, line-remove, line-replace, line-other}
+-- The line's kind decides which of the drivers undoes it.
 use denote.Ref.{now}
+use Rattle.index_rules.specs.Live.{lentTree}
+use Rattle.index.proofs.Undoing.{line-insert, line-remove, line-noted, line-replace, line-other}
 use borrow.Author.Needs.{needs}
 use Rattle.index.proofs.lines.undo_line.Statement.{statement}
 use Rattle.index.proofs.lines.undo_line.Tie as tie
+use Rattle.index.proofs.lines.undo_line.Reads as reads
+use Rattle.index.proofs.lines.undo_line.Lts as lts
+use Rattle.index.proofs.journal.line_word.Reads as line-word-reads
+use Rattle.index.proofs.lines.place_back.Reads as place-back-reads
+use Rattle.index.proofs.lines.put_back.Reads as put-back-reads
+use Rattle.index.proofs.lines.put_behind.Reads as put-behind-reads
+use Rattle.index.proofs.lines.take_back.Reads as take-back-reads
 
 line-word-requires : tie.Need-line-word-requires
 line-word-requires c κs = search needs
@@ -38,7 +46,7 @@ returns c =
     let c5 = c4 .before in
     let c6 = c5 .before in
     let a = c6 .before .before .before .before .before .args in
-    line-insert (record { names = now (a .names); cells = now (a .cells); head = now (a .head) }) (now (a .lines)) (a .k)
+    line-insert (lentTree (now (a .names)) (now (a .cells)) (now (a .head))) (now (a .lines)) (a .k)
     (c6 .line-word .ensures)
     (c5 .line-word2 .ensures)
     (c4 .line-word3 .ensures)
@@ -68,7 +76,7 @@ returns-2 c =
     let c6 = c5 .before in
     let c7 = c6 .before in
     let a = c7 .before .before .before .before .before .args in
-    line-remove (record { names = now (a .names); cells = now (a .cells); head = now (a .head) }) (now (a .lines)) (a .k)
+    line-remove (lentTree (now (a .names)) (now (a .cells)) (now (a .head))) (now (a .lines)) (a .k)
     (c7 .line-word .ensures)
     (c6 .line-word2 .ensures)
     (c5 .line-word3 .ensures)
@@ -77,8 +85,14 @@ returns-2 c =
     (c2 .if2 .taken)
     (c1 .put-back .ensures)
 
-place-back-requires : tie.Need-place-back-requires
-place-back-requires c κs = search needs
+line-word-requires-5 : tie.Need-line-word-requires-5
+line-word-requires-5 c κs = search needs
+
+line-word-requires-6 : tie.Need-line-word-requires-6
+line-word-requires-6 c κs = search needs
+
+put-behind-requires : tie.Need-put-behind-requires
+put-behind-requires c κs = search needs
 
 same-length-7 : tie.Need-same-length-7
 same-length-7 c = search needs
@@ -91,6 +105,43 @@ same-length-9 c = search needs
 
 returns-3 : tie.Need-returns-3
 returns-3 c =
+    let c4 = c .before .before .before .before .before .before in
+    let c5 = c4 .before .before .before .before in
+    let c6 = c5 .before in
+    let c7 = c6 .before in
+    let c8 = c7 .before in
+    let c9 = c8 .before in
+    let c10 = c9 .before in
+    let c11 = c10 .before in
+    let c12 = c11 .before in
+    let c13 = c12 .before in
+    let a = c13 .before .before .before .before .before .args in
+    line-noted (lentTree (now (a .names)) (now (a .cells)) (now (a .head))) (now (a .lines)) (a .k)
+    (c13 .line-word .ensures)
+    (c12 .line-word2 .ensures)
+    (c11 .line-word3 .ensures)
+    (c10 .line-word4 .ensures)
+    (c9 .if1 .left)
+    (c8 .if2 .left)
+    (c7 .if3 .taken)
+    (c6 .line-word5 .ensures)
+    (c5 .line-word6 .ensures)
+    (c4 .put-behind .ensures)
+
+place-back-requires : tie.Need-place-back-requires
+place-back-requires c κs = search needs
+
+same-length-10 : tie.Need-same-length-10
+same-length-10 c = search needs
+
+same-length-11 : tie.Need-same-length-11
+same-length-11 c = search needs
+
+same-length-12 : tie.Need-same-length-12
+same-length-12 c = search needs
+
+returns-4 : tie.Need-returns-4
+returns-4 c =
     let c1 = c .before .before in
     let c2 = c1 .before .before .before .before in
     let c3 = c2 .before in
@@ -99,34 +150,38 @@ returns-3 c =
     let c6 = c5 .before in
     let c7 = c6 .before in
     let c8 = c7 .before in
-    let a = c8 .before .before .before .before .before .args in
-    line-replace (record { names = now (a .names); cells = now (a .cells); head = now (a .head) }) (now (a .lines)) (a .k)
-    (c8 .line-word .ensures)
-    (c7 .line-word2 .ensures)
-    (c6 .line-word3 .ensures)
-    (c5 .line-word4 .ensures)
-    (c4 .if1 .left)
-    (c3 .if2 .left)
-    (c2 .if3 .taken)
+    let c9 = c8 .before in
+    let a = c9 .before .before .before .before .before .args in
+    line-replace (lentTree (now (a .names)) (now (a .cells)) (now (a .head))) (now (a .lines)) (a .k)
+    (c9 .line-word .ensures)
+    (c8 .line-word2 .ensures)
+    (c7 .line-word3 .ensures)
+    (c6 .line-word4 .ensures)
+    (c5 .if1 .left)
+    (c4 .if2 .left)
+    (c3 .if3 .left)
+    (c2 .if4 .taken)
     (c1 .place-back .ensures)
 
-returns-4 : tie.Need-returns-4
-returns-4 c =
+returns-5 : tie.Need-returns-5
+returns-5 c =
     let c1 = c .before in
     let c2 = c1 .before in
     let c3 = c2 .before in
     let c4 = c3 .before in
     let c5 = c4 .before in
     let c6 = c5 .before in
-    let a = c6 .before .before .before .before .before .args in
-    line-other (record { names = now (a .names); cells = now (a .cells); head = now (a .head) }) (now (a .lines)) (a .k)
-    (c6 .line-word .ensures)
-    (c5 .line-word2 .ensures)
-    (c4 .line-word3 .ensures)
-    (c3 .line-word4 .ensures)
-    (c2 .if1 .left)
-    (c1 .if2 .left)
-    (c .if3 .left)
+    let c7 = c6 .before in
+    let a = c7 .before .before .before .before .before .args in
+    line-other (lentTree (now (a .names)) (now (a .cells)) (now (a .head))) (now (a .lines)) (a .k)
+    (c7 .line-word .ensures)
+    (c6 .line-word2 .ensures)
+    (c5 .line-word3 .ensures)
+    (c4 .line-word4 .ensures)
+    (c3 .if1 .left)
+    (c2 .if2 .left)
+    (c1 .if3 .left)
+    (c .if4 .left)
 
 pub undo-line-spec : {M : Type 1} → statement M
 undo-line-spec =
@@ -146,9 +201,16 @@ undo-line-spec =
     same-length-5
     same-length-6
     returns-2
-    place-back-requires
+    line-word-requires-5
+    line-word-requires-6
+    put-behind-requires
     same-length-7
     same-length-8
     same-length-9
     returns-3
-    returns-4)
+    place-back-requires
+    same-length-10
+    same-length-11
+    same-length-12
+    returns-4
+    returns-5)

@@ -1,12 +1,19 @@
--- A refusal leaves all as it is; else the slot goes and the journal takes a line with its place, as the model says.
+-- A refusal leaves all as it is; else the slot goes and the journal takes a line with its place and what stood before it, as the model says.
 use mathlib.Core.Path.{sym, ap, _∙_}
 use Rattle.index.proofs.Room.{shrunk-is, appended-is}
 use Rattle.index.specs.Calls.{removedOf}
 use Rattle.index.proofs.Asking.{kept, done, names-most, lines-most}
-use Rattle.index.proofs.Removing.{settled, left, not-at}
+use Rattle.index.proofs.Removing.{settled, left-first, left-noted, not-at}
 use borrow.Author.Needs.{needs}
 use Rattle.index.proofs.remove.remove.Statement.{statement}
 use Rattle.index.proofs.remove.remove.Tie as tie
+use Rattle.index.proofs.remove.remove.Reads as reads
+use Rattle.index.proofs.remove.remove.Lts as lts
+use Rattle.index.proofs.journal.append.Reads as append-reads
+use Rattle.index.proofs.remove.ask.Reads as ask-reads
+use Rattle.index.proofs.shrink.shrink.Reads as shrink-reads
+use Rattle.slots.proofs.get.Reads as get-reads
+use Rattle.slots.proofs.name.Reads as name-reads
 
 ask-requires : tie.Need-ask-requires
 ask-requires c κs = search needs
@@ -35,14 +42,26 @@ returns c =
 get-requires : tie.Need-get-requires
 get-requires c κs = search needs
 
+cast-place : tie.Need-cast-place
+cast-place c = search needs
+
+get-requires-2 : tie.Need-get-requires-2
+get-requires-2 c κs = search needs
+
+name-requires : tie.Need-name-requires
+name-requires c κs = search needs
+
+name-requires-2 : tie.Need-name-requires-2
+name-requires-2 c κs = search needs
+
 shrink-requires : tie.Need-shrink-requires
 shrink-requires c κs = search needs
 
-cast-append : tie.Need-cast-append
-cast-append c = search needs
-
 append-requires : tie.Need-append-requires
 append-requires c κs = search needs
+
+append-requires-2 : tie.Need-append-requires-2
+append-requires-2 c κs = search needs
 
 same-length-5 : tie.Need-same-length-5
 same-length-5 c = search needs
@@ -59,17 +78,58 @@ same-length-8 c = search needs
 returns-2 : tie.Need-returns-2
 returns-2 c =
     let c2 = c .before .before in
-    let c6 = c2 .before .before .before .before .before .before .before .before in
-    let c7 = c6 .before .before .before .before in
-    let c9 = c7 .before .before .before in
-    let c11 = c9 .before .before in
-    let a = c11 .before .before .before .before .before .before .before .before .before .args in
-    let d = done _ _ _ (settled _ (a .hash) (a .key)) _ (ap removedOf (sym (c9 .asked .given .1)) ∙ c11 .ask .ensures) in
-    left _ _ _
-    (c7 .get .ensures)
-    (c6 .shrink .ensures ∙ shrunk-is _ (names-most d) _)
-    (c2 .append .ensures ∙ appended-is _ _ _ _ _ (lines-most d))
+    let c3 = c2 .before .before in
+    let c7 = c3 .before .before .before .before .before .before .before in
+    let c8 = c7 .before .before .before .before in
+    let c9 = c8 .before .before in
+    let c10 = c9 .before .before in
+    let c11 = c10 .before .before in
+    let c13 = c11 .before .before .before in
+    let c15 = c13 .before .before in
+    let a = c15 .before .before .before .before .before .before .before .before .before .args in
+    let d = done _ _ _ (settled _ (a .hash) (a .key)) _ (ap removedOf (sym (c13 .asked .given .1)) ∙ c15 .ask .ensures) in
+    left-first _ _ _
+    (c11 .get .ensures)
+    (c10 .get2 .ensures)
+    (c7 .shrink .ensures ∙ shrunk-is _ (names-most d) _)
     (d .left)
+    (c3 .if1 .taken)
+    (c2 .append .ensures ∙ appended-is _ _ (lines-most d))
+
+same-length-9 : tie.Need-same-length-9
+same-length-9 c = search needs
+
+same-length-10 : tie.Need-same-length-10
+same-length-10 c = search needs
+
+same-length-11 : tie.Need-same-length-11
+same-length-11 c = search needs
+
+same-length-12 : tie.Need-same-length-12
+same-length-12 c = search needs
+
+returns-3 : tie.Need-returns-3
+returns-3 c =
+    let c2 = c .before .before in
+    let c3 = c2 .before .before in
+    let c7 = c3 .before .before .before .before .before .before .before in
+    let c8 = c7 .before .before .before .before in
+    let c9 = c8 .before .before in
+    let c10 = c9 .before .before in
+    let c11 = c10 .before .before in
+    let c13 = c11 .before .before .before in
+    let c15 = c13 .before .before in
+    let a = c15 .before .before .before .before .before .before .before .before .before .args in
+    let d = done _ _ _ (settled _ (a .hash) (a .key)) _ (ap removedOf (sym (c13 .asked .given .1)) ∙ c15 .ask .ensures) in
+    left-noted _ _ _
+    (c11 .get .ensures)
+    (c10 .get2 .ensures)
+    (c7 .shrink .ensures ∙ shrunk-is _ (names-most d) _)
+    (d .left)
+    (c9 .name .ensures)
+    (c8 .name2 .ensures)
+    (c3 .if1 .left)
+    (c2 .append2 .ensures ∙ appended-is _ _ (lines-most d))
 
 pub remove-spec : {M : Type 1} → statement M
 remove-spec =
@@ -83,11 +143,20 @@ remove-spec =
     same-length-4
     returns
     get-requires
+    cast-place
+    get-requires-2
+    name-requires
+    name-requires-2
     shrink-requires
-    cast-append
     append-requires
+    append-requires-2
     same-length-5
     same-length-6
     same-length-7
     same-length-8
-    returns-2)
+    returns-2
+    same-length-9
+    same-length-10
+    same-length-11
+    same-length-12
+    returns-3)

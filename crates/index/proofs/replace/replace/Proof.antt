@@ -58,7 +58,7 @@ returns-2 c =
     (c6 .get .ensures)
     (c5 .put .ensures)
     (c3 .both-places .ensures)
-    (c2 .append .ensures ∙ appended-is _ _ _ _ _ (lines-most d))
+    (c2 .append .ensures ∙ appended-is _ _ (lines-most d))
     (d .left)
 
 pub replace-spec : {M : Type 1} → statement M

@@ -3,8 +3,8 @@ use mathlib.Core.Path.{_≡_}
 use Prim.Native.Nat.{_≤_, _-_}
 use borrow.Author.Needs.{needs}
 use lib.ListN.{length}
-use Rattle.drill.proofs.table.note.Statement.{statement}
-use Rattle.drill.proofs.table.note.Tie as tie
+use Rattle.drill.proofs.table.note_held.Statement.{statement}
+use Rattle.drill.proofs.table.note_held.Tie as tie
 
 abbrev Inv-loop : tie.InvT-loop
 Inv-loop rows₀ m names cells head key₀ rows key = (key ≤ 48) × (length rows ≡ length rows₀)
@@ -39,8 +39,8 @@ same-length c = search needs
 returns : tie.Need-returns Inv-loop μ-loop
 returns c = search needs
 
-pub note-spec : {M : Type 1} → statement M
-note-spec =
+pub note-held-spec : {M : Type 1} → statement M
+note-held-spec =
     tie.close
     (tie.spec
     Inv-loop

@@ -1,8 +1,8 @@
 -- The loop's invariant: no key past the last is asked for, and the count fits its type.
 use Prim.Native.Nat.{_<_, _≤_, _-_, _^_}
 use borrow.Author.Needs.{needs}
-use Rattle.drill.proofs.table.same.Statement.{statement}
-use Rattle.drill.proofs.table.same.Tie as tie
+use Rattle.drill.proofs.table.same_held.Statement.{statement}
+use Rattle.drill.proofs.table.same_held.Tie as tie
 
 abbrev Inv-loop : tie.InvT-loop
 Inv-loop rows m names cells head count₀ key₀ count key = (key ≤ 48) × (count < 2 ^ 32)
@@ -46,8 +46,8 @@ get-requires-2 c κs = search needs
 returns-2 : tie.Need-returns-2 Inv-loop μ-loop
 returns-2 c = search needs
 
-pub same-spec : {M : Type 1} → statement M
-same-spec =
+pub same-held-spec : {M : Type 1} → statement M
+same-held-spec =
     tie.close
     (tie.spec
     Inv-loop
