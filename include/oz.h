@@ -10,6 +10,8 @@
  *   names    u64, 2n      per slot: hash, key
  *   cells    u32, 7n      per slot: place, state (0 free, 1 black, 2 red), parent, left, right, prev, next
  *   head     u32, 3       root, first, count
+ *   sizes    u32, n       per slot: the number of pairs in its subtree, 0 in a free slot. The library keeps them; the
+ *                         caller lends them and writes none
  *   lines    u64, 1 + 6c  the journal: its length, then per line: kind, hash, key, place, and the hash and key of the
  *                         pair before. Kind is 1 insert, 2 remove, 2 + 2^32 remove of a pair that stood right behind
  *                         another in the chain, which is then the pair before, 3 replace; but for 2 + 2^32 the pair
@@ -23,15 +25,16 @@
  * n is 1 to 4,096 (0 to 4,096 in a set), c is 0 to 1,024, h is 0 to 4,096. A link that leads nowhere is OZ_NULL.
  *
  * An empty index: names all 0; each slot's seven cells 0, 0, OZ_NULL, OZ_NULL, OZ_NULL, OZ_NULL, OZ_NULL; head OZ_NULL,
- * OZ_NULL, 0; lines all 0. oz_fresh writes it.
+ * OZ_NULL, 0; sizes all 0; lines all 0. oz_fresh writes it.
  *
  * Answers. An answer is value + 2^32 * number + 2^48 * looks; oz_value, oz_number and oz_looks take it apart. Number 0
- * is no refusal. 1 to 11 are refusals: the value is 0, with 3 a slot, and nothing was written. Where several hold, the
- * one that stands first in a routine's list below is given. A number above 100 is a failing test of oz_check. Looks are
- * how many slots oz_find or oz_lookup read the hash of, on a hit, on OZ_NULL and on 9; every other answer has 0.
+ * is no refusal. 1 to 11 and 15 are refusals: the value is 0, with 3 a slot, and nothing was written. Where several
+ * hold, the one that stands first in a routine's list below is given. A number above 100 is a failing test of oz_check.
+ * Looks are how many slots oz_find or oz_lookup read the hash of, on a hit, on OZ_NULL and on 9; every other answer has
+ * 0.
  *
  * Stack, as measured with a tree of 4,096 slots in one line: oz_check 709 KiB, since it follows the links as deep as
- * they go; oz_rollback 208 KiB, since it keeps the tree's words aside; the others under 64 KiB.
+ * they go; oz_rollback 224 KiB, since it keeps the tree's words and its sizes aside; the others under 64 KiB.
  */
 #ifndef OZ_H
 #define OZ_H
@@ -53,6 +56,7 @@ enum {
     OZ_LOST = 9,           /* a read came to a word that leads nowhere, or to more slots than there are */
     OZ_UNKNOWN_TABLE = 10, /* no such table */
     OZ_BAD_CURSOR = 11,    /* no cursor of this set */
+    OZ_OUT_OF_RANGE = 15,  /* there is no such position: it is not below the count */
     OZ_TEST = 100          /* 100 + t: test t of 1 to 8 of oz_check fails; the value is the slot */
 };
 
@@ -64,10 +68,10 @@ static inline uint32_t oz_looks(uint64_t answer) { return (uint32_t)(answer >> 4
 extern "C" {
 #endif
 
-/* Writes an empty index into the four slices, every word of them, and answers 1. Refusal 1, exactly where their lengths
+/* Writes an empty index into the five slices, every word of them, and answers 1. Refusal 1, exactly where their lengths
  * do not fit; what stands in them does not matter. */
 uint64_t oz_fresh(uint64_t *names, size_t names_len, uint32_t *cells, size_t cells_len, uint32_t *head,
-                  size_t head_len, uint64_t *lines, size_t lines_len);
+                  size_t head_len, uint32_t *sizes, size_t sizes_len, uint64_t *lines, size_t lines_len);
 
 /* The slot that has the pair, or OZ_NULL where none has, with the looks: at most n, with 1 none. Refusals 1, 9; never 9
  * on a sound tree. */
@@ -77,32 +81,46 @@ uint64_t oz_find(const uint64_t *names, size_t names_len, const uint32_t *cells,
 /* The pair joins the tree with its place, and the journal has one line more; answers the slot taken, the lowest free
  * one. Refusals 1, 2, 3 with the slot that has the pair, 5, 6. */
 uint64_t oz_insert(uint64_t *names, size_t names_len, uint32_t *cells, size_t cells_len, uint32_t *head,
-                   size_t head_len, uint64_t *lines, size_t lines_len, uint64_t hash, uint64_t key, uint32_t place);
+                   size_t head_len, uint32_t *sizes, size_t sizes_len, uint64_t *lines, size_t lines_len,
+                   uint64_t hash, uint64_t key, uint32_t place);
 
 /* The pair leaves the tree, and the journal has one line more, which notes the pair before it in the chain, if one is;
  * answers the slot freed. Refusals 1, 2, 4, 6. */
 uint64_t oz_remove(uint64_t *names, size_t names_len, uint32_t *cells, size_t cells_len, uint32_t *head,
-                   size_t head_len, uint64_t *lines, size_t lines_len, uint64_t hash, uint64_t key);
+                   size_t head_len, uint32_t *sizes, size_t sizes_len, uint64_t *lines, size_t lines_len,
+                   uint64_t hash, uint64_t key);
 
-/* The pair's place is this one from now on, and nothing else in the tree is another; the journal has one line more, with
- * both places, where they are equal too; answers the slot that has the pair. Refusals 1, 2, 4, 6. */
+/* The pair's place is this one from now on, and nothing else in the tree is another, nor any size; the journal has one
+ * line more, with both places, where they are equal too; answers the slot that has the pair. Refusals 1, 2, 4, 6. */
 uint64_t oz_replace(const uint64_t *names, size_t names_len, uint32_t *cells, size_t cells_len, const uint32_t *head,
-                    size_t head_len, uint64_t *lines, size_t lines_len, uint64_t hash, uint64_t key, uint32_t place);
+                    size_t head_len, const uint32_t *sizes, size_t sizes_len, uint64_t *lines, size_t lines_len,
+                    uint64_t hash, uint64_t key, uint32_t place);
 
 /* Undoes the journal's lines from the last down to number mark; answers how many. To come back to a state, keep the
  * journal's length then, lines[0]: it is the mark. The pairs and places are then those of the mark, and so is their
  * order from first by next. Refusals 1, 2, 7, 8. */
 uint64_t oz_rollback(uint64_t *names, size_t names_len, uint32_t *cells, size_t cells_len, uint32_t *head,
-                     size_t head_len, uint64_t *lines, size_t lines_len, uint32_t mark);
+                     size_t head_len, uint32_t *sizes, size_t sizes_len, uint64_t *lines, size_t lines_len,
+                     uint32_t mark);
 
 /* The source's own check: 0 where it passes, slot + 2^32 * (100 + t) where its test t fails first, at that slot. A tree
  * that passes need not be sound. Refusals 1, 9. */
 uint64_t oz_check(const uint64_t *names, size_t names_len, const uint32_t *cells, size_t cells_len,
                   const uint32_t *head, size_t head_len);
 
-/* The full check: 1 exactly if the tree is sound, else 0. Refusal 1. */
+/* The full check: 1 exactly if the tree is sound, its sizes included, else 0. Refusal 1. */
 uint64_t oz_sound(const uint64_t *names, size_t names_len, const uint32_t *cells, size_t cells_len,
-                  const uint32_t *head, size_t head_len);
+                  const uint32_t *head, size_t head_len, const uint32_t *sizes, size_t sizes_len);
+
+/* The slot of the pair at position k in order, by hash and then key, counted from 0. Refusals 1, 2, 15 where k is not
+ * below the count. */
+uint64_t oz_kth(const uint64_t *names, size_t names_len, const uint32_t *cells, size_t cells_len, const uint32_t *head,
+                size_t head_len, const uint32_t *sizes, size_t sizes_len, uint32_t k);
+
+/* The position of the pair in that order: how many pairs come before it. Refusals 1, 2, 4. */
+uint64_t oz_position(const uint64_t *names, size_t names_len, const uint32_t *cells, size_t cells_len,
+                     const uint32_t *head, size_t head_len, const uint32_t *sizes, size_t sizes_len, uint64_t hash,
+                     uint64_t key);
 
 /* 1 exactly if the frozen set is accepted, else 0. Refusal 1. */
 uint64_t oz_accept(const uint32_t *lengths, size_t lengths_len, const uint32_t *bins, size_t bins_len,

@@ -389,7 +389,23 @@ pub mod driver {
             }
         }
 
-        /// The nine words of a slot and the header, as the index would hold them.
+        /// The number of nodes below each slot's node and itself, counted by the nodes' own left and right; 0 where a slot has no node.
+        pub fn sizes(&self) -> Vec<u32> {
+            fn below(p: P, sizes: &mut [u32]) -> u32 {
+                if p.is_null() {
+                    return 0;
+                }
+                let d = node(p);
+                let size = 1 + below(get(&d.left), sizes) + below(get(&d.right), sizes);
+                sizes[slot(p) as usize] = size;
+                size
+            }
+            let mut sizes = vec![0; self.nodes.len()];
+            below(self.root(), &mut sizes);
+            sizes
+        }
+
+        /// The nine words of a slot, the header and the sizes, as the index would hold them.
         pub fn differs(&self, ix: &oz::Index) -> Option<String> {
             let head = [slot(self.root()), slot(self.first()), self.count];
             if ix.head != head {
@@ -401,6 +417,10 @@ pub mod driver {
                 if ours != (&names[..], &cells[..]) {
                     return Some(format!("slot {i}: ours {:?} {:?}, source {:?} {:?}", ours.0, ours.1, names, cells));
                 }
+            }
+            let sizes = self.sizes();
+            if ix.sizes != sizes {
+                return Some(format!("sizes: ours {:?}, of the source's nodes {sizes:?}", ix.sizes));
             }
             None
         }
@@ -419,6 +439,7 @@ pub mod driver {
 
         /// Writes the words that the index would hold.
         pub fn write(&self, ix: &mut oz::Index) {
+            ix.sizes.copy_from_slice(&self.sizes());
             ix.head.copy_from_slice(&[slot(self.root()), slot(self.first()), self.count]);
             for (i, p) in self.nodes.iter().enumerate() {
                 let (names, cells) = self.words(*p);

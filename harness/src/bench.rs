@@ -160,6 +160,32 @@ fn main() {
         });
         row(&format!("full check (BTreeMap: one walk), {size} slots"), full, None, Some(walk));
         row(&format!("the source's check (BTreeMap: one walk), {size} slots"), own, Some(source), Some(walk));
+        // Positions at a drawn place, each call with its full check; a BTreeMap is counted along.
+        let order: Vec<(u64, u64)> = map.keys().copied().collect();
+        let drawn: Vec<usize> = (0..64).map(|_| order_rng.below(size as u64) as usize).collect();
+        let kth = best(drawn.len(), || {
+            for &k in &drawn {
+                let slot = black_box(ix.kth(k as u32)).value as usize;
+                assert_eq!((ix.names[2 * slot], ix.names[2 * slot + 1]), order[k]);
+            }
+        });
+        let along = best(drawn.len(), || {
+            for &k in &drawn {
+                assert_eq!(black_box(map.iter().nth(k)).unwrap().0, &order[k]);
+            }
+        });
+        row(&format!("the pair at a position, with its full check (BTreeMap: counted along), {size} slots"), kth, None, Some(along));
+        let position = best(drawn.len(), || {
+            for &k in &drawn {
+                assert_eq!(black_box(ix.position(order[k].0, order[k].1)).value as usize, k);
+            }
+        });
+        let before = best(drawn.len(), || {
+            for &k in &drawn {
+                assert_eq!(black_box(map.range(..order[k]).count()), k);
+            }
+        });
+        row(&format!("the position of a pair, with its full check (BTreeMap: counted along), {size} slots"), position, None, Some(before));
     }
     let set = sets::draw(&mut rng, 3, 64, 4096, 0);
     let n = set.names.len() / 2;

@@ -1,4 +1,4 @@
-//! The comparisons with the source's own routines, after every operation every link, colour, root, first and count.
+//! The comparisons with the source's own routines, after every operation every link, colour, root, first, count and size.
 use harness::oz::{self, Index, NULL};
 use harness::rng::Rng;
 use harness::sets;
@@ -28,6 +28,8 @@ struct Counts {
     unplaced: u64,
     whole: u64,
     early: u64,
+    kths: u64,
+    positions: u64,
 }
 
 /// Our index beside a tree of the source.
@@ -109,10 +111,38 @@ impl Pair {
                 counts.unplaced += (at == NULL) as u64;
             }
         }
-        match self.theirs.differs(&self.ours) {
-            Some(what) => Err(what),
-            None => Ok(()),
+        if let Some(what) = self.theirs.differs(&self.ours) {
+            return Err(what);
         }
+        self.ranks(hash, key, counts)
+    }
+
+    /// The pair at a position and the position of a pair, held to the pairs in sorted order: on few slots at every position up to the
+    /// count and of every pair, else at one position that varies; and of the call's own pair.
+    fn ranks(&self, hash: u64, key: u64, counts: &mut Counts) -> Result<(), String> {
+        let ix = &self.ours;
+        let order = oz::in_order(&ix.names, &ix.cells);
+        let asked: Vec<u32> = match ix.slots() {
+            0..=8 => (0..=order.len() as u32).collect(),
+            _ => vec![(counts.finds % (order.len() as u64 + 1)) as u32],
+        };
+        let mut pairs = vec![(hash, key)];
+        for k in asked {
+            let (ours, wanted) = (ix.kth(k), oz::kth_of(&order, k));
+            if ours != wanted {
+                return Err(format!("k-th {k}: ours {ours:?}, by sorting {wanted:?}"));
+            }
+            counts.kths += 1;
+            pairs.extend(order.get(k as usize).map(|&i| (ix.names[2 * i as usize], ix.names[2 * i as usize + 1])));
+        }
+        for (hash, key) in pairs {
+            let (ours, wanted) = (ix.position(hash, key), oz::position_of(&order, &ix.names, hash, key));
+            if ours != wanted {
+                return Err(format!("position of {hash} {key}: ours {ours:?}, by sorting {wanted:?}"));
+            }
+            counts.positions += 1;
+        }
+        Ok(())
     }
 }
 
@@ -576,12 +606,14 @@ fn main() {
     let scale: usize = std::env::args().nth(1).map_or(100, |s| s.parse().expect("a scale in hundredths"));
     let many = |n: usize| (n * scale / 100).max(1);
     let mut report = Report { differences: 0, smallest: BTreeMap::new() };
-    let (mut finds, mut lookups) = (0, 0);
+    let (mut finds, mut lookups, mut kths, mut positions) = (0, 0, 0, 0);
     for by in [By::Drivers, By::Bin] {
         let mut counts = Counts::default();
         let n = if scale < 20 { 5 } else { 7 };
         let (orders, trees) = exhaustive(n, by, &mut counts, &mut report);
         finds += counts.finds;
+        kths += counts.kths;
+        positions += counts.positions;
         println!("{by:?}: {orders} insert orders of {n} pairs, {trees} distinct trees, all removal orders of each");
         println!(
             "  finds with looks {}, inserts {}, removes {}, of these by remove_tree_node whole {}",
@@ -592,6 +624,8 @@ fn main() {
             let mut counts = Counts::default();
             random(&mut rng, by, scripts, pairs, length, &mut counts, &mut report);
             finds += counts.finds;
+            kths += counts.kths;
+            positions += counts.positions;
             println!("{by:?}: {scripts} random scripts over {name}");
             println!(
                 "  finds with looks {}, inserts {} (present {}, full {}), removes {} (absent {}), of these by remove_tree_node whole {}, \
@@ -644,6 +678,9 @@ fn main() {
         println!("smallest, {class}: {what}");
     }
     println!("compared with their looks: finds {}, lookups {lookups}", finds + d.finds);
+    println!(
+        "after every call the sizes were recounted from the source's nodes; held to the sorted pairs: k-th {kths}, position {positions}"
+    );
     println!("differences {}", report.differences);
     std::process::exit((report.differences != 0) as i32);
 }

@@ -20,6 +20,8 @@ mod c {
             cells_len: usize,
             head: *mut u32,
             head_len: usize,
+            sizes: *mut u32,
+            sizes_len: usize,
             lines: *mut u64,
             lines_len: usize,
         ) -> u64;
@@ -30,6 +32,8 @@ mod c {
             cells_len: usize,
             head: *mut u32,
             head_len: usize,
+            sizes: *mut u32,
+            sizes_len: usize,
             lines: *mut u64,
             lines_len: usize,
             hash: u64,
@@ -43,6 +47,8 @@ mod c {
             cells_len: usize,
             head: *mut u32,
             head_len: usize,
+            sizes: *mut u32,
+            sizes_len: usize,
             lines: *mut u64,
             lines_len: usize,
             hash: u64,
@@ -55,6 +61,8 @@ mod c {
             cells_len: usize,
             head: *const u32,
             head_len: usize,
+            sizes: *const u32,
+            sizes_len: usize,
             lines: *mut u64,
             lines_len: usize,
             hash: u64,
@@ -68,14 +76,47 @@ mod c {
             cells_len: usize,
             head: *mut u32,
             head_len: usize,
+            sizes: *mut u32,
+            sizes_len: usize,
             lines: *mut u64,
             lines_len: usize,
             mark: u32,
         ) -> u64;
         pub fn oz_check(names: *const u64, names_len: usize, cells: *const u32, cells_len: usize, head: *const u32, head_len: usize)
             -> u64;
-        pub fn oz_sound(names: *const u64, names_len: usize, cells: *const u32, cells_len: usize, head: *const u32, head_len: usize)
-            -> u64;
+        pub fn oz_sound(
+            names: *const u64,
+            names_len: usize,
+            cells: *const u32,
+            cells_len: usize,
+            head: *const u32,
+            head_len: usize,
+            sizes: *const u32,
+            sizes_len: usize,
+        ) -> u64;
+        pub fn oz_kth(
+            names: *const u64,
+            names_len: usize,
+            cells: *const u32,
+            cells_len: usize,
+            head: *const u32,
+            head_len: usize,
+            sizes: *const u32,
+            sizes_len: usize,
+            k: u32,
+        ) -> u64;
+        pub fn oz_position(
+            names: *const u64,
+            names_len: usize,
+            cells: *const u32,
+            cells_len: usize,
+            head: *const u32,
+            head_len: usize,
+            sizes: *const u32,
+            sizes_len: usize,
+            hash: u64,
+            key: u64,
+        ) -> u64;
         pub fn oz_accept(
             lengths: *const u32,
             lengths_len: usize,
@@ -158,7 +199,7 @@ pub fn find(names: &[u64], cells: &[u32], head: &[u32], hash: u64, key: u64) -> 
     answer(unsafe { c::oz_find(names.as_ptr(), names.len(), cells.as_ptr(), cells.len(), head.as_ptr(), head.len(), hash, key) })
 }
 
-pub fn fresh(names: &mut [u64], cells: &mut [u32], head: &mut [u32], lines: &mut [u64]) -> Answer {
+pub fn fresh(names: &mut [u64], cells: &mut [u32], head: &mut [u32], sizes: &mut [u32], lines: &mut [u64]) -> Answer {
     answer(unsafe {
         c::oz_fresh(
             names.as_mut_ptr(),
@@ -167,13 +208,24 @@ pub fn fresh(names: &mut [u64], cells: &mut [u32], head: &mut [u32], lines: &mut
             cells.len(),
             head.as_mut_ptr(),
             head.len(),
+            sizes.as_mut_ptr(),
+            sizes.len(),
             lines.as_mut_ptr(),
             lines.len(),
         )
     })
 }
 
-pub fn insert(names: &mut [u64], cells: &mut [u32], head: &mut [u32], lines: &mut [u64], hash: u64, key: u64, place: u32) -> Answer {
+pub fn insert(
+    names: &mut [u64],
+    cells: &mut [u32],
+    head: &mut [u32],
+    sizes: &mut [u32],
+    lines: &mut [u64],
+    hash: u64,
+    key: u64,
+    place: u32,
+) -> Answer {
     answer(unsafe {
         c::oz_insert(
             names.as_mut_ptr(),
@@ -182,6 +234,8 @@ pub fn insert(names: &mut [u64], cells: &mut [u32], head: &mut [u32], lines: &mu
             cells.len(),
             head.as_mut_ptr(),
             head.len(),
+            sizes.as_mut_ptr(),
+            sizes.len(),
             lines.as_mut_ptr(),
             lines.len(),
             hash,
@@ -191,7 +245,7 @@ pub fn insert(names: &mut [u64], cells: &mut [u32], head: &mut [u32], lines: &mu
     })
 }
 
-pub fn remove(names: &mut [u64], cells: &mut [u32], head: &mut [u32], lines: &mut [u64], hash: u64, key: u64) -> Answer {
+pub fn remove(names: &mut [u64], cells: &mut [u32], head: &mut [u32], sizes: &mut [u32], lines: &mut [u64], hash: u64, key: u64) -> Answer {
     answer(unsafe {
         c::oz_remove(
             names.as_mut_ptr(),
@@ -200,6 +254,8 @@ pub fn remove(names: &mut [u64], cells: &mut [u32], head: &mut [u32], lines: &mu
             cells.len(),
             head.as_mut_ptr(),
             head.len(),
+            sizes.as_mut_ptr(),
+            sizes.len(),
             lines.as_mut_ptr(),
             lines.len(),
             hash,
@@ -208,7 +264,16 @@ pub fn remove(names: &mut [u64], cells: &mut [u32], head: &mut [u32], lines: &mu
     })
 }
 
-pub fn replace(names: &[u64], cells: &mut [u32], head: &[u32], lines: &mut [u64], hash: u64, key: u64, place: u32) -> Answer {
+pub fn replace(
+    names: &[u64],
+    cells: &mut [u32],
+    head: &[u32],
+    sizes: &[u32],
+    lines: &mut [u64],
+    hash: u64,
+    key: u64,
+    place: u32,
+) -> Answer {
     answer(unsafe {
         c::oz_replace(
             names.as_ptr(),
@@ -217,6 +282,8 @@ pub fn replace(names: &[u64], cells: &mut [u32], head: &[u32], lines: &mut [u64]
             cells.len(),
             head.as_ptr(),
             head.len(),
+            sizes.as_ptr(),
+            sizes.len(),
             lines.as_mut_ptr(),
             lines.len(),
             hash,
@@ -226,7 +293,7 @@ pub fn replace(names: &[u64], cells: &mut [u32], head: &[u32], lines: &mut [u64]
     })
 }
 
-pub fn rollback(names: &mut [u64], cells: &mut [u32], head: &mut [u32], lines: &mut [u64], mark: u32) -> Answer {
+pub fn rollback(names: &mut [u64], cells: &mut [u32], head: &mut [u32], sizes: &mut [u32], lines: &mut [u64], mark: u32) -> Answer {
     answer(unsafe {
         c::oz_rollback(
             names.as_mut_ptr(),
@@ -235,6 +302,8 @@ pub fn rollback(names: &mut [u64], cells: &mut [u32], head: &mut [u32], lines: &
             cells.len(),
             head.as_mut_ptr(),
             head.len(),
+            sizes.as_mut_ptr(),
+            sizes.len(),
             lines.as_mut_ptr(),
             lines.len(),
             mark,
@@ -246,8 +315,33 @@ pub fn check(names: &[u64], cells: &[u32], head: &[u32]) -> Answer {
     answer(unsafe { c::oz_check(names.as_ptr(), names.len(), cells.as_ptr(), cells.len(), head.as_ptr(), head.len()) })
 }
 
-pub fn sound(names: &[u64], cells: &[u32], head: &[u32]) -> Answer {
-    answer(unsafe { c::oz_sound(names.as_ptr(), names.len(), cells.as_ptr(), cells.len(), head.as_ptr(), head.len()) })
+pub fn sound(names: &[u64], cells: &[u32], head: &[u32], sizes: &[u32]) -> Answer {
+    answer(unsafe {
+        c::oz_sound(names.as_ptr(), names.len(), cells.as_ptr(), cells.len(), head.as_ptr(), head.len(), sizes.as_ptr(), sizes.len())
+    })
+}
+
+pub fn kth(names: &[u64], cells: &[u32], head: &[u32], sizes: &[u32], k: u32) -> Answer {
+    answer(unsafe {
+        c::oz_kth(names.as_ptr(), names.len(), cells.as_ptr(), cells.len(), head.as_ptr(), head.len(), sizes.as_ptr(), sizes.len(), k)
+    })
+}
+
+pub fn position(names: &[u64], cells: &[u32], head: &[u32], sizes: &[u32], hash: u64, key: u64) -> Answer {
+    answer(unsafe {
+        c::oz_position(
+            names.as_ptr(),
+            names.len(),
+            cells.as_ptr(),
+            cells.len(),
+            head.as_ptr(),
+            head.len(),
+            sizes.as_ptr(),
+            sizes.len(),
+            hash,
+            key,
+        )
+    })
 }
 
 pub fn accept(lengths: &[u32], bins: &[u32], heads: &[u32], names: &[u64], cells: &[u32]) -> Answer {
@@ -354,6 +448,38 @@ pub fn listing(names: &[u64], cells: &[u32], head: &[u32]) -> Vec<Entry> {
     all
 }
 
+/// The number of used slots in each slot's subtree, counted by the parent links alone: each used slot counts in itself and in every slot
+/// above it. 0 in a free slot. The tree is sound.
+pub fn climbed_sizes(cells: &[u32]) -> Vec<u32> {
+    let mut sizes = vec![0; cells.len() / 7];
+    for i in 0..sizes.len() {
+        let mut at = i as u32;
+        while cells[7 * i + STATE] != 0 && at != NULL {
+            sizes[at as usize] += 1;
+            at = cells[7 * at as usize + PARENT];
+        }
+    }
+    sizes
+}
+
+/// The used slots in the order of their pairs, by sorting: no link is read.
+pub fn in_order(names: &[u64], cells: &[u32]) -> Vec<u32> {
+    let mut used: Vec<u32> = (0..cells.len() / 7).filter(|i| cells[7 * i + STATE] != 0).map(|i| i as u32).collect();
+    used.sort_by_key(|&i| (names[2 * i as usize], names[2 * i as usize + 1]));
+    used
+}
+
+/// What the k-th call is to answer on a sound tree whose used slots have this order.
+pub fn kth_of(order: &[u32], k: u32) -> Answer {
+    order.get(k as usize).map_or(Answer::plain(15, 0), |&slot| Answer::plain(0, slot))
+}
+
+/// What the position call is to answer there.
+pub fn position_of(order: &[u32], names: &[u64], hash: u64, key: u64) -> Answer {
+    let has = |&i: &u32| names[2 * i as usize..2 * i as usize + 2] == [hash, key];
+    order.iter().position(has).map_or(Answer::plain(4, 0), |k| Answer::plain(0, k as u32))
+}
+
 /// What the rules say that the entries along the chain are once the lines from the mark on are undone; None where they do not fit.
 pub fn undone(mut list: Vec<Entry>, slots: usize, lines: &[u64], mark: usize) -> Option<Vec<Entry>> {
     for k in (mark..lines[0] as usize).rev() {
@@ -388,19 +514,32 @@ pub struct Index {
     pub names: Vec<u64>,
     pub cells: Vec<u32>,
     pub head: Vec<u32>,
+    pub sizes: Vec<u32>,
     pub lines: Vec<u64>,
 }
 
 impl Index {
-    /// An empty index of so many slots and lines, written by fresh over words that are none of it; by hand where the sizes are no index's.
+    /// An empty index of so many slots and lines, written by fresh over words that are none of it; by hand where no index has so many.
     pub fn new(slots: usize, lines: usize) -> Self {
-        let mut ix = Index { names: vec![7; 2 * slots], cells: vec![7; 7 * slots], head: vec![7; 3], lines: vec![7; 1 + LINE_WORDS * lines] };
-        let made = fresh(&mut ix.names, &mut ix.cells, &mut ix.head, &mut ix.lines);
+        let mut ix = Index {
+            names: vec![7; 2 * slots],
+            cells: vec![7; 7 * slots],
+            head: vec![7; 3],
+            sizes: vec![7; slots],
+            lines: vec![7; 1 + LINE_WORDS * lines],
+        };
+        let made = fresh(&mut ix.names, &mut ix.cells, &mut ix.head, &mut ix.sizes, &mut ix.lines);
         let fits = (1..=4096).contains(&slots) && lines <= 1024;
         assert_eq!(made, if fits { Answer::plain(0, 1) } else { Answer::plain(1, 0) }, "fresh of {slots} slots, {lines} lines");
         if !fits {
             let cells = (0..slots).flat_map(|_| [0, 0, NULL, NULL, NULL, NULL, NULL]).collect();
-            ix = Index { names: vec![0; 2 * slots], cells, head: vec![NULL, NULL, 0], lines: vec![0; 1 + LINE_WORDS * lines] };
+            ix = Index {
+                names: vec![0; 2 * slots],
+                cells,
+                head: vec![NULL, NULL, 0],
+                sizes: vec![0; slots],
+                lines: vec![0; 1 + LINE_WORDS * lines],
+            };
         }
         ix
     }
@@ -423,19 +562,19 @@ impl Index {
     }
 
     pub fn insert(&mut self, hash: u64, key: u64, place: u32) -> Answer {
-        insert(&mut self.names, &mut self.cells, &mut self.head, &mut self.lines, hash, key, place)
+        insert(&mut self.names, &mut self.cells, &mut self.head, &mut self.sizes, &mut self.lines, hash, key, place)
     }
 
     pub fn remove(&mut self, hash: u64, key: u64) -> Answer {
-        remove(&mut self.names, &mut self.cells, &mut self.head, &mut self.lines, hash, key)
+        remove(&mut self.names, &mut self.cells, &mut self.head, &mut self.sizes, &mut self.lines, hash, key)
     }
 
     pub fn replace(&mut self, hash: u64, key: u64, place: u32) -> Answer {
-        replace(&self.names, &mut self.cells, &self.head, &mut self.lines, hash, key, place)
+        replace(&self.names, &mut self.cells, &self.head, &self.sizes, &mut self.lines, hash, key, place)
     }
 
-    /// Whether, after a replace, nothing but the place of the pair and one line are others than before: no name, link, colour or chain
-    /// word, nor the header. Where no slot has the pair, nothing at all.
+    /// Whether, after a replace, nothing but the place of the pair and one line are others than before: no name, link, colour, chain
+    /// word or size, nor the header. Where no slot has the pair, nothing at all.
     pub fn only_place(&self, before: &Index, hash: u64, key: u64, place: u32) -> bool {
         let has = |i: &usize| before.cells[7 * i + STATE] != 0 && before.names[2 * i..2 * i + 2] == [hash, key];
         let mut wanted = before.clone();
@@ -450,7 +589,7 @@ impl Index {
     }
 
     pub fn rollback(&mut self, mark: u32) -> Answer {
-        rollback(&mut self.names, &mut self.cells, &mut self.head, &mut self.lines, mark)
+        rollback(&mut self.names, &mut self.cells, &mut self.head, &mut self.sizes, &mut self.lines, mark)
     }
 
     pub fn listing(&self) -> Vec<Entry> {
@@ -462,7 +601,15 @@ impl Index {
     }
 
     pub fn sound(&self) -> Answer {
-        sound(&self.names, &self.cells, &self.head)
+        sound(&self.names, &self.cells, &self.head, &self.sizes)
+    }
+
+    pub fn kth(&self, k: u32) -> Answer {
+        kth(&self.names, &self.cells, &self.head, &self.sizes, k)
+    }
+
+    pub fn position(&self, hash: u64, key: u64) -> Answer {
+        position(&self.names, &self.cells, &self.head, &self.sizes, hash, key)
     }
 }
 

@@ -43,6 +43,7 @@ struct Live {
     names: Lent<u64>,
     cells: Lent<u32>,
     head: Lent<u32>,
+    sizes: Lent<u32>,
     lines: Lent<u64>,
 }
 
@@ -52,6 +53,7 @@ impl Live {
             names: Lent::new(&ix.names, G64),
             cells: Lent::new(&ix.cells, G32),
             head: Lent::new(&ix.head, G32),
+            sizes: Lent::new(&ix.sizes, G32),
             lines: Lent::new(&ix.lines, G64),
         }
     }
@@ -61,7 +63,54 @@ impl Live {
     }
 
     fn guarded(&self) -> bool {
-        self.names.guarded(G64) && self.cells.guarded(G32) && self.head.guarded(G32) && self.lines.guarded(G64)
+        let small = [&self.cells, &self.head, &self.sizes];
+        self.names.guarded(G64) && self.lines.guarded(G64) && small.iter().all(|lent| lent.guarded(G32))
+    }
+
+    /// Whether the sizes of a sound tree are those that its parent links give.
+    fn sized(&self) -> bool {
+        self.sizes.get() == oz::climbed_sizes(self.cells.get())
+    }
+
+    fn insert(&mut self, hash: u64, key: u64, place: u32) -> oz::Answer {
+        oz::insert(self.names.lend(), self.cells.lend(), self.head.lend(), self.sizes.lend(), self.lines.lend(), hash, key, place)
+    }
+
+    fn remove(&mut self, hash: u64, key: u64) -> oz::Answer {
+        oz::remove(self.names.lend(), self.cells.lend(), self.head.lend(), self.sizes.lend(), self.lines.lend(), hash, key)
+    }
+
+    fn replace(&mut self, hash: u64, key: u64, place: u32) -> oz::Answer {
+        oz::replace(self.names.get(), self.cells.lend(), self.head.get(), self.sizes.get(), self.lines.lend(), hash, key, place)
+    }
+
+    fn rollback(&mut self, mark: u32) -> oz::Answer {
+        oz::rollback(self.names.lend(), self.cells.lend(), self.head.lend(), self.sizes.lend(), self.lines.lend(), mark)
+    }
+
+    fn fresh(&mut self) -> oz::Answer {
+        oz::fresh(self.names.lend(), self.cells.lend(), self.head.lend(), self.sizes.lend(), self.lines.lend())
+    }
+
+    fn sound(&self) -> oz::Answer {
+        oz::sound(self.names.get(), self.cells.get(), self.head.get(), self.sizes.get())
+    }
+
+    fn kth(&self, k: u32) -> oz::Answer {
+        oz::kth(self.names.get(), self.cells.get(), self.head.get(), self.sizes.get(), k)
+    }
+
+    fn position(&self, hash: u64, key: u64) -> oz::Answer {
+        oz::position(self.names.get(), self.cells.get(), self.head.get(), self.sizes.get(), hash, key)
+    }
+
+    /// What the k-th call and the position call are to answer: 1 and 2 as the full check says, else by the sorted pairs.
+    fn ranked(&self, by_order: impl Fn(&[u32]) -> oz::Answer) -> oz::Answer {
+        match self.sound() {
+            oz::Answer { number: 1, .. } => oz::Answer::plain(1, 0),
+            oz::Answer { value: 0, .. } => oz::Answer::plain(2, 0),
+            _ => by_order(&oz::in_order(self.names.get(), self.cells.get())),
+        }
     }
 }
 
@@ -144,7 +193,7 @@ fn live(rng: &mut Rng) -> Live {
             for w in ix.cells.iter_mut() {
                 *w = word32(rng, slots as u64);
             }
-            for w in ix.head.iter_mut() {
+            for w in ix.head.iter_mut().chain(ix.sizes.iter_mut()) {
                 *w = word32(rng, slots as u64);
             }
             for w in ix.names.iter_mut() {
@@ -156,7 +205,11 @@ fn live(rng: &mut Rng) -> Live {
         }
         _ => {
             for _ in 0..rng.below(4) {
-                match rng.below(8) {
+                match rng.below(9) {
+                    8 => {
+                        let i = rng.below(ix.sizes.len() as u64) as usize;
+                        ix.sizes[i] = word32(rng, slots as u64);
+                    }
                     0 => {
                         let i = rng.below(ix.names.len() as u64) as usize;
                         ix.names[i] = word64(rng, 3);
@@ -175,6 +228,8 @@ fn live(rng: &mut Rng) -> Live {
         }
     }
     let (a, b, c, d) = (length(rng, 2 * slots), length(rng, 7 * slots), length(rng, 3), length(rng, 1 + LINE_WORDS * capacity));
+    let e = length(rng, slots);
+    resize(&mut ix.sizes, e, 0);
     resize(&mut ix.names, a, 0);
     resize(&mut ix.cells, b, NULL);
     resize(&mut ix.head, c, NULL);
@@ -210,7 +265,7 @@ fn drawn_calls(rng: &mut Rng, tally: &mut Tally) {
     let mut l = drawn(rng);
     let before = l.clone();
     let mark = rng.below(before.lines.get()[0] + 1) as u32;
-    let answer = oz::rollback(l.names.lend(), l.cells.lend(), l.head.lend(), l.lines.lend(), mark);
+    let answer = l.rollback(mark);
     tally.note("rollback", answer, l.names.len / 2, if answer.number == 0 { l.guarded() } else { l == before });
     tally.foretell(&before, &l, mark, answer);
 }
@@ -224,6 +279,8 @@ struct Tally {
     rollbacks: u64,
     noted: u64,
     unforetold: u64,
+    ranks: u64,
+    misranked: u64,
     by: BTreeMap<(&'static str, u32), u64>,
 }
 
@@ -239,6 +296,15 @@ impl Tally {
         if !foretold(before, after, mark, answer.number) {
             self.unforetold += 1;
             println!("foretold otherwise: rollback to {mark} answered {answer:?}");
+        }
+    }
+
+    /// An answer of the k-th call or of the position call, and the one that it is to have.
+    fn rank(&mut self, name: &'static str, answer: oz::Answer, wanted: oz::Answer) {
+        self.ranks += 1;
+        if answer != wanted {
+            self.misranked += 1;
+            println!("ranks: {name} answered {answer:?}, wanted {wanted:?}");
         }
     }
 
@@ -262,11 +328,11 @@ impl Tally {
     }
 }
 
-/// Whether a replace that answered this slot has changed no name, no word of the header and no cell but the slot's place.
+/// Whether a replace that answered this slot has changed no name, no word of the header, no size and no cell but the slot's place.
 fn placed(before: &Live, after: &Live, slot: u32) -> bool {
     let at = GUARD + 7 * slot as usize + oz::PLACE;
     let others = |l: &Live| [&l.cells.all[..at], &l.cells.all[at + 1..]].concat();
-    before.names == after.names && before.head == after.head && others(before) == others(after)
+    before.names == after.names && before.head == after.head && before.sizes == after.sizes && others(before) == others(after)
 }
 
 /// Whether a remove that was accepted left the line that the rules say: with the pair before in the chain, if there was one.
@@ -278,10 +344,11 @@ fn noted(before: &Live, after: &Live, hash: u64, key: u64) -> bool {
     after.lines.get()[at..at + LINE_WORDS] == [kind, hash, key, list[i].2 as u64, prior.0, prior.1]
 }
 
-/// Whether a rollback that answered 0 or 8 did what the rules say of the lines: the entries along the chain, or that they do not fit.
+/// Whether a rollback that answered 0 or 8 did what the rules say of the lines: the entries along the chain with the sizes of their tree,
+/// or that they do not fit.
 fn foretold(before: &Live, after: &Live, mark: u32, number: u32) -> bool {
     match oz::undone(before.listing(), before.names.len / 2, before.lines.get(), mark as usize) {
-        Some(list) => number == 0 && after.listing() == list,
+        Some(list) => number == 0 && after.listing() == list && after.sized(),
         None => number == 8,
     }
 }
@@ -292,24 +359,35 @@ fn live_calls(rng: &mut Rng, tally: &mut Tally) {
     for _ in 0..8 {
         let (h, k) = if rng.below(4) == 0 { (word64(rng, 3), word64(rng, 9)) } else { (rng.below(3), rng.below(8)) };
         let mark = word32(rng, 3);
-        let (name, answer) = match rng.below(21) / 2 {
-            10 => ("fresh", oz::fresh(l.names.lend(), l.cells.lend(), l.head.lend(), l.lines.lend())),
+        let (name, answer) = match rng.below(25) / 2 {
+            12 => ("fresh", l.fresh()),
             0 => ("find", oz::find(l.names.get(), l.cells.get(), l.head.get(), h, k)),
             1 => ("check", oz::check(l.names.get(), l.cells.get(), l.head.get())),
             2 => {
-                let answer = oz::sound(l.names.get(), l.cells.get(), l.head.get());
+                let answer = l.sound();
                 (if answer.value == 1 { "sound, yes," } else { "sound" }, answer)
             }
-            3 | 4 => ("insert", oz::insert(l.names.lend(), l.cells.lend(), l.head.lend(), l.lines.lend(), h, k, 5)),
-            5 | 6 => ("remove", oz::remove(l.names.lend(), l.cells.lend(), l.head.lend(), l.lines.lend(), h, k)),
-            7 => ("replace", oz::replace(l.names.get(), l.cells.lend(), l.head.get(), l.lines.lend(), h, k, word32(rng, 9))),
-            _ => ("rollback", oz::rollback(l.names.lend(), l.cells.lend(), l.head.lend(), l.lines.lend(), mark)),
+            3 | 4 => ("insert", l.insert(h, k, 5)),
+            5 | 6 => ("remove", l.remove(h, k)),
+            7 => ("replace", l.replace(h, k, word32(rng, 9))),
+            8 => {
+                let k = word32(rng, 5);
+                let answer = l.kth(k);
+                tally.rank("kth", answer, l.ranked(|order| oz::kth_of(order, k)));
+                ("kth", answer)
+            }
+            9 => {
+                let answer = l.position(h, k);
+                tally.rank("position", answer, l.ranked(|order| oz::position_of(order, l.names.get(), h, k)));
+                ("position", answer)
+            }
+            _ => ("rollback", l.rollback(mark)),
         };
         let writes = matches!(name, "fresh" | "insert" | "remove" | "replace" | "rollback") && answer.number == 0;
         let fine = match name {
             "replace" if writes => l.guarded() && placed(&before, &l, answer.value),
-            "remove" if writes => l.guarded() && noted(&before, &l, h, k),
-            _ if writes => l.guarded(),
+            "remove" if writes => l.guarded() && l.sized() && noted(&before, &l, h, k),
+            _ if writes => l.guarded() && l.sized(),
             _ => l == before,
         };
         tally.note(name, answer, l.names.len / 2, fine);
@@ -421,7 +499,8 @@ fn contents(ix: &Index) -> Vec<oz::Entry> {
 }
 
 /// Demand 3: any calls, replaces among them, after a mark, then a rollback to it: the entries are those of the mark, and so is their
-/// order along the chain. Below the mark and past the length the journal is garbage.
+/// order along the chain. After every call the sizes are those of the tree, and a refused one changes no word. Below the mark and past
+/// the length the journal is garbage.
 fn demand3(rng: &mut Rng) -> (u64, Result<u64, String>) {
     let slots = 1 + rng.below(12) as usize;
     let capacity = rng.below(24) as usize;
@@ -443,21 +522,22 @@ fn demand3(rng: &mut Rng) -> (u64, Result<u64, String>) {
     let calls = rng.below(60);
     for _ in 0..calls {
         let (h, k) = (rng.below(2), rng.below(pairs));
-        match rng.below(13) {
+        let before = ix.clone();
+        let answer = match rng.below(13) {
             0 => {
                 let length = ix.lines[0];
                 let mark = m as u64 + rng.below(length - m as u64 + 2);
-                ix.rollback(mark as u32);
+                ix.rollback(mark as u32)
             }
-            1..=4 => {
-                ix.remove(h, k);
-            }
-            5..=7 => {
-                ix.replace(h, k, rng.next() as u32);
-            }
-            _ => {
-                ix.insert(h, k, rng.next() as u32);
-            }
+            1..=4 => ix.remove(h, k),
+            5..=7 => ix.replace(h, k, rng.next() as u32),
+            _ => ix.insert(h, k, rng.next() as u32),
+        };
+        if answer.number != 0 && ix != before {
+            return (calls, Err(format!("a refused call, {answer:?}, has changed a word: {before:?} to {ix:?}")));
+        }
+        if ix.sizes != oz::climbed_sizes(&ix.cells) {
+            return (calls, Err(format!("sizes after {answer:?}: {before:?} to {ix:?}")));
         }
     }
     let before = ix.clone();
@@ -475,6 +555,9 @@ fn demand3(rng: &mut Rng) -> (u64, Result<u64, String>) {
     }
     if ix.listing() != listed {
         return fail("listing");
+    }
+    if ix.sizes != oz::climbed_sizes(&ix.cells) {
+        return fail("sizes");
     }
     if ix.lines[0] as usize != m || ix.lines[1..1 + LINE_WORDS * m] != kept[..] {
         return fail("lines below the mark");
@@ -511,6 +594,7 @@ fn main() {
         "rollbacks that answered 0 or 8 {}, {} of them with a noted pair undone; another number or another listing than the lines say: {}",
         tally.rollbacks, tally.noted, tally.unforetold
     );
+    println!("k-th and position {}; another answer than the sorted pairs and the full check give: {}", tally.ranks, tally.misranked);
     let runs = calls / 100;
     let (mut made, mut undone, mut wrong) = (0, 0, 0);
     for _ in 0..runs {
@@ -525,5 +609,5 @@ fn main() {
         }
     }
     println!("demand 3: {runs} runs, {made} calls after the mark, {undone} lines undone by the last rollback, wrong {wrong}");
-    std::process::exit((tally.touched + tally.strange + tally.unforetold + wrong != 0) as i32);
+    std::process::exit((tally.touched + tally.strange + tally.unforetold + tally.misranked + wrong != 0) as i32);
 }

@@ -14,6 +14,7 @@ back o = record {
   names = o .desk .index .live .names;
   cells = o .desk .index .live .cells;
   head = o .desk .index .live .head;
+  sizes = o .desk .index .live .sizes;
   lines = o .desk .index .lines;
   out = o .desk .paper .bytes;
 }

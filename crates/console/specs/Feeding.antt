@@ -9,17 +9,18 @@ use Rattle.script_rules.specs.Feeding.{Desk, blank as blankLine, feeds, ends}
 use Rattle.console.specs.Meanings.{lineOf, fedOf}
 use Rattle.console.specs.declared.feed.Fed.{Fed}
 
--- What a call returns, and the words of the five slices after it.
+-- What a call returns, and the words of the six slices after it.
 pub record Call : Type 0 where
   pub fed : Fed
   pub names : List ℕ
   pub cells : List ℕ
   pub head : List ℕ
+  pub sizes : List ℕ
   pub lines : List ℕ
   pub out : List ℕ
 
 abbrev pub indexOf : Call → Index
-indexOf c = record { live = record { names = c .names; cells = c .cells; head = c .head }; lines = c .lines }
+indexOf c = record { live = record { names = c .names; cells = c .cells; head = c .head; sizes = c .sizes }; lines = c .lines }
 
 pub record Feeding : Type 0 where
   pub blank-one : OneAnswer (λ l. lineOf l ≡ blankLine)

@@ -23,7 +23,7 @@ use slots::name;
 use slots::word;
 use tree::find::Counted;
 ghost use mathlib.Core.Path.{_≡_};
-ghost use Rattle.index_rules.specs.Live.{lentTree};
+ghost use Rattle.index_rules.specs.Live.{lentTree, unsized};
 ghost use Rattle.index_rules.specs.Find.{finds};
 ghost use Rattle.index_rules.specs.Index.{lent};
 ghost use Rattle.slots.specs.Coded.{answerOf};
@@ -125,11 +125,19 @@ fn tell_entries(
     end
 }
 
-fn tell_list(out: &mut [u8], at: usize, names: &[u64], cells: &[u32], head: &[u32]) -> usize
+fn tell_list(
+    out: &mut [u8],
+    at: usize,
+    names: &[u64],
+    cells: &[u32],
+    head: &[u32],
+    sizes: &[u32],
+) -> usize
     ensures { λ r. ⌜ lentPaper (now (out .exit)) r
-        ≡ typed (lentPaper (now (out .entry)) at) (listing (lentTree (now (names .entry)) (now (cells .entry)) (now (head .entry)))) ⌝ }
+        ≡ typed (lentPaper (now (out .entry)) at)
+        (listing (lentTree (now (names .entry)) (now (cells .entry)) (now (head .entry)) (now (sizes .entry)))) ⌝ }
 {
-    if !fit(names, cells, head) {
+    if !fit(names, cells, head, sizes) {
         return tell(out, at, b"no ", 1);
     }
     let first = word(head, FIRST, NULL);
@@ -147,13 +155,14 @@ fn tell_mark(
     names: &[u64],
     cells: &[u32],
     head: &[u32],
+    sizes: &[u32],
     lines: &[u64],
 ) -> usize
     ensures { λ r. ⌜ lentPaper (now (out .exit)) r
         ≡ typed (lentPaper (now (out .entry)) at)
-        (marking (lent (now (names .entry)) (now (cells .entry)) (now (head .entry)) (now (lines .entry)))) ⌝ }
+        (marking (lent (now (names .entry)) (now (cells .entry)) (now (head .entry)) (now (sizes .entry)) (now (lines .entry)))) ⌝ }
 {
-    if !fit(names, cells, head) {
+    if !fit(names, cells, head, sizes) {
         return tell(out, at, b"no ", 1);
     }
     if !fit_journal(lines) {
@@ -167,6 +176,7 @@ fn obey_insert(
     names: &mut [u64],
     cells: &mut [u32],
     head: &mut [u32],
+    sizes: &mut [u32],
     lines: &mut [u64],
     out: &mut [u8],
     at: usize,
@@ -174,11 +184,12 @@ fn obey_insert(
     key: u64,
     place: u32,
 ) -> usize
-    ensures { λ r. ⌜ lentTurn (now (names .exit)) (now (cells .exit)) (now (head .exit)) (now (lines .exit)) (now (out .exit)) r
-        ≡ performed (lent (now (names .entry)) (now (cells .entry)) (now (head .entry)) (now (lines .entry)))
+    ensures { λ r. ⌜ lentTurn (now (names .exit)) (now (cells .exit)) (now (head .exit)) (now (sizes .exit)) (now (lines .exit))
+        (now (out .exit)) r
+        ≡ performed (lent (now (names .entry)) (now (cells .entry)) (now (head .entry)) (now (sizes .entry)) (now (lines .entry)))
         (lentPaper (now (out .entry)) at) (inserting hash key place) ⌝ }
 {
-    let done = insert(names, cells, head, lines, hash, key, place);
+    let done = insert(names, cells, head, sizes, lines, hash, key, place);
     tell_answer(out, at, b"slot ", done.answer())
 }
 
@@ -186,17 +197,19 @@ fn obey_remove(
     names: &mut [u64],
     cells: &mut [u32],
     head: &mut [u32],
+    sizes: &mut [u32],
     lines: &mut [u64],
     out: &mut [u8],
     at: usize,
     hash: u64,
     key: u64,
 ) -> usize
-    ensures { λ r. ⌜ lentTurn (now (names .exit)) (now (cells .exit)) (now (head .exit)) (now (lines .exit)) (now (out .exit)) r
-        ≡ performed (lent (now (names .entry)) (now (cells .entry)) (now (head .entry)) (now (lines .entry)))
+    ensures { λ r. ⌜ lentTurn (now (names .exit)) (now (cells .exit)) (now (head .exit)) (now (sizes .exit)) (now (lines .exit))
+        (now (out .exit)) r
+        ≡ performed (lent (now (names .entry)) (now (cells .entry)) (now (head .entry)) (now (sizes .entry)) (now (lines .entry)))
         (lentPaper (now (out .entry)) at) (removing hash key) ⌝ }
 {
-    let done = remove(names, cells, head, lines, hash, key);
+    let done = remove(names, cells, head, sizes, lines, hash, key);
     tell_answer(out, at, b"gone ", done.answer())
 }
 
@@ -204,16 +217,18 @@ fn obey_rollback(
     names: &mut [u64],
     cells: &mut [u32],
     head: &mut [u32],
+    sizes: &mut [u32],
     lines: &mut [u64],
     out: &mut [u8],
     at: usize,
     to: u32,
 ) -> usize
-    ensures { λ r. ⌜ lentTurn (now (names .exit)) (now (cells .exit)) (now (head .exit)) (now (lines .exit)) (now (out .exit)) r
-        ≡ performed (lent (now (names .entry)) (now (cells .entry)) (now (head .entry)) (now (lines .entry)))
+    ensures { λ r. ⌜ lentTurn (now (names .exit)) (now (cells .exit)) (now (head .exit)) (now (sizes .exit)) (now (lines .exit))
+        (now (out .exit)) r
+        ≡ performed (lent (now (names .entry)) (now (cells .entry)) (now (head .entry)) (now (sizes .entry)) (now (lines .entry)))
         (lentPaper (now (out .entry)) at) (rolling to) ⌝ }
 {
-    let done = rollback(names, cells, head, lines, to);
+    let done = rollback(names, cells, head, sizes, lines, to);
     tell_answer(out, at, b"back ", done.answer())
 }
 
@@ -265,7 +280,7 @@ fn tell_find(
 ) -> usize
     ensures { λ r. ⌜ lentPaper (now (out .exit)) r
         ≡ typed (lentPaper (now (out .entry)) at)
-        (searchLine (countedLooks (finds (lentTree (now (names .entry)) (now (cells .entry)) (now (head .entry))) hash key))) ⌝ }
+        (searchLine (countedLooks (finds (unsized (now (names .entry)) (now (cells .entry)) (now (head .entry))) hash key))) ⌝ }
 {
     let found = find(names, cells, head, hash, key);
     tell_search(out, at, found.counted())
@@ -277,32 +292,34 @@ pub(crate) fn obey(
     names: &mut [u64],
     cells: &mut [u32],
     head: &mut [u32],
+    sizes: &mut [u32],
     lines: &mut [u64],
     out: &mut [u8],
     at: usize,
 ) -> usize
-    ensures { λ r. ⌜ lentTurn (now (names .exit)) (now (cells .exit)) (now (head .exit)) (now (lines .exit)) (now (out .exit)) r
-        ≡ performed (lent (now (names .entry)) (now (cells .entry)) (now (head .entry)) (now (lines .entry)))
+    ensures { λ r. ⌜ lentTurn (now (names .exit)) (now (cells .exit)) (now (head .exit)) (now (sizes .exit)) (now (lines .exit))
+        (now (out .exit)) r
+        ≡ performed (lent (now (names .entry)) (now (cells .entry)) (now (head .entry)) (now (sizes .entry)) (now (lines .entry)))
         (lentPaper (now (out .entry)) at) (commandOf command) ⌝ }
 {
     match command {
         Command::Insert(hash, key, place) => {
-            return obey_insert(names, cells, head, lines, out, at, hash, key, place);
+            return obey_insert(names, cells, head, sizes, lines, out, at, hash, key, place);
         }
         Command::Remove(hash, key) => {
-            return obey_remove(names, cells, head, lines, out, at, hash, key);
+            return obey_remove(names, cells, head, sizes, lines, out, at, hash, key);
         }
         Command::Find(hash, key) => {
             return tell_find(out, at, names, cells, head, hash, key);
         }
         Command::Rollback(to) => {
-            return obey_rollback(names, cells, head, lines, out, at, to);
+            return obey_rollback(names, cells, head, sizes, lines, out, at, to);
         }
         Command::Mark => {
-            return tell_mark(out, at, names, cells, head, lines);
+            return tell_mark(out, at, names, cells, head, sizes, lines);
         }
         Command::List => {
-            return tell_list(out, at, names, cells, head);
+            return tell_list(out, at, names, cells, head, sizes);
         }
         Command::Bad => {
             return put_word(out, at, b"bad\n");

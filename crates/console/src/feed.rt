@@ -63,16 +63,18 @@ fn reply(
     names: &mut [u64],
     cells: &mut [u32],
     head: &mut [u32],
+    sizes: &mut [u32],
     lines: &mut [u64],
     out: &mut [u8],
     at: usize,
 ) -> usize
-    ensures { λ r. ⌜ lentTurn (now (names .exit)) (now (cells .exit)) (now (head .exit)) (now (lines .exit)) (now (out .exit)) r
-        ≡ performed (lent (now (names .entry)) (now (cells .entry)) (now (head .entry)) (now (lines .entry)))
+    ensures { λ r. ⌜ lentTurn (now (names .exit)) (now (cells .exit)) (now (head .exit)) (now (sizes .exit)) (now (lines .exit))
+        (now (out .exit)) r
+        ≡ performed (lent (now (names .entry)) (now (cells .entry)) (now (head .entry)) (now (sizes .entry)) (now (lines .entry)))
         (lentPaper (now (out .entry)) at) (spoken (now (line .entry))) ⌝ }
 {
     let command = meaning(line);
-    obey(command, names, cells, head, lines, out, at)
+    obey(command, names, cells, head, sizes, lines, out, at)
 }
 
 // Answers the first bytes of those that were kept.
@@ -82,18 +84,20 @@ fn reply_first(
     names: &mut [u64],
     cells: &mut [u32],
     head: &mut [u32],
+    sizes: &mut [u32],
     lines: &mut [u64],
     out: &mut [u8],
     at: usize,
 ) -> usize
-    ensures { λ r. ⌜ lentTurn (now (names .exit)) (now (cells .exit)) (now (head .exit)) (now (lines .exit)) (now (out .exit)) r
-        ≡ performed (lent (now (names .entry)) (now (cells .entry)) (now (head .entry)) (now (lines .entry)))
+    ensures { λ r. ⌜ lentTurn (now (names .exit)) (now (cells .exit)) (now (head .exit)) (now (sizes .exit)) (now (lines .exit))
+        (now (out .exit)) r
+        ≡ performed (lent (now (names .entry)) (now (cells .entry)) (now (head .entry)) (now (sizes .entry)) (now (lines .entry)))
         (lentPaper (now (out .entry)) at) (spoken (take count (now (bytes .entry)))) ⌝ }
 {
     if bytes.len() <= count {
-        return reply(bytes, names, cells, head, lines, out, at);
+        return reply(bytes, names, cells, head, sizes, lines, out, at);
     }
-    reply(&bytes[..count], names, cells, head, lines, out, at)
+    reply(&bytes[..count], names, cells, head, sizes, lines, out, at)
 }
 
 // Answers the line that was kept.
@@ -102,16 +106,28 @@ fn reply_kept(
     names: &mut [u64],
     cells: &mut [u32],
     head: &mut [u32],
+    sizes: &mut [u32],
     lines: &mut [u64],
     out: &mut [u8],
     at: usize,
 ) -> usize
-    ensures { λ r. ⌜ lentTurn (now (names .exit)) (now (cells .exit)) (now (head .exit)) (now (lines .exit)) (now (out .exit)) r
-        ≡ performed (lent (now (names .entry)) (now (cells .entry)) (now (head .entry)) (now (lines .entry)))
+    ensures { λ r. ⌜ lentTurn (now (names .exit)) (now (cells .exit)) (now (head .exit)) (now (sizes .exit)) (now (lines .exit))
+        (now (out .exit)) r
+        ≡ performed (lent (now (names .entry)) (now (cells .entry)) (now (head .entry)) (now (sizes .entry)) (now (lines .entry)))
         (lentPaper (now (out .entry)) at) (spoken (heldOf (lineOf line))) ⌝ }
 {
     let bytes = line.bytes;
-    reply_first(&bytes, line.count, names, cells, head, lines, out, at)
+    reply_first(
+        &bytes,
+        line.count,
+        names,
+        cells,
+        head,
+        sizes,
+        lines,
+        out,
+        at,
+    )
 }
 
 // What one byte comes to: the line, and where the next byte of the buffer goes.
@@ -126,17 +142,18 @@ fn take_byte(
     names: &mut [u64],
     cells: &mut [u32],
     head: &mut [u32],
+    sizes: &mut [u32],
     lines: &mut [u64],
     out: &mut [u8],
     at: usize,
 ) -> Step
-    ensures { λ r. ⌜ lentDesk (lineOf (r .line)) (now (names .exit)) (now (cells .exit)) (now (head .exit)) (now (lines .exit))
-        (now (out .exit)) (r .at)
-        ≡ fedByte (lentDesk (lineOf line) (now (names .entry)) (now (cells .entry)) (now (head .entry)) (now (lines .entry))
-        (now (out .entry)) at) b ⌝ }
+    ensures { λ r. ⌜ lentDesk (lineOf (r .line)) (now (names .exit)) (now (cells .exit)) (now (head .exit)) (now (sizes .exit))
+        (now (lines .exit)) (now (out .exit)) (r .at)
+        ≡ fedByte (lentDesk (lineOf line) (now (names .entry)) (now (cells .entry)) (now (head .entry)) (now (sizes .entry))
+        (now (lines .entry)) (now (out .entry)) at) b ⌝ }
 {
     if b == b'\n' {
-        let end = reply_kept(line, names, cells, head, lines, out, at);
+        let end = reply_kept(line, names, cells, head, sizes, lines, out, at);
         let next = blank();
         return Step {
             line: next,
@@ -155,12 +172,15 @@ pub fn feed(
     names: &mut [u64],
     cells: &mut [u32],
     head: &mut [u32],
+    sizes: &mut [u32],
     lines: &mut [u64],
     out: &mut [u8],
 ) -> Fed
-    ensures { λ r. ⌜ fedOf r (lent (now (names .exit)) (now (cells .exit)) (now (head .exit)) (now (lines .exit))) (now (out .exit))
+    ensures { λ r. ⌜ fedOf r
+        (lent (now (names .exit)) (now (cells .exit)) (now (head .exit)) (now (sizes .exit)) (now (lines .exit))) (now (out .exit))
         ≡ feeds (now (chunk .entry))
-        (lentDesk (lineOf line) (now (names .entry)) (now (cells .entry)) (now (head .entry)) (now (lines .entry)) (now (out .entry)) 0) ⌝ }
+        (lentDesk (lineOf line) (now (names .entry)) (now (cells .entry)) (now (head .entry)) (now (sizes .entry))
+        (now (lines .entry)) (now (out .entry)) 0) ⌝ }
     ensures bounds { λ r. ⌜ (r .written ≤ length (now (out .exit))) × (r .taken ≤ length (now (chunk .entry))) ⌝ }
 {
     if out.len() < LONGEST {
@@ -183,7 +203,17 @@ pub fn feed(
                 written,
             };
         }
-        let step = take_byte(kept, chunk[i], names, cells, head, lines, out, written);
+        let step = take_byte(
+            kept,
+            chunk[i],
+            names,
+            cells,
+            head,
+            sizes,
+            lines,
+            out,
+            written,
+        );
         let next = step.line;
         kept = next;
         written = step.at;
@@ -203,12 +233,14 @@ pub fn finish(
     names: &mut [u64],
     cells: &mut [u32],
     head: &mut [u32],
+    sizes: &mut [u32],
     lines: &mut [u64],
     out: &mut [u8],
 ) -> Fed
-    ensures { λ r. ⌜ fedOf r (lent (now (names .exit)) (now (cells .exit)) (now (head .exit)) (now (lines .exit))) (now (out .exit))
-        ≡ ends (lentDesk (lineOf line) (now (names .entry)) (now (cells .entry)) (now (head .entry)) (now (lines .entry))
-        (now (out .entry)) 0) ⌝ }
+    ensures { λ r. ⌜ fedOf r
+        (lent (now (names .exit)) (now (cells .exit)) (now (head .exit)) (now (sizes .exit)) (now (lines .exit))) (now (out .exit))
+        ≡ ends (lentDesk (lineOf line) (now (names .entry)) (now (cells .entry)) (now (head .entry)) (now (sizes .entry))
+        (now (lines .entry)) (now (out .entry)) 0) ⌝ }
     ensures bounds { λ r. ⌜ r .written ≤ length (now (out .exit)) ⌝ }
 {
     if out.len() < LONGEST {
@@ -228,7 +260,7 @@ pub fn finish(
             written: 0,
         };
     }
-    let written = reply_kept(line, names, cells, head, lines, out, 0);
+    let written = reply_kept(line, names, cells, head, sizes, lines, out, 0);
     let next = blank();
     Fed {
         number: 0,

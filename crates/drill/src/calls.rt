@@ -8,12 +8,10 @@ use crate::chain::Order;
 use crate::chain::before_another;
 use crate::chain::exchange;
 use crate::chain::is_planted;
-use crate::entries::same_entries;
-use crate::entries::same_listing;
+use crate::entries::same_contents;
 use crate::steps::all;
 use crate::steps::back_to_start;
 use crate::steps::is_refused;
-use crate::steps::is_sound;
 use crate::steps::length;
 use crate::steps::mark_of;
 use crate::steps::more;
@@ -38,7 +36,6 @@ use slots::name;
 use slots::put;
 use slots::put_name;
 use trials::same::same_index;
-use trials::same::same_names;
 
 const SLOTS: u32 = 64;
 
@@ -81,6 +78,7 @@ fn make(
     names: &mut [u64],
     cells: &mut [u32],
     head: &mut [u32],
+    sizes: &mut [u32],
     lines: &mut [u64],
 ) -> u64 {
     let kind = call_word(calls, k, 0);
@@ -88,18 +86,18 @@ fn make(
     let key = call_word(calls, k, 2);
     let place = (call_word(calls, k, 3) % MOST_PLACES) as u32;
     if kind == INSERT {
-        let inserted = insert(names, cells, head, lines, hash, key, place);
+        let inserted = insert(names, cells, head, sizes, lines, hash, key, place);
         return told(inserted.answer());
     }
     if kind == REMOVE {
-        let removed = remove(names, cells, head, lines, hash, key);
+        let removed = remove(names, cells, head, sizes, lines, hash, key);
         return told(removed.answer());
     }
     if kind == REPLACE {
-        let replaced = replace(names, cells, head, lines, hash, key, place);
+        let replaced = replace(names, cells, head, sizes, lines, hash, key, place);
         return told(replaced.answer());
     }
-    let rolled = rollback(names, cells, head, lines, place);
+    let rolled = rollback(names, cells, head, sizes, lines, place);
     told(rolled.answer())
 }
 
@@ -111,11 +109,12 @@ fn make_kept(
     names: &mut [u64],
     cells: &mut [u32],
     head: &mut [u32],
+    sizes: &mut [u32],
     lines: &mut [u64],
 ) {
     let mut k: u32 = 0;
     while k < m {
-        make(calls, get(made, 0, k), names, cells, head, lines);
+        make(calls, get(made, 0, k), names, cells, head, sizes, lines);
         k += 1;
     }
 }
@@ -129,16 +128,19 @@ fn as_at_mark(
     names: &[u64],
     cells: &[u32],
     head: &[u32],
+    sizes: &[u32],
     lines: &[u64],
 ) -> bool {
     let mut names_then = [0u64; 128];
     let mut cells_then = [0u32; 448];
     let mut head_then = [0u32; 3];
+    let mut sizes_then = [0u32; 64];
     let mut lines_then = [0u64; JOURNAL_WORDS];
     fresh(
         &mut names_then,
         &mut cells_then,
         &mut head_then,
+        &mut sizes_then,
         &mut lines_then,
     );
     make_kept(
@@ -148,29 +150,22 @@ fn as_at_mark(
         &mut names_then,
         &mut cells_then,
         &mut head_then,
+        &mut sizes_then,
         &mut lines_then,
     );
-    let rules = is_sound(names, cells, head) && is_sound(&names_then, &cells_then, &head_then);
-    let entries = same_entries(
+    same_contents(
         SLOTS,
         names,
         cells,
         head,
+        sizes,
+        lines,
         &names_then,
         &cells_then,
         &head_then,
-    );
-    let listing = same_listing(
-        SLOTS,
-        names,
-        cells,
-        head,
-        &names_then,
-        &cells_then,
-        &head_then,
-    );
-    let journal = same_names(lines, &lines_then);
-    all(rules, entries, listing, journal)
+        &sizes_then,
+        &lines_then,
+    )
 }
 
 // Rolls back to the cut's mark: whether as many lines are undone as there were above it, and the index is as it was at the mark.
@@ -181,13 +176,14 @@ fn back_to_mark(
     names: &mut [u64],
     cells: &mut [u32],
     head: &mut [u32],
+    sizes: &mut [u32],
     lines: &mut [u64],
 ) -> bool {
     let count = length(lines);
     let m = mark_of(cut, count);
-    let rolled = rollback(names, cells, head, lines, m);
+    let rolled = rollback(names, cells, head, sizes, lines, m);
     let undone = undid(rolled, std::num::wrapping_sub_u32(count, m));
-    let same = as_at_mark(calls, made, m, names, cells, head, lines);
+    let same = as_at_mark(calls, made, m, names, cells, head, sizes, lines);
     all(undone, same, length(lines) == m, true)
 }
 
@@ -199,11 +195,12 @@ fn plant(
     names: &[u64],
     cells: &mut [u32],
     head: &[u32],
+    sizes: &[u32],
     lines: &[u64],
 ) -> bool {
     let own = get(cells, x, PLACE);
     put(cells, x, PLACE, more(own, 1));
-    let same = as_at_mark(calls, made, length(lines), names, cells, head, lines);
+    let same = as_at_mark(calls, made, length(lines), names, cells, head, sizes, lines);
     put(cells, x, PLACE, own);
     !same
 }
@@ -217,12 +214,13 @@ fn plant_order(
     names: &[u64],
     cells: &mut [u32],
     head: &mut [u32],
+    sizes: &[u32],
     lines: &[u64],
 ) -> Order {
     let y = get(cells, x, NEXT);
     exchange(cells, head, x);
-    let planted = is_planted(names, cells, head, x);
-    let same = as_at_mark(calls, made, length(lines), names, cells, head, lines);
+    let planted = is_planted(names, cells, head, sizes, x);
+    let same = as_at_mark(calls, made, length(lines), names, cells, head, sizes, lines);
     exchange(cells, head, y);
     Order {
         planted,
@@ -246,12 +244,13 @@ fn plant_both(
     names: &[u64],
     cells: &mut [u32],
     head: &mut [u32],
+    sizes: &[u32],
     lines: &[u64],
 ) -> Plants {
     let x = get(head, 0, 1);
-    let noticed = plant(calls, made, x, names, cells, head, lines);
+    let noticed = plant(calls, made, x, names, cells, head, sizes, lines);
     let earlier = before_another(cells, head, cut % SLOTS);
-    let order = plant_order(calls, made, earlier, names, cells, head, lines);
+    let order = plant_order(calls, made, earlier, names, cells, head, sizes, lines);
     Plants {
         planted: x != NULL,
         noticed,
@@ -268,11 +267,12 @@ fn again(
     names: &mut [u64],
     cells: &mut [u32],
     head: &mut [u32],
+    sizes: &mut [u32],
     lines: &mut [u64],
 ) -> bool {
     let mut k: u32 = 0;
     while k < n {
-        let word = make(calls, k, names, cells, head, lines);
+        let word = make(calls, k, names, cells, head, sizes, lines);
         if word != name(words, 0, k) {
             return false;
         }
@@ -298,10 +298,11 @@ fn from_start(
     names: &mut [u64],
     cells: &mut [u32],
     head: &mut [u32],
+    sizes: &mut [u32],
     lines: &mut [u64],
 ) -> bool {
-    let start = back_to_start(names, cells, head, lines);
-    let right = again(calls, n, words, names, cells, head, lines);
+    let start = back_to_start(names, cells, head, sizes, lines);
+    let right = again(calls, n, words, names, cells, head, sizes, lines);
     all(start, right, true, true)
 }
 
@@ -313,16 +314,17 @@ fn try_cut(
     n: u32,
     words: &[u64],
     made: &[u32],
-    names: &mut [u64],
-    cells: &mut [u32],
-    head: &mut [u32],
-    lines: &mut [u64],
+    names: &mut [u64; 128],
+    cells: &mut [u32; 448],
+    head: &mut [u32; 3],
+    sizes: &mut [u32; 64],
+    lines: &mut [u64; JOURNAL_WORDS],
 ) -> Trial {
-    let back = back_to_mark(cut, calls, made, names, cells, head, lines);
-    let plants = plant_both(cut, calls, made, names, cells, head, lines);
-    let right = from_start(calls, n, words, names, cells, head, lines);
+    let back = back_to_mark(cut, calls, made, names, cells, head, sizes, lines);
+    let plants = plant_both(cut, calls, made, names, cells, head, sizes, lines);
+    let right = from_start(calls, n, words, names, cells, head, sizes, lines);
     Trial {
-        right: back && right,
+        right: all(back, right, true, true),
         planted: plants.planted,
         noticed: plants.noticed,
         exchanged: plants.exchanged,
@@ -330,9 +332,9 @@ fn try_cut(
     }
 }
 
-// The tally with one more cut, whose answer and refusal were right or not.
-fn counted(t: Tally, answer: bool, refusal: bool, tried: Trial) -> Tally {
-    let right = all(answer, refusal, tried.right, true);
+// The tally with one more cut, at which the answer was right or not.
+fn counted(t: Tally, answer: bool, tried: Trial) -> Tally {
+    let right = all(answer, tried.right, true, true);
     Tally {
         cuts: more(t.cuts, 1),
         rollbacks: more(t.rollbacks, 2),
@@ -346,42 +348,67 @@ fn counted(t: Tally, answer: bool, refusal: bool, tried: Trial) -> Tally {
     }
 }
 
-// The tally with a cut of the index that the words are, at which the last answer was right or not. The words are copied for it.
-fn cut_once(
-    t: Tally,
-    answer: bool,
+// A cut of a copy of the index that the old words are, which a refused rollback has to leave as they are.
+fn try_copy(
+    cut: u32,
     calls: &[u64],
     n: u32,
     words: &[u64],
     made: &[u32],
-    names: [u64; 128],
-    cells: [u32; 448],
-    head: [u32; 3],
-    lines: [u64; JOURNAL_WORDS],
-) -> Tally {
-    let mut names_cut = names;
-    let mut cells_cut = cells;
-    let mut head_cut = head;
-    let mut lines_cut = lines;
-    let refused = is_refused(
-        t.cuts,
-        &mut names_cut,
-        &mut cells_cut,
-        &mut head_cut,
-        &mut lines_cut,
-    );
+    names: &mut [u64; 128],
+    cells: &mut [u32; 448],
+    head: &mut [u32; 3],
+    sizes: &mut [u32; 64],
+    lines: &mut [u64; JOURNAL_WORDS],
+    old_names: &[u64; 128],
+    old_cells: &[u32; 448],
+    old_head: &[u32; 3],
+    old_sizes: &[u32; 64],
+    old_lines: &[u64; JOURNAL_WORDS],
+) -> Trial {
+    let refused = is_refused(cut, names, cells, head, sizes, lines);
     let kept = same_index(
-        &names_cut,
-        &cells_cut,
-        &head_cut,
-        &lines_cut,
-        &names,
-        &cells,
-        &head,
-        &lines,
+        names,
+        cells,
+        head,
+        sizes,
+        lines,
+        old_names,
+        old_cells,
+        old_head,
+        old_sizes,
+        old_lines,
     );
-    let tried = try_cut(
-        t.cuts,
+    let tried = try_cut(cut, calls, n, words, made, names, cells, head, sizes, lines);
+    Trial {
+        right: all(refused, kept, tried.right, true),
+        planted: tried.planted,
+        noticed: tried.noticed,
+        exchanged: tried.exchanged,
+        seen: tried.seen,
+    }
+}
+
+// What a cut of the index that the words are comes to. The words are copied for it.
+fn cut_once(
+    cut: u32,
+    calls: &[u64],
+    n: u32,
+    words: &[u64],
+    made: &[u32],
+    names: &[u64; 128],
+    cells: &[u32; 448],
+    head: &[u32; 3],
+    sizes: &[u32; 64],
+    lines: &[u64; JOURNAL_WORDS],
+) -> Trial {
+    let mut names_cut = *names;
+    let mut cells_cut = *cells;
+    let mut head_cut = *head;
+    let mut sizes_cut = *sizes;
+    let mut lines_cut = *lines;
+    try_copy(
+        cut,
         calls,
         n,
         words,
@@ -389,20 +416,59 @@ fn cut_once(
         &mut names_cut,
         &mut cells_cut,
         &mut head_cut,
+        &mut sizes_cut,
         &mut lines_cut,
-    );
-    counted(t, answer, refused && kept, tried)
+        names,
+        cells,
+        head,
+        sizes,
+        lines,
+    )
 }
 
-// The n calls, cut after each, with the word that each has to answer. `made` has for each line of the journal the number of the call that
-// made it.
-pub fn try_calls(calls: &[u64], n: u32, words: &[u64]) -> Tally {
-    let mut names = [0u64; 128];
-    let mut cells = [0u32; 448];
-    let mut head = [0u32; 3];
-    let mut lines = [0u64; JOURNAL_WORDS];
-    let mut made = [0u32; 128];
-    fresh(&mut names, &mut cells, &mut head, &mut lines);
+// The tally after call k and the cut after it. `made` has for each line of the journal the number of the call that made it.
+fn cut_after(
+    t: Tally,
+    k: u32,
+    calls: &[u64],
+    n: u32,
+    words: &[u64],
+    names: &mut [u64; 128],
+    cells: &mut [u32; 448],
+    head: &mut [u32; 3],
+    sizes: &mut [u32; 64],
+    lines: &mut [u64; JOURNAL_WORDS],
+    made: &mut [u32; 128],
+) -> Tally {
+    put(made, 0, length(lines), k);
+    let word = make(calls, k, names, cells, head, sizes, lines);
+    let tried = cut_once(
+        t.cuts,
+        calls,
+        n,
+        words,
+        made,
+        names,
+        cells,
+        head,
+        sizes,
+        lines,
+    );
+    counted(t, word == name(words, 0, k), tried)
+}
+
+// The n calls on an empty index, cut after each.
+fn cut_all(
+    calls: &[u64],
+    n: u32,
+    words: &[u64],
+    names: &mut [u64; 128],
+    cells: &mut [u32; 448],
+    head: &mut [u32; 3],
+    sizes: &mut [u32; 64],
+    lines: &mut [u64; JOURNAL_WORDS],
+    made: &mut [u32; 128],
+) -> Tally {
     let mut t = Tally {
         cuts: 0,
         rollbacks: 0,
@@ -416,13 +482,44 @@ pub fn try_calls(calls: &[u64], n: u32, words: &[u64]) -> Tally {
     };
     let mut k: u32 = 0;
     while k < n {
-        put(&mut made, 0, length(&lines), k);
-        let word = make(calls, k, &mut names, &mut cells, &mut head, &mut lines);
-        let right = word == name(words, 0, k);
-        t = cut_once(t, right, calls, n, words, &made, names, cells, head, lines);
+        t = cut_after(
+            t,
+            k,
+            calls,
+            n,
+            words,
+            names,
+            cells,
+            head,
+            sizes,
+            lines,
+            made,
+        );
         k += 1;
     }
     t
+}
+
+// The n calls, cut after each, with the word that each has to answer.
+pub fn try_calls(calls: &[u64], n: u32, words: &[u64]) -> Tally {
+    let mut names = [0u64; 128];
+    let mut cells = [0u32; 448];
+    let mut head = [0u32; 3];
+    let mut sizes = [0u32; 64];
+    let mut lines = [0u64; JOURNAL_WORDS];
+    let mut made = [0u32; 128];
+    fresh(&mut names, &mut cells, &mut head, &mut sizes, &mut lines);
+    cut_all(
+        calls,
+        n,
+        words,
+        &mut names,
+        &mut cells,
+        &mut head,
+        &mut sizes,
+        &mut lines,
+        &mut made,
+    )
 }
 
 // A number with a digit behind it; 0 where it has ended, for the next one.

@@ -52,6 +52,6 @@ pub fn before_another(cells: &[u32], head: &[u32], x: u32) -> u32 {
 }
 
 // Whether two slots that have changed places leave a sound tree: x is the one of them that was before the other.
-pub fn is_planted(names: &[u64], cells: &[u32], head: &[u32], x: u32) -> bool {
-    x != NULL && is_sound(names, cells, head)
+pub fn is_planted(names: &[u64], cells: &[u32], head: &[u32], sizes: &[u32], x: u32) -> bool {
+    x != NULL && is_sound(names, cells, head, sizes)
 }

@@ -40,6 +40,13 @@ pub struct Tally {
     pub seen: u32,
 }
 
+// Notes what the tree holds after a call that made the journal longer.
+fn note_new(rows: &mut [u32], before: u32, after: u32, names: &[u64], cells: &[u32], head: &[u32]) {
+    if before < after {
+        note(rows, after, names, cells, head);
+    }
+}
+
 // A call of the short script, with what the tree then holds noted where the call wrote a line. After any other call the row of an
 // earlier call stands, so that a refusal that writes, and a rollback that brings back something else, are noticed too.
 fn call_noted(
@@ -47,17 +54,16 @@ fn call_noted(
     names: &mut [u64],
     cells: &mut [u32],
     head: &mut [u32],
+    sizes: &mut [u32],
     lines: &mut [u64],
     rows: &mut [u32],
     out: &mut [u8],
 ) {
     let before = length(lines);
     let start = blank();
-    feed(start, line, names, cells, head, lines, out);
+    feed(start, line, names, cells, head, sizes, lines, out);
     let after = length(lines);
-    if before < after {
-        note(rows, after, names, cells, head);
-    }
+    note_new(rows, before, after, names, cells, head);
 }
 
 // The short script up to a cut, call by call.
@@ -66,6 +72,7 @@ fn run_noted(
     names: &mut [u64],
     cells: &mut [u32],
     head: &mut [u32],
+    sizes: &mut [u32],
     lines: &mut [u64],
     rows: &mut [u32],
     out: &mut [u8],
@@ -74,16 +81,31 @@ fn run_noted(
     let mut at = 0;
     while at < part.len() {
         let end = line_end(part, at);
-        call_noted(&part[at..end], names, cells, head, lines, rows, out);
+        call_noted(&part[at..end], names, cells, head, sizes, lines, rows, out);
         at = end;
     }
 }
 
 // Plants a key that the script does not use, with a journal of its own; whether it went in.
-fn plant(names: &mut [u64], cells: &mut [u32], head: &mut [u32], k: u32) -> bool {
+fn plant(
+    names: &mut [u64],
+    cells: &mut [u32],
+    head: &mut [u32],
+    sizes: &mut [u32],
+    k: u32,
+) -> bool {
     let mut lines = [0u64; 7];
     let key = (24 + k % 24) as u64;
-    match insert(names, cells, head, &mut lines, key / 4, key, 4000000000) {
+    match insert(
+        names,
+        cells,
+        head,
+        sizes,
+        &mut lines,
+        key / 4,
+        key,
+        4000000000,
+    ) {
         Inserted::At(_) => true,
         _ => false,
     }
@@ -95,14 +117,15 @@ fn as_noted(
     names: &mut [u64],
     cells: &mut [u32],
     head: &mut [u32],
+    sizes: &mut [u32],
     lines: &mut [u64],
     old: &[u64],
     rows: &[u32],
 ) -> bool {
     let count = std::num::wrapping_sub_u32(length(old), m);
-    let rolled = rollback(names, cells, head, lines, m);
+    let rolled = rollback(names, cells, head, sizes, lines, m);
     let back = undid(rolled, count);
-    let rules = is_sound(names, cells, head);
+    let rules = is_sound(names, cells, head, sizes);
     let held = same(rows, m, names, cells, head);
     let cut = cut_at(lines, old, m);
     all(back, rules, held, cut)
@@ -118,11 +141,18 @@ struct Trial {
 }
 
 // Exchanges two neighbours of the chain, compares, and puts them right: whether the tree was sound meanwhile, and the comparison noticed.
-fn plant_order(m: u32, names: &[u64], cells: &mut [u32], head: &mut [u32], rows: &[u32]) -> Order {
+fn plant_order(
+    m: u32,
+    names: &[u64],
+    cells: &mut [u32],
+    head: &mut [u32],
+    sizes: &[u32],
+    rows: &[u32],
+) -> Order {
     let x = before_another(cells, head, m % SLOTS);
     let y = get(cells, x, NEXT);
     exchange(cells, head, x);
-    let planted = is_planted(names, cells, head, x);
+    let planted = is_planted(names, cells, head, sizes, x);
     let seen = !same(rows, m, names, cells, head);
     exchange(cells, head, y);
     Order {
@@ -134,16 +164,17 @@ fn plant_order(m: u32, names: &[u64], cells: &mut [u32], head: &mut [u32], rows:
 // Rolls back to mark m, compares, exchanges two neighbours of the chain and puts them right, plants a name, and compares again.
 fn roll_and_plant(
     m: u32,
-    names: &mut [u64],
-    cells: &mut [u32],
-    head: &mut [u32],
-    lines: &mut [u64],
-    old: &[u64],
+    names: &mut [u64; 1024],
+    cells: &mut [u32; 3584],
+    head: &mut [u32; 3],
+    sizes: &mut [u32; 512],
+    lines: &mut [u64; JOURNAL_WORDS],
+    old: &[u64; JOURNAL_WORDS],
     rows: &[u32],
 ) -> Trial {
-    let right = as_noted(m, names, cells, head, lines, old, rows);
-    let order = plant_order(m, names, cells, head, rows);
-    let planted = plant(names, cells, head, m);
+    let right = as_noted(m, names, cells, head, sizes, lines, old, rows);
+    let order = plant_order(m, names, cells, head, sizes, rows);
+    let planted = plant(names, cells, head, sizes, m);
     let seen = !same(rows, m, names, cells, head);
     let noticed = all(planted, seen, true, true);
     Trial {
@@ -160,19 +191,30 @@ fn try_mark(part: &[u8], m: u32, rows: &mut [u32], out: &mut [u8]) -> Trial {
     let mut names = [0u64; 1024];
     let mut cells = [0u32; 3584];
     let mut head = [0u32; 3];
+    let mut sizes = [0u32; 512];
     let mut lines = [0u64; JOURNAL_WORDS];
-    fresh(&mut names, &mut cells, &mut head, &mut lines);
+    fresh(&mut names, &mut cells, &mut head, &mut sizes, &mut lines);
     run_noted(
         part,
         &mut names,
         &mut cells,
         &mut head,
+        &mut sizes,
         &mut lines,
         rows,
         out,
     );
     let old = lines;
-    roll_and_plant(m, &mut names, &mut cells, &mut head, &mut lines, &old, rows)
+    roll_and_plant(
+        m,
+        &mut names,
+        &mut cells,
+        &mut head,
+        &mut sizes,
+        &mut lines,
+        &old,
+        rows,
+    )
 }
 
 // The tally with one more trial.
@@ -193,13 +235,15 @@ fn length_at(part: &[u8], rows: &mut [u32], out: &mut [u8]) -> u32 {
     let mut names = [0u64; 1024];
     let mut cells = [0u32; 3584];
     let mut head = [0u32; 3];
+    let mut sizes = [0u32; 512];
     let mut lines = [0u64; JOURNAL_WORDS];
-    fresh(&mut names, &mut cells, &mut head, &mut lines);
+    fresh(&mut names, &mut cells, &mut head, &mut sizes, &mut lines);
     run_noted(
         part,
         &mut names,
         &mut cells,
         &mut head,
+        &mut sizes,
         &mut lines,
         rows,
         out,

@@ -40,16 +40,16 @@ pub fn undid(rolled: RolledBack, count: u32) -> bool {
 }
 
 // Whether all rules of a tree hold, beside what it holds.
-pub fn is_sound(names: &[u64], cells: &[u32], head: &[u32]) -> bool {
-    match sound(names, cells, head) {
+pub fn is_sound(names: &[u64], cells: &[u32], head: &[u32], sizes: &[u32]) -> bool {
+    match sound(names, cells, head, sizes) {
         Soundness::Yes => true,
         _ => false,
     }
 }
 
 // Whether nothing is left of the calls: a sound tree with no slot, and a journal with no line.
-pub fn is_empty(names: &[u64], cells: &[u32], head: &[u32], lines: &[u64]) -> bool {
-    let rules = is_sound(names, cells, head);
+pub fn is_empty(names: &[u64], cells: &[u32], head: &[u32], sizes: &[u32], lines: &[u64]) -> bool {
+    let rules = is_sound(names, cells, head, sizes);
     let slots = get(head, 0, 2);
     rules && slots == 0 && length(lines) == 0
 }
@@ -67,12 +67,13 @@ pub fn back_to_start(
     names: &mut [u64],
     cells: &mut [u32],
     head: &mut [u32],
+    sizes: &mut [u32],
     lines: &mut [u64],
 ) -> bool {
     let count = length(lines);
-    let rolled = rollback(names, cells, head, lines, 0);
+    let rolled = rollback(names, cells, head, sizes, lines, 0);
     let undone = undid(rolled, count);
-    let empty = is_empty(names, cells, head, lines);
+    let empty = is_empty(names, cells, head, sizes, lines);
     all(undone, empty, true, true)
 }
 
@@ -82,10 +83,11 @@ pub fn is_refused(
     names: &mut [u64],
     cells: &mut [u32],
     head: &mut [u32],
+    sizes: &mut [u32],
     lines: &mut [u64],
 ) -> bool {
     let mark = more(length(lines), more(past % 1024, 1));
-    match rollback(names, cells, head, lines, mark) {
+    match rollback(names, cells, head, sizes, lines, mark) {
         RolledBack::BadMark => true,
         _ => false,
     }

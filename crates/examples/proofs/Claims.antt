@@ -5,7 +5,7 @@ use Prim.Native.Nat.{ℕ, _+_, _-_, _<_}
 use native.Mathlib.Omega.{arith}
 use lib.ListN.{length, getD, set}
 use borrow.Author.Tests.{le-ltb}
-use Rattle.slots.specs.Words.{cell, write, nameOf, rename, roomy}
+use Rattle.slots.specs.Words.{cell, write, nameOf, rename, roomy, sum}
 use Rattle.slots.specs.Answers.{given, nothing}
 use Rattle.tree_rules.specs.Find.{slotsOf, Search, ends, found, decided, looked, searched}
 use Rattle.tree_rules.proofs.Searching.{at-null}
@@ -16,13 +16,14 @@ use Rattle.redblack.specs.Deletion.{capped, settled, tucked, eased, sunk, delet
 use Rattle.redblack.specs.Hanging.{descended, hooked, inserted, spotted}
 use Rattle.redblack.specs.Insertion.{raised, straightened, lifted, insertionTurn, insertionTurns, balancedInsertion}
 use Rattle.redblack.specs.Removal.{replaced, lowered, traded, replacement, spliced, detached, dropped, leftmost, removed}
-use Rattle.redblack.specs.Rotate.{hung, turned, rotated}
-use Rattle.index_rules.specs.Live.{Live, Fit, rootOf, countOf, fits}
-use Rattle.index_rules.specs.Sound.{Sound, sound, isCleared, slotFine, slotsFine, rule1, rule2, rule3, rule4, rule5, rule6, rule7}
+use Rattle.redblack.specs.Rotate.{hung, recounted, turned, rotated}
+use Rattle.redblack.specs.Climbing.{climbed, swapped}
+use Rattle.index_rules.specs.Live.{Live, unsizedOf, Fit, rootOf, countOf, fitsUnsized, fits}
+use Rattle.index_rules.specs.Sound.{Sound, sound, isCleared, slotFine, slotsFine, rule1, rule2, rule3, rule4, rule5, rule6, rule7, sizeFine, sizesFine, rule8}
 use Rattle.index_rules.specs.Find.{finds}
 use Rattle.index_rules.specs.Index.{Index, FitIndex, index, outcome, lengthOf, wholeLines, fitsJournal, fitsIndex, lined, appended}
 use Rattle.index_rules.specs.Rollback.{rolls, unrolled, blanked}
-use Rattle.index_rules.proofs.Fit.{fit-fits}
+use Rattle.index_rules.proofs.Fit.{unsized-fits, fit-unsized}
 use Rattle.index_rules.proofs.Journal.{index-fits}
 use Rattle.index_rules.proofs.Sounding.{sound-yes}
 use Rattle.index_rules.proofs.Claims.{claims as demanded}
@@ -40,9 +41,9 @@ use Rattle.examples.specs.Claims.{Claims}
 use Rattle.examples.specs.Worked.{empty, zeros, freeSlots, drawn, drawnFrom, chainOf, chainFrom, listSlots, tables, bin}
 use Rattle.examples.specs.Worked.{entriesGiven as walks}
 
-empty-find : (t : Live) → Fit t → Sound t → countOf t ≡ 0 → (hash key : ℕ) → finds t hash key ≡ ends nothing
+empty-find : (t : Live) → Fit t → Sound t → countOf t ≡ 0 → (hash key : ℕ) → finds (unsizedOf t) hash key ≡ ends nothing
 unfolding finds found
-empty-find t fit h e hash key = rw (fit-fits t fit) (at-null (t .names) (t .cells) hash key (slotsOf (t .names)) (rootOf t) (h .t2 .root .1 e))
+empty-find t fit h e hash key = rw (unsized-fits (unsizedOf t) (fit-unsized fit)) (at-null (t .names) (t .cells) hash key (slotsOf (t .names)) (rootOf t) (h .t2 .root .1 e))
 
 -- A word written with what it was.
 set-same : (l : List ℕ) → 0 < length l → set l 0 (getD l 0 0) ≡ l
@@ -71,7 +72,7 @@ unfolding tables listSlots cell begins doubling doubled fitTables setFits binOf 
 walk-done = refl
 
 pub claims : Claims
-unfolding empty zeros freeSlots drawn drawnFrom chainOf chainFrom cell write nameOf rename roomy chained tally linksIn decided looked searched found stands reached follows risen allCalm levelled rises coloured level capped settled tucked eased sunk deletionTurn balancedDeletion descended hooked inserted spotted raised straightened lifted insertionTurn insertionTurns balancedInsertion replaced lowered traded replacement spliced detached dropped leftmost removed hung turned rotated after wholeLines fitsJournal fitsIndex lined appended freeFrom lowestFree soughtIn seated grown inserts fits unchained wiped shrunk removalOf wherePresent afterRemove removes isCleared slotFine slotsFine rule1 rule2 rule3 rule4 rule5 rule6 rule7 sound
+unfolding empty zeros freeSlots drawn drawnFrom chainOf chainFrom cell write nameOf rename roomy chained tally linksIn decided looked searched found stands reached follows risen allCalm levelled rises coloured level capped settled tucked eased sunk deletionTurn balancedDeletion descended hooked inserted spotted raised straightened lifted insertionTurn insertionTurns balancedInsertion replaced lowered traded replacement spliced detached dropped leftmost removed hung recounted turned rotated climbed swapped sum after wholeLines fitsJournal fitsIndex lined appended freeFrom lowestFree soughtIn seated grown inserts fitsUnsized fits unchained wiped shrunk removalOf wherePresent afterRemove removes isCleared slotFine slotsFine rule1 rule2 rule3 rule4 rule5 rule6 rule7 sizeFine sizesFine rule8 sound
 claims =
     record {
       empty-find = empty-find;

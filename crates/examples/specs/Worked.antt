@@ -5,7 +5,7 @@ use lib.Dec.{eqb}
 use Rattle.slots.specs.Words.{null, pick, state, left, right, next, free, cell, nameOf, keyPart}
 use Rattle.slots.specs.Pairs.{Pair, pair, pairOf}
 use Rattle.slots.specs.Answers.{Value, none as noValue, some}
-use Rattle.index_rules.specs.Live.{Live, rootOf, firstOf}
+use Rattle.index_rules.specs.Live.{Live, lentTree, rootOf, firstOf}
 use Rattle.index_rules.specs.Index.{Index, index}
 use Rattle.index_rules.specs.Calls.{Call, insertCall, removeCall}
 use Rattle.set_rules.specs.Words.{Set}
@@ -25,7 +25,7 @@ freeSlots (suc n) = 0 ∷ (free ∷ (null ∷ (null ∷ (null ∷ (null ∷ (nul
 -- The empty tree of n slots, with an empty journal of so many lines.
 unfoldable pub empty : ℕ → ℕ → Index
 empty n lines =
-    index (record { names = zeros (2 * n); cells = freeSlots n; head = null ∷ (null ∷ (0 ∷ [])) }) (zeros (1 + 6 * lines))
+    index (lentTree (zeros (2 * n)) (freeSlots n) (null ∷ (null ∷ (0 ∷ []))) (zeros n)) (zeros (1 + 6 * lines))
 
 -- The key k goes in, at the place ten times k; the key k goes.
 abbrev pub add : ℕ → Call

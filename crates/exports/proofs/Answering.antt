@@ -13,9 +13,9 @@ use Rattle.slots.specs.Words.{null, pick, next, cell}
 use Rattle.slots.specs.Answers.{Answer, given, nothing, refused}
 use Rattle.slots.proofs.Laws.{number, given-is, nothing-given}
 use Rattle.tree_rules.specs.Find.{Look, here, on, Search, lookedThen, slotsOf, looked, searched, found}
-use Rattle.index_rules.specs.Live.{Live, rootOf, fits}
+use Rattle.index_rules.specs.Live.{Unsized, rootWord, fitsUnsized}
 use Rattle.index_rules.specs.Find.{finds}
-use Rattle.index_rules.proofs.Fit.{fits-fit, half, unfit}
+use Rattle.index_rules.proofs.Fit.{unsized-fits, fits-unsized}
 use Rattle.index_rules.proofs.Reading.{find-claims}
 use Rattle.set_rules.specs.Words.{Set, tablesOf, lengthAt, headersIn, rootAt, firstAt, Bin, empty, moved, bad, list, tree}
 use Rattle.set_rules.specs.Words.{fits as setFits}
@@ -82,11 +82,11 @@ module _ (names cells : List ℕ) (hash key : ℕ) where
 abbrev Told : Search → Type 0
 Told s = Plain 4096 (s .answer)
 
-pub finds-plain : (t : Live) (hash key : ℕ) → Plain 4096 (finds t hash key .answer)
+pub finds-plain : (t : Unsized) (hash key : ℕ) → Plain 4096 (finds t hash key .answer)
 unfolding finds
 finds-plain t hash key =
-    picked Told (fits t)
-    (λ e. (let fit = fits-fit t e in more (omega (arith, half fit, fit .most)) (found-plain (t .names) (t .cells) hash key (rootOf t))))
+    picked Told (fitsUnsized t)
+    (λ e. (let fit = fits-unsized t e in more (omega (arith, fit .two, fit .most)) (found-plain (t .names) (t .cells) hash key (rootWord (t .head)))))
     (λ e. refuses {m = 1} (omega arith) (omega arith))
 
 -- The loop over the tables.
@@ -185,12 +185,12 @@ answer-below (slot l) = omega arith
 answer-below none = omega arith
 answer-below (refuses {m = m} l k) = let z : pick (eqb m 0) null 0 ≡ 0 = rw (ne-eqb m 0 (omega arith)) in omega (arith, z)
 
-pub finds-looks : (t : Live) (hash key : ℕ) → length (finds t hash key .looks) ≤ 4096
-finds-looks t hash key = go (fits t) refl
+pub finds-looks : (t : Unsized) (hash key : ℕ) → length (finds t hash key .looks) ≤ 4096
+finds-looks t hash key = go (fitsUnsized t) refl
   where
-    go : (b : Bool) → fits t ≡ b → length (finds t hash key .looks) ≤ 4096
-    go true e = let fit = fits-fit t e in omega (arith, half fit, fit .most, find-claims t hash key .looks fit .most)
-    go false e = rw (find-claims t hash key .unfit-looks (unfit t e)) (omega arith)
+    go : (b : Bool) → fitsUnsized t ≡ b → length (finds t hash key .looks) ≤ 4096
+    go true e = let fit = fits-unsized t e in omega (arith, fit .two, fit .most, find-claims t hash key .looks fit .most)
+    go false e = rw (find-claims t hash key .unfit-looks (λ fit. false≢true (sym e ∙ unsized-fits t fit))) (omega arith)
 
 pub lookups-looks : (s : Set) (t hash key : ℕ) → length (lookups s t hash key .looks) ≤ 4096
 lookups-looks s t hash key = go (setFits s) refl

@@ -8,11 +8,12 @@ use lib.ListN.{length}
 use Rattle.slots.specs.Words.{null, mostSlots}
 use Rattle.slots.specs.Answers.{Answer, given, nothing, refused, OneAnswer}
 use Rattle.tree_rules.specs.Find.{Search, counted}
-use Rattle.index_rules.specs.Live.{Live}
+use Rattle.index_rules.specs.Live.{Live, Unsized}
 use Rattle.index_rules.specs.Index.{Index}
 use Rattle.index_rules.specs.Find.{finds}
 use Rattle.index_rules.specs.Check.{checks}
 use Rattle.index_rules.specs.Sound.{sounds}
+use Rattle.index_rules.specs.Ranks.{kths, positions}
 use Rattle.index_rules.specs.Insert.{inserts}
 use Rattle.index_rules.specs.Remove.{removes}
 use Rattle.index_rules.specs.Replace.{replaces}
@@ -45,15 +46,17 @@ pub record Claims : Type 0 where
   -- "The answer is value + 2^32 * number."
   pub numbers-apart : (m n v w : ℕ) → v < 4294967296 → w < 4294967296 → v + 4294967296 * m ≡ w + 4294967296 * n → m ≡ n
   pub values-apart : (m n v w : ℕ) → v < 4294967296 → w < 4294967296 → v + 4294967296 * m ≡ w + 4294967296 * n → v ≡ w
-  pub find-tells : (t : Live) (hash key : ℕ) → TellsLooks (finds t hash key)
+  pub find-tells : (t : Unsized) (hash key : ℕ) → TellsLooks (finds t hash key)
   pub lookup-tells : (s : Set) (table hash key : ℕ) → TellsLooks (lookups s table hash key)
   pub walk-tells : (s : Set) (c : Cursor) → Tells (nexts s c .answer)
   -- null in the walk's word is Done, with a cursor of eleven words
   pub walk-done : (s : Set) (cursor : List ℕ)
       → (walkedInto s cursor .word ≡ null) ↔ ((length cursor ≡ 11) × (nexts s (cursorIn cursor) .answer ≡ nothing))
-  pub find-one : (t : Live) (hash key : ℕ) → OneAnswer (λ (r : ℕ). r ≡ searchWord (counted (finds t hash key)))
-  pub check-one : (t : Live) → OneAnswer (λ (r : ℕ). r ≡ checkWord (checks t))
+  pub find-one : (t : Unsized) (hash key : ℕ) → OneAnswer (λ (r : ℕ). r ≡ searchWord (counted (finds t hash key)))
+  pub check-one : (t : Unsized) → OneAnswer (λ (r : ℕ). r ≡ checkWord (checks t))
   pub sound-one : (t : Live) → OneAnswer (λ (r : ℕ). r ≡ answerWord (sounds t))
+  pub kth-one : (t : Live) (k : ℕ) → OneAnswer (λ (r : ℕ). r ≡ answerWord (kths t k))
+  pub position-one : (t : Live) (hash key : ℕ) → OneAnswer (λ (r : ℕ). r ≡ answerWord (positions t hash key))
   pub insert-one : (ix : Index) (hash key place : ℕ) → OneAnswer (λ (r : Worded). r ≡ worded (inserts ix hash key place))
   pub remove-one : (ix : Index) (hash key : ℕ) → OneAnswer (λ (r : Worded). r ≡ worded (removes ix hash key))
   pub replace-one : (ix : Index) (hash key place : ℕ) → OneAnswer (λ (r : Worded). r ≡ worded (replaces ix hash key place))

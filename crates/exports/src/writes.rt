@@ -20,12 +20,17 @@ pub extern "C" fn oz_fresh(
     names: &mut [u64],
     cells: &mut [u32],
     head: &mut [u32],
+    sizes: &mut [u32],
     lines: &mut [u64],
 ) -> u64
-    ensures { λ r. ⌜ record { word = r; left = lent (now (names .exit)) (now (cells .exit)) (now (head .exit)) (now (lines .exit)) }
-        ≡ worded (freshes (lent (now (names .entry)) (now (cells .entry)) (now (head .entry)) (now (lines .entry)))) ⌝ }
+    ensures { λ r. ⌜ record {
+      word = r;
+      left = lent (now (names .exit)) (now (cells .exit)) (now (head .exit)) (now (sizes .exit)) (now (lines .exit));
+    }
+        ≡ worded
+        (freshes (lent (now (names .entry)) (now (cells .entry)) (now (head .entry)) (now (sizes .entry)) (now (lines .entry)))) ⌝ }
 {
-    let made = fresh(names, cells, head, lines);
+    let made = fresh(names, cells, head, sizes, lines);
     word(made.answer())
 }
 
@@ -35,15 +40,20 @@ pub extern "C" fn oz_insert(
     names: &mut [u64],
     cells: &mut [u32],
     head: &mut [u32],
+    sizes: &mut [u32],
     lines: &mut [u64],
     hash: u64,
     key: u64,
     place: u32,
 ) -> u64
-    ensures { λ r. ⌜ record { word = r; left = lent (now (names .exit)) (now (cells .exit)) (now (head .exit)) (now (lines .exit)) }
-        ≡ worded (inserts (lent (now (names .entry)) (now (cells .entry)) (now (head .entry)) (now (lines .entry))) hash key place) ⌝ }
+    ensures { λ r. ⌜ record {
+      word = r;
+      left = lent (now (names .exit)) (now (cells .exit)) (now (head .exit)) (now (sizes .exit)) (now (lines .exit));
+    }
+        ≡ worded (inserts (lent (now (names .entry)) (now (cells .entry)) (now (head .entry)) (now (sizes .entry)) (now (lines .entry)))
+        hash key place) ⌝ }
 {
-    let inserted = insert(names, cells, head, lines, hash, key, place);
+    let inserted = insert(names, cells, head, sizes, lines, hash, key, place);
     word(inserted.answer())
 }
 
@@ -53,14 +63,19 @@ pub extern "C" fn oz_remove(
     names: &mut [u64],
     cells: &mut [u32],
     head: &mut [u32],
+    sizes: &mut [u32],
     lines: &mut [u64],
     hash: u64,
     key: u64,
 ) -> u64
-    ensures { λ r. ⌜ record { word = r; left = lent (now (names .exit)) (now (cells .exit)) (now (head .exit)) (now (lines .exit)) }
-        ≡ worded (removes (lent (now (names .entry)) (now (cells .entry)) (now (head .entry)) (now (lines .entry))) hash key) ⌝ }
+    ensures { λ r. ⌜ record {
+      word = r;
+      left = lent (now (names .exit)) (now (cells .exit)) (now (head .exit)) (now (sizes .exit)) (now (lines .exit));
+    }
+        ≡ worded (removes (lent (now (names .entry)) (now (cells .entry)) (now (head .entry)) (now (sizes .entry)) (now (lines .entry)))
+        hash key) ⌝ }
 {
-    let removed = remove(names, cells, head, lines, hash, key);
+    let removed = remove(names, cells, head, sizes, lines, hash, key);
     word(removed.answer())
 }
 
@@ -70,15 +85,20 @@ pub extern "C" fn oz_replace(
     names: &[u64],
     cells: &mut [u32],
     head: &[u32],
+    sizes: &[u32],
     lines: &mut [u64],
     hash: u64,
     key: u64,
     place: u32,
 ) -> u64
-    ensures { λ r. ⌜ record { word = r; left = lent (now (names .entry)) (now (cells .exit)) (now (head .entry)) (now (lines .exit)) }
-        ≡ worded (replaces (lent (now (names .entry)) (now (cells .entry)) (now (head .entry)) (now (lines .entry))) hash key place) ⌝ }
+    ensures { λ r. ⌜ record {
+      word = r;
+      left = lent (now (names .entry)) (now (cells .exit)) (now (head .entry)) (now (sizes .entry)) (now (lines .exit));
+    }
+        ≡ worded (replaces (lent (now (names .entry)) (now (cells .entry)) (now (head .entry)) (now (sizes .entry)) (now (lines .entry)))
+        hash key place) ⌝ }
 {
-    let replaced = replace(names, cells, head, lines, hash, key, place);
+    let replaced = replace(names, cells, head, sizes, lines, hash, key, place);
     word(replaced.answer())
 }
 
@@ -88,12 +108,17 @@ pub extern "C" fn oz_rollback(
     names: &mut [u64],
     cells: &mut [u32],
     head: &mut [u32],
+    sizes: &mut [u32],
     lines: &mut [u64],
     mark: u32,
 ) -> u64
-    ensures { λ r. ⌜ record { word = r; left = lent (now (names .exit)) (now (cells .exit)) (now (head .exit)) (now (lines .exit)) }
-        ≡ worded (rolls (lent (now (names .entry)) (now (cells .entry)) (now (head .entry)) (now (lines .entry))) mark) ⌝ }
+    ensures { λ r. ⌜ record {
+      word = r;
+      left = lent (now (names .exit)) (now (cells .exit)) (now (head .exit)) (now (sizes .exit)) (now (lines .exit));
+    }
+        ≡ worded (rolls (lent (now (names .entry)) (now (cells .entry)) (now (head .entry)) (now (sizes .entry)) (now (lines .entry)))
+        mark) ⌝ }
 {
-    let rolled = rollback(names, cells, head, lines, mark);
+    let rolled = rollback(names, cells, head, sizes, lines, mark);
     word(rolled.answer())
 }

@@ -86,9 +86,10 @@ fitness-one-to-one Unfit Unfit e = refl
 
 -- Calls whose outcomes are one are one.
 module _ {A : Type 0} (f : A → Answer) (apart : (a b : A) → f a ≡ f b → a ≡ b) where
-  call : {a b : A} {n c h l n′ c′ h′ l′ : List ℕ} → a ≡ b → n ≡ n′ → c ≡ c′ → h ≡ h′ → l ≡ l′
-      → _≡_ {A = Call A} (record { answer = a; names = n; cells = c; head = h; lines = l }) (record { answer = b; names = n′; cells = c′; head = h′; lines = l′ })
-  call e1 e2 e3 e4 e5 = rw (e1, e2, e3, e4, e5)
+  call : {a b : A} {n c h s l n′ c′ h′ s′ l′ : List ℕ} → a ≡ b → n ≡ n′ → c ≡ c′ → h ≡ h′ → s ≡ s′ → l ≡ l′
+      → _≡_ {A = Call A} (record { answer = a; names = n; cells = c; head = h; sizes = s; lines = l })
+      (record { answer = b; names = n′; cells = c′; head = h′; sizes = s′; lines = l′ })
+  call e1 e2 e3 e4 e5 e6 = rw (e1, e2, e3, e4, e5, e6)
 
   pub one : (o : Outcome) (c d : Call A) → outcomeOf f c ≡ o → outcomeOf f d ≡ o → c ≡ d
   one o c d p q =
@@ -98,6 +99,7 @@ module _ {A : Type 0} (f : A → Answer) (apart : (a b : A) → f a ≡ f b → 
       (ap (λ (w : Outcome). w .left .live .names) e)
       (ap (λ (w : Outcome). w .left .live .cells) e)
       (ap (λ (w : Outcome). w .left .live .head) e)
+      (ap (λ (w : Outcome). w .left .live .sizes) e)
       (ap (λ (w : Outcome). w .left .lines) e)
 
 pub calling : Calling

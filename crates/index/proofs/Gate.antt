@@ -7,17 +7,17 @@ use Rattle.slots.specs.Answers.{Answer, refused}
 use Rattle.tree_rules.specs.Find.{Counted, withLooks, counted, found}
 use Rattle.tree_rules.specs.Check.{checked}
 use Rattle.tree_rules.proofs.Claims.{claims}
-use Rattle.index_rules.specs.Live.{Live, rootOf, fits}
+use Rattle.index_rules.specs.Live.{Unsized, rootWord, fitsUnsized}
 use Rattle.index_rules.specs.Find.{finds}
 use Rattle.index_rules.specs.Check.{checks}
-use Rattle.index_rules.proofs.Fit.{fits-fit}
+use Rattle.index_rules.proofs.Fit.{fits-unsized}
 
-module _ (t : Live) {r : Bool} (e : r ≡ fits t) where
+module _ (t : Unsized) {r : Bool} (e : r ≡ fitsUnsized t) where
   pub find-unfit : (hash key : ℕ) → r ≡ false → withLooks 0 (refused 1) ≡ counted (finds t hash key)
   unfolding finds
   find-unfit hash key f = rw (← e, f)
 
-  pub find-fit : (hash key : ℕ) → r ≡ true → {root : ℕ} {a : Counted} → root ≡ rootOf t → a ≡ counted (found (t .names) (t .cells) root hash key) → a ≡ counted (finds t hash key)
+  pub find-fit : (hash key : ℕ) → r ≡ true → {root : ℕ} {a : Counted} → root ≡ rootWord (t .head) → a ≡ counted (found (t .names) (t .cells) root hash key) → a ≡ counted (finds t hash key)
   unfolding finds
   find-fit hash key f h i = rw (← e, f, ← h) i
 
@@ -25,13 +25,13 @@ module _ (t : Live) {r : Bool} (e : r ≡ fits t) where
   unfolding checks
   check-unfit f = rw (← e, f)
 
-  pub check-fit : r ≡ true → {root : ℕ} {a : Answer} → root ≡ rootOf t → a ≡ checked (t .names) (t .cells) root → a ≡ checks t
+  pub check-fit : r ≡ true → {root : ℕ} {a : Answer} → root ≡ rootWord (t .head) → a ≡ checked (t .names) (t .cells) root → a ≡ checks t
   unfolding checks
   check-fit f h i = rw (← e, f, ← h) i
 
 -- A search in fit words looks at no more slots than a word counts.
-pub looks-word : (t : Live) {r : Bool} → r ≡ fits t → r ≡ true → (root hash key : ℕ) {a : Counted}
+pub looks-word : (t : Unsized) {r : Bool} → r ≡ fitsUnsized t → r ≡ true → (root hash key : ℕ) {a : Counted}
     → a ≡ counted (found (t .names) (t .cells) root hash key) → a .looks ≤ 4096
 looks-word t e f root hash key i =
-    let fit = fits-fit t (sym e ∙ f) in
+    let fit = fits-unsized t (sym e ∙ f) in
     omega (arith, ap (λ (c : Counted). c .looks) i, claims .finds (t .names) (t .cells) root hash key .looks .most, fit .most, fit .two)

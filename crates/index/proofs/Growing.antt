@@ -10,15 +10,12 @@ use lib.Dec.{eqb}
 use borrow.Author.Tests.{eq-eqb, ne-eqb, le-leb, lt-leb}
 use Rattle.slots.specs.Words.{null, pick, place, state, prev, next, free, cell, write, rename, hashPart, keyPart}
 use Rattle.slots.specs.Answers.{some, none}
-use Rattle.redblack.specs.Links.{Links}
+use Rattle.redblack.specs.Links.{Links, lentLinks}
 use Rattle.redblack.specs.Hanging.{inserted, spotted}
-use Rattle.index_rules.specs.Live.{Live, rootOf, firstOf, countOf}
+use Rattle.index_rules.specs.Live.{Live, lentTree, rootOf, firstOf, countOf}
 use Rattle.index_rules.specs.Insert.{freeFrom, followerOf, seated, headed, grown}
 use Rattle.index.specs.Frees.{slotOf, grownIf}
 use Rattle.tree_rules.specs.Find.{slotsOf}
-
-abbrev pub links : List ℕ → ℕ → Links
-links cells root = record { cells = cells; root = root }
 
 free-step : (m : ℕ) → 0 < m → (cells : List ℕ) (k : ℕ) → freeFrom m cells k ≡ pick (eqb (cell cells k state) free) k (freeFrom (m - 1) cells (k + 1))
 unfolding freeFrom
@@ -75,13 +72,13 @@ module _ (t : Live) (x y hash key p : ℕ) where
         → root ≡ rootOf t → q ≡ followerOf t y → front ≡ pick (eqb y null) x (firstOf t)
         → names ≡ rename (rename (t .names) x hashPart hash) x keyPart key
         → c1 ≡ write (t .cells) x place p → c2 ≡ seated c1 x y q
-        → hung ≡ inserted (slotsOf (t .names)) (links c2 root) x (spotted (slotsOf (t .names)) names (links c2 root) hash key)
+        → hung ≡ inserted (slotsOf (t .names)) (lentLinks c2 root (t .sizes)) x (spotted (slotsOf (t .names)) names (lentLinks c2 root (t .sizes)) hash key)
         → head ≡ headed (t .head) (hung .root) front (count + 1)
-        → record { names = names; cells = hung .cells; head = head } ≡ grownIf t x y hash key p
+        → lentTree names (hung .cells) head (hung .sizes) ≡ grownIf t x y hash key p
     unfolding grown
     grow {root} {q} {front} {names} {c1} {c2} {head} {hung} n e2 e3 e4 e5 e6 e7 e8 e9 =
         let d : countOf t ≢ null = λ z. n (e1 ∙ z) in
-        let z : record { names = names; cells = hung .cells; head = head } ≡ grown t x y hash key p = rw (← e1, ← e2, ← e3, ← e4, ← e5, ← e6, ← e7, ← e8, ← e9) in
+        let z : lentTree names (hung .cells) head (hung .sizes) ≡ grown t x y hash key p = rw (← e1, ← e2, ← e3, ← e4, ← e5, ← e6, ← e7, ← e8, ← e9) in
         rw (le-leb (length (t .names)) 8192 h, ne-eqb (countOf t) null d) z
 
 -- What follows y, and the new first: two ways meet, by whether y is null.

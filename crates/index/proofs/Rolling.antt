@@ -93,6 +93,9 @@ module _ {ix : Index} {m count : ℕ} (o : Open ix m count) where
   pub head-three : length (ix .live .head) ≡ 3
   head-three = fit .tree .three
 
+  pub sizes-most : length (ix .live .sizes) ≤ 4096
+  sizes-most = omega (arith, fit .tree .most, fit .tree .each)
+
   pub count-room : countOf (ix .live) + count < null
   count-room = omega (arith, count-most (fit .tree) (yes-sound (fit .tree) (o .sounds)), fit .most, fit .within, o .lines)
 

@@ -6,13 +6,12 @@ use lib.ListN.{length}
 use lib.Dec.{eqb}
 use borrow.Author.Tests.{le-leb, lt-leb}
 use Rattle.slots.specs.Words.{null, pick, place, state, parent, left, right, prev, next, free, cell, write, rename, hashPart, keyPart}
-use Rattle.redblack.specs.Links.{Links}
+use Rattle.redblack.specs.Links.{Links, lentLinks}
 use Rattle.redblack.specs.Removal.{removed}
-use Rattle.index_rules.specs.Live.{Live, rootOf, firstOf, countOf}
+use Rattle.index_rules.specs.Live.{Live, lentTree, rootOf, firstOf, countOf}
 use Rattle.index_rules.specs.Insert.{headed}
 use Rattle.index_rules.specs.Remove.{unchained, wiped, shrunk}
 use Rattle.index.specs.Frees.{shrunkIf}
-use Rattle.index.proofs.Growing.{links}
 use Rattle.tree_rules.specs.Find.{slotsOf}
 
 module _ (cells : List ℕ) (x : ℕ) where
@@ -40,11 +39,11 @@ module _ (t : Live) (x : ℕ) where
       → count ≡ countOf t → fewer ≡ count - 1
       → names ≡ rename (rename (t .names) x hashPart 0) x keyPart 0
       → c1 ≡ unchained (t .cells) x
-      → gone ≡ removed (slotsOf (t .names)) (links c1 root) x
+      → gone ≡ removed (slotsOf (t .names)) (lentLinks c1 root (t .sizes)) x
       → c2 ≡ wiped (gone .cells) x
       → head ≡ headed (t .head) (gone .root) new fewer
-      → record { names = names; cells = c2; head = head } ≡ shrunkIf t x
+      → lentTree names c2 head (gone .sizes) ≡ shrunkIf t x
   unfolding shrunk
   shrink {root} {first} {count} {new} {fewer} {names} {c1} {c2} {head} {gone} h e1 e2 e3 e4 e5 e6 e7 e8 e9 e10 =
-      let z : record { names = names; cells = c2; head = head } ≡ shrunk t x = rw (← e1, ← e2, ← e3, ← e4, ← e5, ← e6, ← e7, ← e8, ← e9, ← e10) in
+      let z : lentTree names c2 head (gone .sizes) ≡ shrunk t x = rw (← e1, ← e2, ← e3, ← e4, ← e5, ← e6, ← e7, ← e8, ← e9, ← e10) in
       rw (le-leb (length (t .names)) 8192 h) z

@@ -75,7 +75,7 @@ module _ (t : Live) (hash key w : ℕ) where
     place-other n = rw (s, ← e, ne-eqb own (w % 4294967296) n)
 
     pub place-done : {c : List ℕ} → own ≡ w % 4294967296 → w / 4294967296 < 4294967296 → c ≡ write (t .cells) x place (w / 4294967296)
-        → stays (lentTree (t .names) c (t .head)) ≡ placedBack t (soughtIn t hash key) w
+        → stays (lentTree (t .names) c (t .head) (t .sizes)) ≡ placedBack t (soughtIn t hash key) w
     unfolding placedAt
     place-done h l g = rw (s, ← e, eq-eqb own (w % 4294967296) h, lt-ltb (w / 4294967296) 4294967296 l, ← g)
 
@@ -187,6 +187,7 @@ pub record Turn (t₀ : Live) (lines : List ℕ) (m count : ℕ) (t : Live) (c :
   pub names : length (t .names) ≡ length (t₀ .names)
   pub cells : length (t .cells) ≡ length (t₀ .cells)
   pub head : length (t .head) ≡ length (t₀ .head)
+  pub sizes : length (t .sizes) ≡ length (t₀ .sizes)
 
 module _ (lines : List ℕ) (m : ℕ) (t : Live) where
   unroll-on : (c : ℕ) {u : Live} → 0 < c → stays u ≡ undone t (lineOf lines (m + (c - 1))) → unrolled (c - 1) u lines m ≡ unrolled c t lines m
@@ -207,8 +208,9 @@ module _ (lines : List ℕ) (m : ℕ) (t : Live) where
 module _ {t₀ : Live} {lines : List ℕ} {m count : ℕ} {t : Live} {c : ℕ} (turn : Turn t₀ lines m count t c) where
   pub turn-on : {r : Undoing} {u : Live} → 0 < c → undoOf r u ≡ undone t (lineOf lines (m + (c - 1))) → r ≡ Done
       → length (u .names) ≡ length (t .names) → length (u .cells) ≡ length (t .cells) → length (u .head) ≡ length (t .head)
+      → length (u .sizes) ≡ length (t .sizes)
       → Turn t₀ lines m count u (c - 1)
-  turn-on {r} {u} h e f n1 n2 n3 =
+  turn-on {r} {u} h e f n1 n2 n3 n4 =
       let g : stays u ≡ undone t (lineOf lines (m + (c - 1))) = ap (λ (b : Undoing). undoOf b u) (sym f) ∙ e in
       let l : countOf t < null = omega (arith, turn .small) in
       record {
@@ -217,6 +219,7 @@ module _ {t₀ : Live} {lines : List ℕ} {m count : ℕ} {t : Live} {c : ℕ} (
         names = n1 ∙ turn .names;
         cells = n2 ∙ turn .cells;
         head = n3 ∙ turn .head;
+        sizes = n4 ∙ turn .sizes;
       }
 
   pub turn-not : {r : Undoing} (u : Live) → 0 < c → undoOf r u ≡ undone t (lineOf lines (m + (c - 1))) → r ≡ Misfit
@@ -268,6 +271,5 @@ head-back {h} g e f e1 e2 e3 e4 = e4 ∙ rw (e1, e2, e3) (go (to-three h e) (to-
     go : {h g : List ℕ} → Three h → Three g → headed g (getD h 0 null) (getD h 1 null) (getD h 2 null) ≡ h
     go (three a b c) (three x y z) = refl
 
-pub tree-back : {n c h n′ c′ h′ : List ℕ} → n ≡ n′ → c ≡ c′ → h ≡ h′
-    → _≡_ {A = Live} (record { names = n; cells = c; head = h }) (record { names = n′; cells = c′; head = h′ })
-tree-back e1 e2 e3 = rw (e1, e2, e3)
+pub tree-back : {n c h s n′ c′ h′ s′ : List ℕ} → n ≡ n′ → c ≡ c′ → h ≡ h′ → s ≡ s′ → _≡_ {A = Live} (lentTree n c h s) (lentTree n′ c′ h′ s′)
+tree-back e1 e2 e3 e4 = rw (e1, e2, e3, e4)

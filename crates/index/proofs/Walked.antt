@@ -8,7 +8,7 @@ use Rattle.slots.specs.Answers.{Value, none, some}
 use Rattle.tree_rules.specs.Find.{slotsOf}
 use Rattle.tree_rules.specs.Rules.{then, reached, rises, coloured, level, obeyed, treeSize}
 use Rattle.index_rules.specs.Live.{Live, rootOf, countOf}
-use Rattle.index_rules.specs.Sound.{leaves, rule1, rule2, rule3, rule4, rule5, rule6, rule7, sound}
+use Rattle.index_rules.specs.Sound.{leaves, rule1, rule2, rule3, rule4, rule5, rule6, rule7, rule8, sound}
 use Rattle.index.specs.Sound.{treeRules}
 
 abbrev counts : ℕ → Value → Bool
@@ -56,6 +56,6 @@ inside true true false d rest = refl
 inside true false c d rest = refl
 inside false b c d rest = refl
 
-pub in-four : (t : Live) → sound t ≡ pick (rule1 t) (pick (rule2 t) (pick (treeRules t) (rule7 t) false) false) false
+pub in-five : (t : Live) → sound t ≡ pick (rule1 t) (pick (rule2 t) (pick (treeRules t) (pick (rule7 t) (rule8 t) false) false) false) false
 unfolding sound
-in-four t = rw (inside (rule3 t) (rule4 t) (rule5 t) (rule6 t) (rule7 t))
+in-five t = rw (inside (rule3 t) (rule4 t) (rule5 t) (rule6 t) (pick (rule7 t) (rule8 t) false))

@@ -17,19 +17,20 @@ use Rattle.index.specs.declared.insert.Inserted.{Inserted}
 use Rattle.index.specs.declared.remove.Removed.{Removed}
 use Rattle.index.specs.declared.replace.Replaced.{Replaced}
 
--- What a call returns, and the words of the four slices after it.
+-- What a call returns, and the words of the five slices after it.
 pub record Call (A : Type 0) : Type 0 where
   pub answer : A
   pub names : List ℕ
   pub cells : List ℕ
   pub head : List ℕ
+  pub sizes : List ℕ
   pub lines : List ℕ
 
 abbrev pub outcomeOf : {A : Type 0} → (A → Answer) → Call A → Outcome
 outcomeOf f c =
     record {
       answer = f (c .answer);
-      left = record { live = record { names = c .names; cells = c .cells; head = c .head }; lines = c .lines };
+      left = record { live = record { names = c .names; cells = c .cells; head = c .head; sizes = c .sizes }; lines = c .lines };
     }
 
 pub record Calling : Type 0 where

@@ -6,7 +6,7 @@ use Rattle.slots.specs.Answers.{Answer, OneAnswer}
 use Rattle.slots.specs.Coded.{answerOf}
 use Rattle.tree_rules.specs.Find.{Counted, counted}
 use Rattle.tree.specs.Find.{countedOf}
-use Rattle.index_rules.specs.Live.{Live, fits}
+use Rattle.index_rules.specs.Live.{Live, Unsized, fits, fitsUnsized}
 use Rattle.index_rules.specs.Find.{finds}
 use Rattle.index_rules.specs.Check.{checks}
 use Rattle.tree_rules.specs.Chain.{tally}
@@ -18,11 +18,12 @@ use Rattle.index.specs.declared.sound.Soundness.{Soundness}
 
 pub record Reading : Type 0 where
   pub found-one-to-one : (a b : Found) → foundOf a ≡ foundOf b → a ≡ b
-  pub find-one : (t : Live) (hash key : ℕ) → OneAnswer (λ r. foundOf r ≡ counted (finds t hash key))
+  pub find-one : (t : Unsized) (hash key : ℕ) → OneAnswer (λ r. foundOf r ≡ counted (finds t hash key))
   pub checked-one-to-one : (a b : Checked) → checkedOf a ≡ checkedOf b → a ≡ b
-  pub check-one : (t : Live) → OneAnswer (λ r. checkedOf r ≡ checks t)
+  pub check-one : (t : Unsized) → OneAnswer (λ r. checkedOf r ≡ checks t)
   pub soundness-one-to-one : (a b : Soundness) → soundOf a ≡ soundOf b → a ≡ b
   pub sound-one : (t : Live) → OneAnswer (λ r. soundOf r ≡ sounds t)
+  pub fit-unsized-one : (t : Unsized) → OneAnswer (λ r. r ≡ fitsUnsized t)
   pub fit-one : (t : Live) → OneAnswer (λ r. r ≡ fits t)
   pub counted-one : (c : Counted) → OneAnswer (λ r. countedOf r ≡ c)
   pub answer-one : (a : Answer) → OneAnswer (λ r. answerOf r ≡ a)

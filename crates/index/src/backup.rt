@@ -16,7 +16,7 @@ pub(crate) fn copy_names(src: &[u64], dst: &mut [u64], n: usize)
     }
 }
 
-// The first n words of a slice of cells, copied.
+// The first n words of a slice of cells or of sizes, copied.
 pub(crate) fn copy_cells(src: &[u32], dst: &mut [u32], n: usize)
     requires { ⌜ n ≤ length (now src) ⌝ }
     requires { ⌜ n ≤ length (now dst) ⌝ }

@@ -1,5 +1,5 @@
 // check: the source's own check of a live tree. Passing it is not soundness.
-use crate::fit::fit;
+use crate::fit::fit_unsized;
 use slots::NULL;
 use slots::ROOT;
 use slots::answer::Answer;
@@ -11,7 +11,7 @@ use tree::check::Checked as Walked;
 use tree::check::check_invariants;
 ghost use mathlib.Core.Path.{_≡_};
 ghost use Rattle.slots.specs.Coded.{answerOf};
-ghost use Rattle.index_rules.specs.Live.{lentTree};
+ghost use Rattle.index_rules.specs.Live.{unsized};
 ghost use Rattle.index_rules.specs.Check.{checks};
 ghost use Rattle.index.specs.Reads.{checkedOf};
 
@@ -42,9 +42,9 @@ impl Checked {
 
 // The source's own check of a live tree (docs/RULES.md, section 6).
 pub fn check(names: &[u64], cells: &[u32], head: &[u32]) -> Checked
-    ensures { λ r. ⌜ checkedOf r ≡ checks (lentTree (now (names .entry)) (now (cells .entry)) (now (head .entry))) ⌝ }
+    ensures { λ r. ⌜ checkedOf r ≡ checks (unsized (now (names .entry)) (now (cells .entry)) (now (head .entry))) ⌝ }
 {
-    if !fit(names, cells, head) {
+    if !fit_unsized(names, cells, head) {
         return Checked::Unfit;
     }
     let root = word(head, ROOT, NULL);

@@ -1,5 +1,5 @@
 // find: the slot that has a pair.
-use crate::fit::fit;
+use crate::fit::fit_unsized;
 use slots::NULL;
 use slots::ROOT;
 use slots::answer::given;
@@ -13,7 +13,7 @@ use tree::find::find_tree_node;
 ghost use mathlib.Core.Path.{_≡_};
 ghost use Rattle.tree_rules.specs.Find.{counted as countedLooks};
 ghost use Rattle.tree.specs.Find.{countedOf};
-ghost use Rattle.index_rules.specs.Live.{lentTree};
+ghost use Rattle.index_rules.specs.Live.{unsized};
 ghost use Rattle.index_rules.specs.Find.{finds};
 ghost use Rattle.index.specs.Reads.{foundOf};
 
@@ -41,9 +41,9 @@ impl Found {
 
 // The slot that has the pair (hash, key), by the source's search (docs/RULES.md, section 3).
 pub fn find(names: &[u64], cells: &[u32], head: &[u32], hash: u64, key: u64) -> Found
-    ensures { λ r. ⌜ foundOf r ≡ countedLooks (finds (lentTree (now (names .entry)) (now (cells .entry)) (now (head .entry))) hash key) ⌝ }
+    ensures { λ r. ⌜ foundOf r ≡ countedLooks (finds (unsized (now (names .entry)) (now (cells .entry)) (now (head .entry))) hash key) ⌝ }
 {
-    if !fit(names, cells, head) {
+    if !fit_unsized(names, cells, head) {
         return Found::Unfit;
     }
     let root = word(head, ROOT, NULL);

@@ -1,13 +1,19 @@
 // Whether lent slices are a live tree's: their lengths, and a capacity of 1 to 4,096 slots.
 use slots::MOST_SLOTS;
 ghost use mathlib.Core.Path.{_≡_};
-ghost use Rattle.index_rules.specs.Live.{fits, lentTree};
-ghost use Rattle.index_rules.specs.Index.{lent};
+ghost use Rattle.index_rules.specs.Live.{fits, fitsUnsized, lentTree, unsized};
 
-// Whether the three slices are a live tree's: their lengths agree, and the capacity is 1 to 4,096.
-pub fn fit(names: &[u64], cells: &[u32], head: &[u32]) -> bool
-    ensures { λ r. ⌜ r ≡ fits (lentTree (now (names .entry)) (now (cells .entry)) (now (head .entry))) ⌝ }
+// Whether the three slices are a live tree's without its sizes: their lengths agree, and the capacity is 1 to 4,096.
+pub fn fit_unsized(names: &[u64], cells: &[u32], head: &[u32]) -> bool
+    ensures { λ r. ⌜ r ≡ fitsUnsized (unsized (now (names .entry)) (now (cells .entry)) (now (head .entry))) ⌝ }
 {
     let n = names.len() / 2;
     1 <= n && n <= MOST_SLOTS && names.len() == 2 * n && cells.len() == 7 * n && head.len() == 3
+}
+
+// Whether the four slices are a live tree's: the first three are, and there is a size to a slot.
+pub fn fit(names: &[u64], cells: &[u32], head: &[u32], sizes: &[u32]) -> bool
+    ensures { λ r. ⌜ r ≡ fits (lentTree (now (names .entry)) (now (cells .entry)) (now (head .entry)) (now (sizes .entry))) ⌝ }
+{
+    fit_unsized(names, cells, head) && sizes.len() == names.len() / 2
 }

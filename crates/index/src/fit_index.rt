@@ -5,17 +5,24 @@ ghost use mathlib.Core.Path.{_≡_};
 ghost use Rattle.index_rules.specs.Index.{fitsIndex, lent};
 ghost use Rattle.index.specs.Calls.{fitnessOf};
 
-// Whether four slices are an index: 1 goes up where they are not.
+// Whether five slices are an index: 1 goes up where they are not.
 pub enum Fitness {
     Fit,
     Unfit, // 1
 }
 
-// Whether the four slices are a live tree's with its journal.
-pub fn fit_index(names: &[u64], cells: &[u32], head: &[u32], lines: &[u64]) -> Fitness
-    ensures { λ r. ⌜ fitnessOf r ≡ fitsIndex (lent (now (names .entry)) (now (cells .entry)) (now (head .entry)) (now (lines .entry))) ⌝ }
+// Whether the five slices are a live tree's with its journal.
+pub fn fit_index(
+    names: &[u64],
+    cells: &[u32],
+    head: &[u32],
+    sizes: &[u32],
+    lines: &[u64],
+) -> Fitness
+    ensures { λ r. ⌜ fitnessOf r
+        ≡ fitsIndex (lent (now (names .entry)) (now (cells .entry)) (now (head .entry)) (now (sizes .entry)) (now (lines .entry))) ⌝ }
 {
-    let tree = fit(names, cells, head);
+    let tree = fit(names, cells, head, sizes);
     if !tree {
         return Fitness::Unfit;
     }

@@ -78,14 +78,15 @@ pub fn grow(
     names: &mut [u64],
     cells: &mut [u32],
     head: &mut [u32],
+    sizes: &mut [u32],
     x: u32,
     y: u32,
     hash: u64,
     key: u64,
     place: u32,
 )
-    ensures { λ _. ⌜ lentTree (now (names .exit)) (now (cells .exit)) (now (head .exit))
-        ≡ grownIf (lentTree (now (names .entry)) (now (cells .entry)) (now (head .entry))) x y hash key place ⌝ }
+    ensures { λ _. ⌜ lentTree (now (names .exit)) (now (cells .exit)) (now (head .exit)) (now (sizes .exit))
+        ≡ grownIf (lentTree (now (names .entry)) (now (cells .entry)) (now (head .entry)) (now (sizes .entry))) x y hash key place ⌝ }
 {
     if MOST_NAMES < names.len() {
         return;
@@ -104,6 +105,6 @@ pub fn grow(
     put_pair(names, x, hash, key);
     put(cells, x, PLACE, place);
     seat(cells, x, y, q);
-    let top = hang_slot(names, cells, root, x, hash, key, n);
+    let top = hang_slot(names, cells, sizes, root, x, hash, key, n);
     head_put(head, top, front, more);
 }

@@ -55,15 +55,24 @@ impl Inserted {
 }
 
 // What insert answers, before anything is written: the tests 1, 2, 3, 5, 6 in turn, else the slot that the pair takes.
-fn ask(names: &[u64], cells: &[u32], head: &[u32], lines: &[u64], hash: u64, key: u64) -> Inserted
+fn ask(
+    names: &[u64],
+    cells: &[u32],
+    head: &[u32],
+    sizes: &[u32],
+    lines: &[u64],
+    hash: u64,
+    key: u64,
+) -> Inserted
     ensures { λ r. ⌜ ((p : ℕ) → insertedOf r
-        ≡ inserts (lent (now (names .entry)) (now (cells .entry)) (now (head .entry)) (now (lines .entry))) hash key p .answer) ⌝ }
+        ≡ inserts (lent (now (names .entry)) (now (cells .entry)) (now (head .entry)) (now (sizes .entry)) (now (lines .entry)))
+        hash key p .answer) ⌝ }
 {
-    let fitness = fit_index(names, cells, head, lines);
+    let fitness = fit_index(names, cells, head, sizes, lines);
     let Fitness::Fit = fitness else {
         return Inserted::Unfit;
     };
-    let verdict = sound(names, cells, head);
+    let verdict = sound(names, cells, head, sizes);
     let Soundness::Yes = verdict else {
         return Inserted::Damaged;
     };
@@ -88,19 +97,22 @@ pub fn insert(
     names: &mut [u64],
     cells: &mut [u32],
     head: &mut [u32],
+    sizes: &mut [u32],
     lines: &mut [u64],
     hash: u64,
     key: u64,
     place: u32,
 ) -> Inserted
-    ensures { λ r. ⌜ outcome (insertedOf r) (lent (now (names .exit)) (now (cells .exit)) (now (head .exit)) (now (lines .exit)))
-        ≡ inserts (lent (now (names .entry)) (now (cells .entry)) (now (head .entry)) (now (lines .entry))) hash key place ⌝ }
+    ensures { λ r. ⌜ outcome (insertedOf r)
+        (lent (now (names .exit)) (now (cells .exit)) (now (head .exit)) (now (sizes .exit)) (now (lines .exit)))
+        ≡ inserts (lent (now (names .entry)) (now (cells .entry)) (now (head .entry)) (now (sizes .entry)) (now (lines .entry)))
+        hash key place ⌝ }
 {
-    let asked = ask(names, cells, head, lines, hash, key);
+    let asked = ask(names, cells, head, sizes, lines, hash, key);
     let Inserted::At(x) = asked else {
         return asked;
     };
-    grow(names, cells, head, x, NULL, hash, key, place);
+    grow(names, cells, head, sizes, x, NULL, hash, key, place);
     append(lines, INSERT, hash, key, place as u64, 0, 0);
     Inserted::At(x)
 }

@@ -44,14 +44,15 @@ fn take_back(
     names: &mut [u64],
     cells: &mut [u32],
     head: &mut [u32],
+    sizes: &mut [u32],
     hash: u64,
     key: u64,
     place: u64,
 ) -> Undoing
     requires { ⌜ length (now names) ≤ mostNames ⌝ }
-    ensures { λ r. ⌜ undoOf r (lentTree (now (names .exit)) (now (cells .exit)) (now (head .exit)))
-        ≡ takenBack (lentTree (now (names .entry)) (now (cells .entry)) (now (head .entry)))
-        (soughtIn (lentTree (now (names .entry)) (now (cells .entry)) (now (head .entry))) hash key) place ⌝ }
+    ensures { λ r. ⌜ undoOf r (lentTree (now (names .exit)) (now (cells .exit)) (now (head .exit)) (now (sizes .exit)))
+        ≡ takenBack (lentTree (now (names .entry)) (now (cells .entry)) (now (head .entry)) (now (sizes .entry)))
+        (soughtIn (lentTree (now (names .entry)) (now (cells .entry)) (now (head .entry)) (now (sizes .entry))) hash key) place ⌝ }
 {
     let root = word(head, ROOT, NULL);
     let found = find_tree_node(names, cells, root, hash, key);
@@ -62,7 +63,7 @@ fn take_back(
     if own as u64 != place {
         return Undoing::Misfit;
     }
-    shrink(names, cells, head, x);
+    shrink(names, cells, head, sizes, x);
     Undoing::Done
 }
 
@@ -72,6 +73,7 @@ fn put_back(
     names: &mut [u64],
     cells: &mut [u32],
     head: &mut [u32],
+    sizes: &mut [u32],
     hash: u64,
     key: u64,
     place: u64,
@@ -79,9 +81,11 @@ fn put_back(
 ) -> Undoing
     requires { ⌜ length (now names) ≤ mostNames ⌝ }
     requires { ⌜ getD (now head) 2 null < null ⌝ }
-    ensures { λ r. ⌜ ((kind priorHash priorKey : ℕ) → undoOf r (lentTree (now (names .exit)) (now (cells .exit)) (now (head .exit)))
-        ≡ putBack (lentTree (now (names .entry)) (now (cells .entry)) (now (head .entry)))
-        (soughtIn (lentTree (now (names .entry)) (now (cells .entry)) (now (head .entry))) hash key) (lineMade kind hash key place priorHash priorKey) y) ⌝ }
+    ensures { λ r. ⌜ ((kind priorHash priorKey : ℕ) → undoOf r
+        (lentTree (now (names .exit)) (now (cells .exit)) (now (head .exit)) (now (sizes .exit)))
+        ≡ putBack (lentTree (now (names .entry)) (now (cells .entry)) (now (head .entry)) (now (sizes .entry)))
+        (soughtIn (lentTree (now (names .entry)) (now (cells .entry)) (now (head .entry)) (now (sizes .entry))) hash key)
+        (lineMade kind hash key place priorHash priorKey) y) ⌝ }
 {
     let root = word(head, ROOT, NULL);
     let found = find_tree_node(names, cells, root, hash, key);
@@ -93,7 +97,7 @@ fn put_back(
         if MOST_PLACES <= place {
             return Undoing::Misfit;
         }
-        grow(names, cells, head, x, y, hash, key, place as u32);
+        grow(names, cells, head, sizes, x, y, hash, key, place as u32);
         return Undoing::Done;
     };
     Undoing::Misfit
@@ -104,6 +108,7 @@ fn put_behind(
     names: &mut [u64],
     cells: &mut [u32],
     head: &mut [u32],
+    sizes: &mut [u32],
     hash: u64,
     key: u64,
     place: u64,
@@ -112,17 +117,18 @@ fn put_behind(
 ) -> Undoing
     requires { ⌜ length (now names) ≤ mostNames ⌝ }
     requires { ⌜ getD (now head) 2 null < null ⌝ }
-    ensures { λ r. ⌜ ((kind : ℕ) → undoOf r (lentTree (now (names .exit)) (now (cells .exit)) (now (head .exit)))
-        ≡ putBehind (lentTree (now (names .entry)) (now (cells .entry)) (now (head .entry)))
-        (soughtIn (lentTree (now (names .entry)) (now (cells .entry)) (now (head .entry))) prehash prekey)
-        (soughtIn (lentTree (now (names .entry)) (now (cells .entry)) (now (head .entry))) hash key) (lineMade kind hash key place prehash prekey)) ⌝ }
+    ensures { λ r. ⌜ ((kind : ℕ) → undoOf r (lentTree (now (names .exit)) (now (cells .exit)) (now (head .exit)) (now (sizes .exit)))
+        ≡ putBehind (lentTree (now (names .entry)) (now (cells .entry)) (now (head .entry)) (now (sizes .entry)))
+        (soughtIn (lentTree (now (names .entry)) (now (cells .entry)) (now (head .entry)) (now (sizes .entry))) prehash prekey)
+        (soughtIn (lentTree (now (names .entry)) (now (cells .entry)) (now (head .entry)) (now (sizes .entry))) hash key)
+        (lineMade kind hash key place prehash prekey)) ⌝ }
 {
     let root = word(head, ROOT, NULL);
     let found = find_tree_node(names, cells, root, prehash, prekey);
     let Found::At(y, _) = found else {
         return Undoing::Misfit;
     };
-    put_back(names, cells, head, hash, key, place, y)
+    put_back(names, cells, head, sizes, hash, key, place, y)
 }
 
 // A replace line is undone by the old place: its pair is there with the new one. Misfit where it is not.
@@ -130,13 +136,14 @@ fn place_back(
     names: &[u64],
     cells: &mut [u32],
     head: &[u32],
+    sizes: &[u32],
     hash: u64,
     key: u64,
     places: u64,
 ) -> Undoing
-    ensures { λ r. ⌜ undoOf r (lentTree (now (names .entry)) (now (cells .exit)) (now (head .entry)))
-        ≡ placedBack (lentTree (now (names .entry)) (now (cells .entry)) (now (head .entry)))
-        (soughtIn (lentTree (now (names .entry)) (now (cells .entry)) (now (head .entry))) hash key) places ⌝ }
+    ensures { λ r. ⌜ undoOf r (lentTree (now (names .entry)) (now (cells .exit)) (now (head .entry)) (now (sizes .entry)))
+        ≡ placedBack (lentTree (now (names .entry)) (now (cells .entry)) (now (head .entry)) (now (sizes .entry)))
+        (soughtIn (lentTree (now (names .entry)) (now (cells .entry)) (now (head .entry)) (now (sizes .entry))) hash key) places ⌝ }
 {
     let root = word(head, ROOT, NULL);
     let found = find_tree_node(names, cells, root, hash, key);
@@ -156,31 +163,33 @@ fn undo_line(
     names: &mut [u64],
     cells: &mut [u32],
     head: &mut [u32],
+    sizes: &mut [u32],
     lines: &[u64],
     k: usize,
 ) -> Undoing
     requires { ⌜ length (now names) ≤ mostNames ⌝ }
     requires { ⌜ getD (now head) 2 null < null ⌝ }
-    ensures { λ r. ⌜ undoOf r (lentTree (now (names .exit)) (now (cells .exit)) (now (head .exit)))
-        ≡ undone (lentTree (now (names .entry)) (now (cells .entry)) (now (head .entry))) (lineOf (now (lines .entry)) k) ⌝ }
+    ensures { λ r. ⌜ undoOf r (lentTree (now (names .exit)) (now (cells .exit)) (now (head .exit)) (now (sizes .exit)))
+        ≡ undone (lentTree (now (names .entry)) (now (cells .entry)) (now (head .entry)) (now (sizes .entry)))
+        (lineOf (now (lines .entry)) k) ⌝ }
 {
     let kind = line_word(lines, k, LINE_KIND);
     let hash = line_word(lines, k, LINE_HASH);
     let key = line_word(lines, k, LINE_KEY);
     let place = line_word(lines, k, LINE_PLACE);
     if kind == INSERT {
-        return take_back(names, cells, head, hash, key, place);
+        return take_back(names, cells, head, sizes, hash, key, place);
     }
     if kind == REMOVE {
-        return put_back(names, cells, head, hash, key, place, NULL);
+        return put_back(names, cells, head, sizes, hash, key, place, NULL);
     }
     if kind == NOTED_REMOVE {
         let prehash = line_word(lines, k, LINE_PRIOR_HASH);
         let prekey = line_word(lines, k, LINE_PRIOR_KEY);
-        return put_behind(names, cells, head, hash, key, place, prehash, prekey);
+        return put_behind(names, cells, head, sizes, hash, key, place, prehash, prekey);
     }
     if kind == REPLACE {
-        return place_back(names, cells, head, hash, key, place);
+        return place_back(names, cells, head, sizes, hash, key, place);
     }
     Undoing::Misfit
 }
@@ -190,19 +199,21 @@ pub(crate) fn unroll(
     names: &mut [u64],
     cells: &mut [u32],
     head: &mut [u32],
+    sizes: &mut [u32],
     lines: &[u64],
     m: u32,
     count: u32,
 ) -> Undoing
     requires { ⌜ length (now names) ≤ mostNames ⌝ }
     requires { ⌜ getD (now head) 2 null + count < null ⌝ }
-    ensures { λ r. ⌜ undoOf r (lentTree (now (names .exit)) (now (cells .exit)) (now (head .exit)))
-        ≡ unrolled count (lentTree (now (names .entry)) (now (cells .entry)) (now (head .entry))) (now (lines .entry)) m ⌝ }
+    ensures { λ r. ⌜ undoOf r (lentTree (now (names .exit)) (now (cells .exit)) (now (head .exit)) (now (sizes .exit)))
+        ≡ unrolled count (lentTree (now (names .entry)) (now (cells .entry)) (now (head .entry)) (now (sizes .entry)))
+        (now (lines .entry)) m ⌝ }
 {
     let mut c = count;
     while 0 < c {
         c -= 1;
-        let undone = undo_line(names, cells, head, lines, m as usize + c as usize);
+        let undone = undo_line(names, cells, head, sizes, lines, m as usize + c as usize);
         let Undoing::Done = undone else {
             return Undoing::Misfit;
         };

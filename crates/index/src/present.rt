@@ -29,18 +29,20 @@ pub(crate) fn present(
     names: &[u64],
     cells: &[u32],
     head: &[u32],
+    sizes: &[u32],
     lines: &[u64],
     hash: u64,
     key: u64,
 ) -> Presence
     ensures { λ r. ⌜ ((leave : ℕ → Index) → presenceOf r
-        ≡ wherePresent (lent (now (names .entry)) (now (cells .entry)) (now (head .entry)) (now (lines .entry))) hash key leave .answer) ⌝ }
+        ≡ wherePresent (lent (now (names .entry)) (now (cells .entry)) (now (head .entry)) (now (sizes .entry)) (now (lines .entry)))
+        hash key leave .answer) ⌝ }
 {
-    let fitness = fit_index(names, cells, head, lines);
+    let fitness = fit_index(names, cells, head, sizes, lines);
     let Fitness::Fit = fitness else {
         return Presence::Unfit;
     };
-    let verdict = sound(names, cells, head);
+    let verdict = sound(names, cells, head, sizes);
     let Soundness::Yes = verdict else {
         return Presence::Damaged;
     };

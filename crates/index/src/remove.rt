@@ -46,11 +46,20 @@ impl Removed {
 }
 
 // What remove answers, before anything is written: a refusal, else the slot that the pair frees.
-fn ask(names: &[u64], cells: &[u32], head: &[u32], lines: &[u64], hash: u64, key: u64) -> Removed
+fn ask(
+    names: &[u64],
+    cells: &[u32],
+    head: &[u32],
+    sizes: &[u32],
+    lines: &[u64],
+    hash: u64,
+    key: u64,
+) -> Removed
     ensures { λ r. ⌜ removedOf r
-        ≡ removes (lent (now (names .entry)) (now (cells .entry)) (now (head .entry)) (now (lines .entry))) hash key .answer ⌝ }
+        ≡ removes (lent (now (names .entry)) (now (cells .entry)) (now (head .entry)) (now (sizes .entry)) (now (lines .entry)))
+        hash key .answer ⌝ }
 {
-    let presence = present(names, cells, head, lines, hash, key);
+    let presence = present(names, cells, head, sizes, lines, hash, key);
     match presence {
         Presence::At(x) => Removed::At(x),
         Presence::Unfit => Removed::Unfit,
@@ -66,14 +75,17 @@ pub fn remove(
     names: &mut [u64],
     cells: &mut [u32],
     head: &mut [u32],
+    sizes: &mut [u32],
     lines: &mut [u64],
     hash: u64,
     key: u64,
 ) -> Removed
-    ensures { λ r. ⌜ outcome (removedOf r) (lent (now (names .exit)) (now (cells .exit)) (now (head .exit)) (now (lines .exit)))
-        ≡ removes (lent (now (names .entry)) (now (cells .entry)) (now (head .entry)) (now (lines .entry))) hash key ⌝ }
+    ensures { λ r. ⌜ outcome (removedOf r)
+        (lent (now (names .exit)) (now (cells .exit)) (now (head .exit)) (now (sizes .exit)) (now (lines .exit)))
+        ≡ removes (lent (now (names .entry)) (now (cells .entry)) (now (head .entry)) (now (sizes .entry)) (now (lines .entry)))
+        hash key ⌝ }
 {
-    let asked = ask(names, cells, head, lines, hash, key);
+    let asked = ask(names, cells, head, sizes, lines, hash, key);
     let Removed::At(x) = asked else {
         return asked;
     };
@@ -81,7 +93,7 @@ pub fn remove(
     let y = get(cells, x, PREV);
     let prehash = name(names, y, HASH);
     let prekey = name(names, y, KEY);
-    shrink(names, cells, head, x);
+    shrink(names, cells, head, sizes, x);
     if y == NULL {
         append(lines, REMOVE, hash, key, place, 0, 0);
     } else {

@@ -42,11 +42,20 @@ impl Replaced {
 }
 
 // What replace answers, before anything is written: a refusal, else the slot that has the pair.
-fn ask(names: &[u64], cells: &[u32], head: &[u32], lines: &[u64], hash: u64, key: u64) -> Replaced
+fn ask(
+    names: &[u64],
+    cells: &[u32],
+    head: &[u32],
+    sizes: &[u32],
+    lines: &[u64],
+    hash: u64,
+    key: u64,
+) -> Replaced
     ensures { λ r. ⌜ ((p : ℕ) → replacedOf r
-        ≡ replaces (lent (now (names .entry)) (now (cells .entry)) (now (head .entry)) (now (lines .entry))) hash key p .answer) ⌝ }
+        ≡ replaces (lent (now (names .entry)) (now (cells .entry)) (now (head .entry)) (now (sizes .entry)) (now (lines .entry)))
+        hash key p .answer) ⌝ }
 {
-    let presence = present(names, cells, head, lines, hash, key);
+    let presence = present(names, cells, head, sizes, lines, hash, key);
     match presence {
         Presence::At(x) => Replaced::At(x),
         Presence::Unfit => Replaced::Unfit,
@@ -61,15 +70,18 @@ pub fn replace(
     names: &[u64],
     cells: &mut [u32],
     head: &[u32],
+    sizes: &[u32],
     lines: &mut [u64],
     hash: u64,
     key: u64,
     place: u32,
 ) -> Replaced
-    ensures { λ r. ⌜ outcome (replacedOf r) (lent (now (names .entry)) (now (cells .exit)) (now (head .entry)) (now (lines .exit)))
-        ≡ replaces (lent (now (names .entry)) (now (cells .entry)) (now (head .entry)) (now (lines .entry))) hash key place ⌝ }
+    ensures { λ r. ⌜ outcome (replacedOf r)
+        (lent (now (names .entry)) (now (cells .exit)) (now (head .entry)) (now (sizes .entry)) (now (lines .exit)))
+        ≡ replaces (lent (now (names .entry)) (now (cells .entry)) (now (head .entry)) (now (sizes .entry)) (now (lines .entry)))
+        hash key place ⌝ }
 {
-    let asked = ask(names, cells, head, lines, hash, key);
+    let asked = ask(names, cells, head, sizes, lines, hash, key);
     let Replaced::At(x) = asked else {
         return asked;
     };

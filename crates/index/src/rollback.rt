@@ -14,6 +14,7 @@ use slots::COUNT;
 use slots::FIRST;
 use slots::MOST_CELLS;
 use slots::MOST_NAMES;
+use slots::MOST_SLOTS;
 use slots::NULL;
 use slots::ROOT;
 use slots::answer::Answer;
@@ -56,14 +57,22 @@ impl RolledBack {
 }
 
 // What rollback answers before it looks at a line: the tests 1, 2, 7 in turn, else the number of lines to undo.
-fn ask(names: &[u64], cells: &[u32], head: &[u32], lines: &[u64], mark: u32) -> RolledBack
-    ensures { λ r. ⌜ rolledOf r ≡ opened (lent (now (names .entry)) (now (cells .entry)) (now (head .entry)) (now (lines .entry))) mark ⌝ }
+fn ask(
+    names: &[u64],
+    cells: &[u32],
+    head: &[u32],
+    sizes: &[u32],
+    lines: &[u64],
+    mark: u32,
+) -> RolledBack
+    ensures { λ r. ⌜ rolledOf r
+        ≡ opened (lent (now (names .entry)) (now (cells .entry)) (now (head .entry)) (now (sizes .entry)) (now (lines .entry))) mark ⌝ }
 {
-    let fitness = fit_index(names, cells, head, lines);
+    let fitness = fit_index(names, cells, head, sizes, lines);
     let Fitness::Fit = fitness else {
         return RolledBack::Unfit;
     };
-    let verdict = sound(names, cells, head);
+    let verdict = sound(names, cells, head, sizes);
     let Soundness::Yes = verdict else {
         return RolledBack::Damaged;
     };
@@ -79,6 +88,7 @@ fn undo(
     names: &mut [u64],
     cells: &mut [u32],
     head: &mut [u32],
+    sizes: &mut [u32],
     lines: &[u64],
     m: u32,
     count: u32,
@@ -86,26 +96,32 @@ fn undo(
     requires { ⌜ length (now names) ≤ mostNames ⌝ }
     requires { ⌜ length (now cells) ≤ fields * mostSlots ⌝ }
     requires { ⌜ length (now head) ≡ 3 ⌝ }
+    requires { ⌜ length (now sizes) ≤ mostSlots ⌝ }
     requires { ⌜ getD (now head) 2 null + count < null ⌝ }
-    ensures { λ r. ⌜ undoOf r (lentTree (now (names .exit)) (now (cells .exit)) (now (head .exit)))
-        ≡ unrolled count (lentTree (now (names .entry)) (now (cells .entry)) (now (head .entry))) (now (lines .entry)) m ⌝ }
+    ensures { λ r. ⌜ undoOf r (lentTree (now (names .exit)) (now (cells .exit)) (now (head .exit)) (now (sizes .exit)))
+        ≡ unrolled count (lentTree (now (names .entry)) (now (cells .entry)) (now (head .entry)) (now (sizes .entry)))
+        (now (lines .entry)) m ⌝ }
     ensures { λ r. ⌜ (r
-        ≡ Misfit → _≡_ {A = Live} (lentTree (now (names .exit)) (now (cells .exit)) (now (head .exit)))
-        (lentTree (now (names .entry)) (now (cells .entry)) (now (head .entry)))) ⌝ }
+        ≡ Misfit → _≡_ {A = Live} (lentTree (now (names .exit)) (now (cells .exit)) (now (head .exit)) (now (sizes .exit)))
+        (lentTree (now (names .entry)) (now (cells .entry)) (now (head .entry)) (now (sizes .entry)))) ⌝ }
 {
     let mut old_names = [0u64; MOST_NAMES];
     let mut old_cells = [0u32; MOST_CELLS];
+    let mut old_sizes = [0u32; MOST_SLOTS];
     copy_names(names, &mut old_names, names.len());
     copy_cells(cells, &mut old_cells, cells.len());
+    copy_cells(sizes, &mut old_sizes, sizes.len());
     let root = word(head, ROOT, NULL);
     let first = word(head, FIRST, NULL);
     let entries = word(head, COUNT, NULL);
-    let unrolled = unroll(names, cells, head, lines, m, count);
+    let unrolled = unroll(names, cells, head, sizes, lines, m, count);
     let Undoing::Done = unrolled else {
         let n = names.len();
         let k = cells.len();
+        let z = sizes.len();
         copy_names(&old_names, names, n);
         copy_cells(&old_cells, cells, k);
+        copy_cells(&old_sizes, sizes, z);
         head_put(head, root, first, entries);
         return Undoing::Misfit;
     };
@@ -117,17 +133,19 @@ pub fn rollback(
     names: &mut [u64],
     cells: &mut [u32],
     head: &mut [u32],
+    sizes: &mut [u32],
     lines: &mut [u64],
     mark: u32,
 ) -> RolledBack
-    ensures { λ r. ⌜ outcome (rolledOf r) (lent (now (names .exit)) (now (cells .exit)) (now (head .exit)) (now (lines .exit)))
-        ≡ rolls (lent (now (names .entry)) (now (cells .entry)) (now (head .entry)) (now (lines .entry))) mark ⌝ }
+    ensures { λ r. ⌜ outcome (rolledOf r)
+        (lent (now (names .exit)) (now (cells .exit)) (now (head .exit)) (now (sizes .exit)) (now (lines .exit)))
+        ≡ rolls (lent (now (names .entry)) (now (cells .entry)) (now (head .entry)) (now (sizes .entry)) (now (lines .entry))) mark ⌝ }
 {
-    let asked = ask(names, cells, head, lines, mark);
+    let asked = ask(names, cells, head, sizes, lines, mark);
     let RolledBack::Lines(count) = asked else {
         return asked;
     };
-    let undone = undo(names, cells, head, lines, mark, count);
+    let undone = undo(names, cells, head, sizes, lines, mark, count);
     let Undoing::Done = undone else {
         return RolledBack::Misfit;
     };

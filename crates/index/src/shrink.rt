@@ -69,9 +69,9 @@ fn one_less(count: u32) -> u32
 
 // Slot x leaves the chain and the tree, is cleared, and counts no more. Nothing where the names are more than 4,096
 // slots have.
-pub fn shrink(names: &mut [u64], cells: &mut [u32], head: &mut [u32], x: u32)
-    ensures { λ _. ⌜ lentTree (now (names .exit)) (now (cells .exit)) (now (head .exit))
-        ≡ shrunkIf (lentTree (now (names .entry)) (now (cells .entry)) (now (head .entry))) x ⌝ }
+pub fn shrink(names: &mut [u64], cells: &mut [u32], head: &mut [u32], sizes: &mut [u32], x: u32)
+    ensures { λ _. ⌜ lentTree (now (names .exit)) (now (cells .exit)) (now (head .exit)) (now (sizes .exit))
+        ≡ shrunkIf (lentTree (now (names .entry)) (now (cells .entry)) (now (head .entry)) (now (sizes .entry))) x ⌝ }
 {
     if MOST_NAMES < names.len() {
         return;
@@ -82,7 +82,7 @@ pub fn shrink(names: &mut [u64], cells: &mut [u32], head: &mut [u32], x: u32)
     let count = one_less(word(head, COUNT, NULL));
     put_pair(names, x, 0, 0);
     unchain(cells, x);
-    let top = unlink_slot(cells, root, x, n);
+    let top = unlink_slot(cells, sizes, root, x, n);
     wipe(cells, x);
     head_put(head, top, first, count);
 }

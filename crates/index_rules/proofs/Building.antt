@@ -134,6 +134,7 @@ module _ {t : Live} (fit : Fit t) (b : Built t) where
         t5 = b .coloured;
         t6 = b .level;
         t7 = record { linked = b .linked; all = λ k l. uses k l ∙ b .same k l };
+        t8 = b .sized;
       }
     where
       root-is : (rootOf t ≡ null) ↔ (countOf t ≡ 0)

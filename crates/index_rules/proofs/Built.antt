@@ -6,6 +6,7 @@ use lib.ListN.{length}
 use Rattle.slots.specs.Words.{null, state, free, cell}
 use Rattle.tree_rules.specs.Tree.{Tree, slots, times, Rooted, Rising, Coloured, Level}
 use Rattle.tree_rules.specs.Chain.{Chain}
+use Rattle.tree_rules.specs.Sizes.{SizedBy}
 use Rattle.index_rules.specs.Live.{Live, rootOf, firstOf, countOf}
 use Rattle.index_rules.specs.Sound.{Cleared}
 use Rattle.tree_rules.specs.Find.{slotsOf}
@@ -21,3 +22,4 @@ pub record Built (t : Live) : Type 0 where
   pub same : (k : ℕ) → k < slotsOf (t .names) → times k (slots tree) ≡ times k chain
   pub others : (k : ℕ) → k < slotsOf (t .names) → times k (slots tree) ≡ 0 → (cell (t .cells) k state ≡ free) × Cleared t k
   pub count : countOf t ≡ length (slots tree)
+  pub sized : SizedBy (t .sizes) tree

@@ -7,6 +7,7 @@ use Rattle.index_rules.proofs.Inserting.{insert-claims}
 use Rattle.index_rules.proofs.Removing.{remove-claims}
 use Rattle.index_rules.proofs.Replacing.{replace-claims}
 use Rattle.index_rules.proofs.Rolling.{rollback-claims}
+use Rattle.index_rules.proofs.Ranking.{kth-claims, position-claims}
 use Rattle.index_rules.proofs.Freshing.{freshes-claims}
 use Rattle.index_rules.proofs.Demanding.{demand-three}
 
@@ -23,6 +24,8 @@ claims =
       remove = remove-claims;
       replace = replace-claims;
       rollback = rollback-claims;
+      kth = kth-claims;
+      position = position-claims;
       fresh = freshes-claims;
       demand3 = λ ix fit h words calls allowed. demand-three ix h fit words calls allowed;
     }

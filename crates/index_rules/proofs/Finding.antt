@@ -11,12 +11,13 @@ use Rattle.tree_rules.specs.Find.{Search, found, slotsOf}
 use Rattle.tree_rules.proofs.Claims.{looks-squared}
 use Rattle.tree_rules.proofs.Chaining.{chain-unique}
 use Rattle.redblack.specs.Holding.{Has, Stands}
-use Rattle.index_rules.specs.Live.{Live, Fit, rootOf}
+use Rattle.index_rules.specs.Live.{Live, unsizedOf, Fit, rootOf}
 use Rattle.index_rules.specs.Sound.{Sound}
 use Rattle.index_rules.specs.Find.{finds}
 use Rattle.index_rules.specs.Contents.{Entry, entry, entryOf, contents, listing, HasAt, HoldSame, In}
 use Rattle.index_rules.specs.Claims.{FindsSound, Contained, Lists}
 use Rattle.index_rules.proofs.Rules.{small}
+use Rattle.index_rules.proofs.Fit.{fit-unsized}
 use Rattle.index_rules.proofs.Reading.{find-fit, find-claims}
 use Rattle.index_rules.proofs.Seeking.{found-at, found-none}
 use Rattle.index_rules.proofs.Deciding.{Seen, there, absent, seen}
@@ -28,13 +29,13 @@ use Rattle.index_rules.proofs.Unrolling.{contents-one}
 use Rattle.index_rules.proofs.Inserting.{value-inj}
 
 module _ {t : Live} (fit : Fit t) (h : Sound t) (hash key : ℕ) where
-  is : finds t hash key .answer ≡ found (t .names) (t .cells) (rootOf t) hash key .answer
-  is = ap (λ (s : Search). s .answer) (find-fit t hash key fit)
+  is : finds (unsizedOf t) hash key .answer ≡ found (t .names) (t .cells) (rootOf t) hash key .answer
+  is = ap (λ (s : Search). s .answer) (find-fit (unsizedOf t) hash key (fit-unsized fit))
 
-  at-slot : (x : ℕ) → Stands x (h .tree) → pairOf (t .names) x ≡ pair hash key → finds t hash key .answer ≡ given x
+  at-slot : (x : ℕ) → Stands x (h .tree) → pairOf (t .names) x ≡ pair hash key → finds (unsizedOf t) hash key .answer ≡ given x
   at-slot x z n = is ∙ found-at fit h hash key x z n
 
-  at-none : (Has (t .names) (h .tree) hash key → ⊥) → finds t hash key .answer ≡ nothing
+  at-none : (Has (t .names) (h .tree) hash key → ⊥) → finds (unsizedOf t) hash key .answer ≡ nothing
   at-none n = is ∙ found-none fit h hash key n
 
   pub find-sound-claims : FindsSound t fit h hash key
@@ -43,11 +44,11 @@ module _ {t : Live} (fit : Fit t) (h : Sound t) (hash key : ℕ) where
         at = λ slot. (to slot, λ r. at-slot slot (r .0) (r .1));
         none = (lacks, at-none);
         never-nine = λ e. nine e (seen fit h hash key);
-        once = find-claims t hash key .looks fit .once (λ e. nine e (seen fit h hash key));
-        not-deep = rw (find-fit t hash key fit, sound-count h) (looks-squared (t .names) (t .cells) (rootOf t) hash key (h .t3 .rooted) (h .t5) (h .t6));
+        once = find-claims (unsizedOf t) hash key .looks (fit-unsized fit) .once (λ e. nine e (seen fit h hash key));
+        not-deep = rw (find-fit (unsizedOf t) hash key (fit-unsized fit), sound-count h) (looks-squared (t .names) (t .cells) (rootOf t) hash key (h .t3 .rooted) (h .t5) (h .t6));
       }
     where
-      to : (slot : ℕ) → finds t hash key .answer ≡ given slot → Stands slot (h .tree) × (pairOf (t .names) slot ≡ pair hash key)
+      to : (slot : ℕ) → finds (unsizedOf t) hash key .answer ≡ given slot → Stands slot (h .tree) × (pairOf (t .names) slot ≡ pair hash key)
       to slot e = go (seen fit h hash key)
         where
           go : Seen h hash key → Stands slot (h .tree) × (pairOf (t .names) slot ≡ pair hash key)
@@ -56,10 +57,10 @@ module _ {t : Live} (fit : Fit t) (h : Sound t) (hash key : ℕ) where
               (subst (λ (k : ℕ). Stands k (h .tree)) y z, subst (λ (k : ℕ). pairOf (t .names) k ≡ pair hash key) y n)
           go (absent n s) = absurd (none-some (value (sym (at-none n) ∙ e)))
 
-      lacks : finds t hash key .answer ≡ nothing → Has (t .names) (h .tree) hash key → ⊥
+      lacks : finds (unsizedOf t) hash key .answer ≡ nothing → Has (t .names) (h .tree) hash key → ⊥
       lacks e a = none-some (value (sym e ∙ at-slot (a .slot) (a .stands) (a .named)))
 
-      nine : finds t hash key .answer ≡ refused 9 → Seen h hash key → ⊥
+      nine : finds (unsizedOf t) hash key .answer ≡ refused 9 → Seen h hash key → ⊥
       nine e (there x z n s) = omega (arith, number (sym (at-slot x z n) ∙ e))
       nine e (absent n s) = omega (arith, number (sym (at-none n) ∙ e))
 

@@ -8,7 +8,7 @@ use lib.ListN.{length}
 use lib.Dec.{eqb, leb}
 use borrow.Author.Tests.{eqb-true, leb-true, eq-eqb, le-leb}
 use Rattle.slots.specs.Words.{pick}
-use Rattle.index_rules.specs.Live.{Live, Fit, fits}
+use Rattle.index_rules.specs.Live.{Live, Unsized, unsizedOf, Fit, FitUnsized, fits, fitsUnsized}
 use Rattle.tree_rules.specs.Find.{slotsOf}
 
 -- A chain of tests is true where each is.
@@ -20,33 +20,60 @@ both false b e = absurd (false≢true e)
 pub half : {t : Live} (h : Fit t) → slotsOf (t .names) ≡ h .capacity
 half h = omega (arith, h .two)
 
+-- The tests of a tree without its sizes.
+module _ (t : Unsized) where
+  pub unsized-fits : FitUnsized t → fitsUnsized t ≡ true
+  unfolding fitsUnsized
+  unsized-fits h =
+      let half : slotsOf (t .names) ≡ h .capacity = omega (arith, h .two) in
+      simp (
+        half,
+        le-leb 1 (h .capacity) (h .least),
+        le-leb (h .capacity) 4096 (h .most),
+        eq-eqb (length (t .names)) (2 * h .capacity) (h .two),
+        eq-eqb (length (t .cells)) (7 * h .capacity) (h .seven),
+        eq-eqb (length (t .head)) 3 (h .three),
+      )
+
+  pub fits-unsized : fitsUnsized t ≡ true → FitUnsized t
+  unfolding fitsUnsized
+  fits-unsized e =
+      let n = slotsOf (t .names) in
+      let h1 = both (leb 1 n) _ e in
+      let h2 = both (leb n 4096) _ (h1 .1) in
+      let h3 = both (eqb (length (t .names)) (2 * n)) _ (h2 .1) in
+      let h4 = both (eqb (length (t .cells)) (7 * n)) _ (h3 .1) in
+      record {
+        capacity = n;
+        least = leb-true 1 n (h1 .0);
+        most = leb-true n 4096 (h2 .0);
+        two = eqb-true (length (t .names)) (2 * n) (h3 .0);
+        seven = eqb-true (length (t .cells)) (7 * n) (h4 .0);
+        three = eqb-true (length (t .head)) 3 (h4 .1);
+      }
+
+-- And with them.
+pub fit-unsized : {t : Live} → Fit t → FitUnsized (unsizedOf t)
+fit-unsized h = record { capacity = h .capacity; least = h .least; most = h .most; two = h .two; seven = h .seven; three = h .three }
+
 pub fit-fits : (t : Live) → Fit t → fits t ≡ true
 unfolding fits
-fit-fits t h =
-    simp (
-      half h,
-      le-leb 1 (h .capacity) (h .least),
-      le-leb (h .capacity) 4096 (h .most),
-      eq-eqb (length (t .names)) (2 * h .capacity) (h .two),
-      eq-eqb (length (t .cells)) (7 * h .capacity) (h .seven),
-      eq-eqb (length (t .head)) 3 (h .three),
-    )
+fit-fits t h = simp (unsized-fits (unsizedOf t) (fit-unsized h), half h, eq-eqb (length (t .sizes)) (h .capacity) (h .each))
 
 pub fits-fit : (t : Live) → fits t ≡ true → Fit t
 unfolding fits
 fits-fit t e =
-    let n = slotsOf (t .names) in
-    let h1 = both (leb 1 n) _ e in
-    let h2 = both (leb n 4096) _ (h1 .1) in
-    let h3 = both (eqb (length (t .names)) (2 * n)) _ (h2 .1) in
-    let h4 = both (eqb (length (t .cells)) (7 * n)) _ (h3 .1) in
+    let h = both (fitsUnsized (unsizedOf t)) _ e in
+    let f = fits-unsized (unsizedOf t) (h .0) in
+    let each : length (t .sizes) ≡ slotsOf (t .names) = eqb-true _ _ (h .1) in
     record {
-      capacity = n;
-      least = leb-true 1 n (h1 .0);
-      most = leb-true n 4096 (h2 .0);
-      two = eqb-true (length (t .names)) (2 * n) (h3 .0);
-      seven = eqb-true (length (t .cells)) (7 * n) (h4 .0);
-      three = eqb-true (length (t .head)) 3 (h4 .1);
+      capacity = f .capacity;
+      least = f .least;
+      most = f .most;
+      two = f .two;
+      seven = f .seven;
+      three = f .three;
+      each = each ∙ omega (arith, f .two);
     }
 
 pub unfit : (t : Live) → fits t ≡ false → Fit t → ⊥

@@ -6,7 +6,8 @@ use mathlib.Core.List.{List, []}
 use Prim.Native.Nat.{ℕ, zero, suc, _+_, _*_, _/_, _<_, _≤_}
 use native.Mathlib.Decide.{ℕ-discrete, decLt}
 use native.Mathlib.Omega.{arith}
-use lib.ListN.{length, getD, List·getD-eq-default}
+use lib.ListN.{length, getD, set, length-set, List·getD-eq-default}
+use lib.Seq.{getD-set-same, getD-set-other}
 use lib.Dec.{ltb, leb}
 use borrow.Author.Tests.{eqb-true, leb-true, eq-eqb, le-leb}
 use Rattle.slots.specs.Words.{null, place, state, parent, left, right, prev, next, free, fields, parts, cell, nameOf, rename, hashPart, keyPart}
@@ -14,6 +15,7 @@ use Rattle.slots.specs.Answers.{given, refused}
 use Rattle.slots.proofs.Laws.{number, cell-same, cell-across, cell-else, roomy-write, length-write}
 use Rattle.tree_rules.specs.Tree.{leaf, slots, times, Hangs, Rising, Calm, Meets, end}
 use Rattle.tree_rules.specs.Chain.{Chain}
+use Rattle.tree_rules.specs.Sizes.{sizeWord, sizeIn}
 use Rattle.tree_rules.proofs.Counting.{exactly-length}
 use Rattle.index_rules.specs.Live.{Live, Fit, fits, rootOf, firstOf, countOf}
 use Rattle.index_rules.specs.Sound.{Sound, Cleared, used}
@@ -35,7 +37,7 @@ record Blank (t : Live) (i : ℕ) : Type 0 where
 
 -- One slot cleared.
 abbrev bare : ℕ → Live → Live
-bare k t = record { names = rename (rename (t .names) k hashPart 0) k keyPart 0; cells = wiped (t .cells) k; head = t .head }
+bare k t = record { names = rename (rename (t .names) k hashPart 0) k keyPart 0; cells = wiped (t .cells) k; head = t .head; sizes = set (t .sizes) k 0 }
 
 bare-long : (k : ℕ) (t : Live) → length (bare k t .cells) ≡ length (t .cells)
 unfolding wiped
@@ -87,6 +89,32 @@ unfolding bared
 bared-head zero t = refl
 bared-head (suc k) t = bared-head k (bare k t)
 
+bared-each : (k : ℕ) (t : Live) → length (bared k t .sizes) ≡ length (t .sizes)
+unfolding bared
+bared-each zero t = refl
+bared-each (suc k) t = bared-each k (bare k t) ∙ length-set (t .sizes) k 0
+
+bared-size : (k : ℕ) (t : Live) (i : ℕ) → k ≤ i → sizeWord (bared k t .sizes) i ≡ sizeWord (t .sizes) i
+unfolding bared
+bared-size zero t i l = refl
+bared-size (suc k) t i l = bared-size k (bare k t) i (omega arith) ∙ getD-set-other (t .sizes) k i 0 0 (omega arith)
+
+set-zero : (l : List ℕ) (k : ℕ) → getD (set l k 0) k 0 ≡ 0
+set-zero l k = go (decLt k (length l))
+  where
+    go : Dec (k < length l) → getD (set l k 0) k 0 ≡ 0
+    go (yes h) = getD-set-same l k 0 0 h
+    go (no n) = List·getD-eq-default (set l k 0) 0 (omega (arith, length-set l k 0))
+
+bared-zero : (k : ℕ) (t : Live) (i : ℕ) → i < k → sizeWord (bared k t .sizes) i ≡ 0
+unfolding bared
+bared-zero zero t i l = absurd (omega arith)
+bared-zero (suc k) t i l = go (ℕ-discrete i k) (λ m. bared-zero k (bare k t) i m)
+  where
+    go : Dec (i ≡ k) → (i < k → sizeWord (bared k (bare k t) .sizes) i ≡ 0) → sizeWord (bared k (bare k t) .sizes) i ≡ 0
+    go (yes e) again = rw e (bared-size k (bare k t) k (omega arith) ∙ set-zero (t .sizes) k)
+    go (no m) again = again (omega arith)
+
 bared-else : (k : ℕ) (t : Live) (i f : ℕ) → k ≤ i → ltb f fields ≡ true → cell (bared k t .cells) i f ≡ cell (t .cells) i f
 unfolding bared
 bared-else zero t i f l s = refl
@@ -135,12 +163,13 @@ bared-blank {n} (suc k) t c d b i l = go (ℕ-discrete i k) (λ m. bared-blank k
     go (no m) again = again (omega arith)
 
 -- A tree whose slots are all blank, with a header of nothing.
-module _ {t : Live} (fit : Fit t) (blank : (i : ℕ) → i < slotsOf (t .names) → Blank t i) (root : rootOf t ≡ null) (first : firstOf t ≡ null) (none : countOf t ≡ 0) where
+module _ {t : Live} (fit : Fit t) (blank : (i : ℕ) → i < slotsOf (t .names) → Blank t i) (root : rootOf t ≡ null) (first : firstOf t ≡ null) (none : countOf t ≡ 0)
+    (weightless : (k : ℕ) → sizeWord (t .sizes) k ≡ 0) where
   unused : (i : ℕ) → i < slotsOf (t .names) → used (t .cells) i ≡ 0
   unused i l = simp (eq-eqb (cell (t .cells) i state) free (blank i l .states))
 
   unfoldable empty-sound : Sound t
-  unfolding slots times
+  unfolding slots times sizeIn
   empty-sound =
       record {
         tree = leaf;
@@ -160,6 +189,7 @@ module _ {t : Live} (fit : Fit t) (blank : (i : ℕ) → i < slotsOf (t .names) 
         t5 = record { root = refl; calm = Calm.nothing };
         t6 = same;
         t7 = record { linked = Chain.ended first; all = unused };
+        t8 = weightless;
       }
     where
       same : (j k : ℕ) → Meets leaf j → Meets leaf k → j ≡ k
@@ -193,7 +223,7 @@ module _ (ix : Index) where
   bareTree = bared (slotsOf (ix .live .names)) (ix .live)
 
   abbrev emptied : Live
-  emptied = record { names = bareTree .names; cells = bareTree .cells; head = headed (bareTree .head) null null 0 }
+  emptied = record { names = bareTree .names; cells = bareTree .cells; head = headed (bareTree .head) null null 0; sizes = bareTree .sizes }
 
   abbrev zeroed : List ℕ
   zeroed = rolledLines (linesOf (ix .lines)) (ix .lines) 0
@@ -242,7 +272,15 @@ module _ (ix : Index) where
           two = wide ∙ h .tree .two;
           seven = bared-long (slotsOf (ix .live .names)) (ix .live) ∙ h .tree .seven;
           three = headed-length (bareTree .head) null null 0 ∙ head-three;
+          each = bared-each (slotsOf (ix .live .names)) (ix .live) ∙ h .tree .each;
         }
+
+    weightless : (k : ℕ) → sizeWord (emptied .sizes) k ≡ 0
+    weightless k = go (decLt k (slotsOf (ix .live .names)))
+      where
+        go : Dec (k < slotsOf (ix .live .names)) → sizeWord (emptied .sizes) k ≡ 0
+        go (yes l) = bared-zero (slotsOf (ix .live .names)) (ix .live) k l
+        go (no n) = List·getD-eq-default (emptied .sizes) 0 (omega (arith, bared-each (slotsOf (ix .live .names)) (ix .live), h .tree .each, half (h .tree)))
 
     blank : (i : ℕ) → i < slotsOf (emptied .names) → Blank emptied i
     blank i l =
@@ -250,7 +288,7 @@ module _ (ix : Index) where
         record { states = b .states; cleared = record { hash = b .cleared .hash; key = b .cleared .key; placed = b .cleared .placed; parents = b .cleared .parents; lefts = b .cleared .lefts; rights = b .cleared .rights; prevs = b .cleared .prevs; nexts = b .cleared .nexts } }
 
     unfoldable sound : Sound emptied
-    sound = empty-sound fit blank (headed-root (bareTree .head) null null 0 head-three) (headed-first (bareTree .head) null null 0 head-three) (headed-count (bareTree .head) null null 0 head-three)
+    sound = empty-sound fit blank (headed-root (bareTree .head) null null 0 head-three) (headed-first (bareTree .head) null null 0 head-three) (headed-count (bareTree .head) null null 0 head-three) weightless
 
     room : at (0 + linesOf (ix .lines)) 0 ≤ length (ix .lines)
     room = omega (arith, lines-of h, h .words)

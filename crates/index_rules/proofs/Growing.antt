@@ -21,6 +21,7 @@ use Rattle.redblack.specs.Hanging.{inserted, spotted}
 use Rattle.redblack.specs.Balance.{OneFewer}
 use Rattle.redblack.specs.Holding.{Holds, RedBlackTree, Has}
 use Rattle.redblack.specs.Kept.{Agree}
+use Rattle.redblack.specs.Sizes.{SizedTree}
 use Rattle.redblack.specs.Claims.{HangsSlot}
 use Rattle.redblack.proofs.Kept.{place-aside, prev-aside, next-aside}
 use Rattle.redblack.proofs.Claims.{claims}
@@ -193,7 +194,7 @@ module _ {t : Live} (fit : Fit t) (h : Sound t) (x y hash key p : ℕ) (inside :
   names = grown t x y hash key p .names
 
   abbrev links : Links
-  links = record { cells = wide; root = rootOf t }
+  links = record { cells = wide; root = rootOf t; sizes = t .sizes }
 
   abbrev hung : Links
   hung = inserted (slotsOf (t .names)) links x (spotted (slotsOf (t .names)) names links hash key)
@@ -217,18 +218,6 @@ module _ {t : Live} (fit : Fit t) (h : Sound t) (x y hash key p : ℕ) (inside :
   hangs-slot : HangsSlot (slotsOf (t .names)) (slotsOf (t .names)) names links (h .tree) x hash key
   hangs-slot = claims .hangs-slot (slotsOf (t .names)) (slotsOf (t .names)) names links (h .tree) x hash key
 
-  pub grown-fit : Fit (grown t x y hash key p)
-  unfolding grown
-  grown-fit =
-      record {
-        capacity = fit .capacity;
-        least = fit .least;
-        most = fit .most;
-        two = simp length-rename (fit .two);
-        seven = hangs-slot .keeps place place-aside .long ∙ wide-length ∙ fit .seven;
-        three = headed-length (t .head) _ _ _ ∙ fit .three;
-      }
-
   cap : slotsOf ((grown t x y hash key p) .names) ≡ slotsOf (t .names)
   unfolding grown
   cap = simp length-rename
@@ -241,6 +230,24 @@ module _ {t : Live} (fit : Fit t) (h : Sound t) (x y hash key p : ℕ) (inside :
 
     result : (u : Tree) × Holds (slotsOf (t .names)) hung u × RedBlackTree u × Rising names (slots u) × OneFewer x (slots u) (slots (h .tree))
     result = hangs-slot .hangs holds (sound-balanced h) risen fresh-still inside absent (takes .named) (omega arith)
+
+    hung-sized : SizedTree (slotsOf (t .names)) hung (result .0)
+    hung-sized =
+        claims .keeps-sizes (slotsOf (t .names)) (slotsOf (t .names)) links (h .tree) .hanging names x hash key holds (sound-balanced h)
+        (record { long = fit .each ∙ sym (half fit); same = h .t8 }) risen fresh-still inside absent (omega arith) (result .0) (result .1)
+
+    pub grown-fit : Fit (grown t x y hash key p)
+    unfolding grown
+    grown-fit =
+        record {
+          capacity = fit .capacity;
+          least = fit .least;
+          most = fit .most;
+          two = simp length-rename (fit .two);
+          seven = hangs-slot .keeps place place-aside .long ∙ wide-length ∙ fit .seven;
+          three = headed-length (t .head) _ _ _ ∙ fit .three;
+          each = hung-sized .long ∙ half fit;
+        }
 
     spared : (k : ℕ) → k ≢ x → times k (slots (h .tree)) ≡ 0 → Agree links hung k
     spared k d z = hangs-slot .spares holds (sound-balanced h) risen fresh-still inside absent (omega arith) k d z
@@ -294,6 +301,7 @@ module _ {t : Live} (fit : Fit t) (h : Sound t) (x y hash key p : ℕ) (inside :
           same = λ k l. same k (rw cap at l);
           others = λ k l z. others k (rw cap at l) z;
           count = headed-count (t .head) _ _ _ (fit .three) ∙ omega (arith, sound-count h, without-length (result .4));
+          sized = hung-sized .same;
         }
 
     pub grown-sound : Grown t (grown t x y hash key p) h x y hash key p

@@ -122,7 +122,7 @@ module _ (ix : Index) (hash key p : ℕ) where
             rw (e, f, s, ne-eqb (lowestFree (ix .live)) null d, ne-eqb (lengthOf (ix .lines)) (linesOf (ix .lines)) l) (
               g .sound,
               record {
-                tree = grown-fit (fit .tree) h (lowestFree (ix .live)) null hash key p (w .inside) (w .unused) (inl refl);
+                tree = grown-fit (fit .tree) h (lowestFree (ix .live)) null hash key p (w .inside) (w .unused) (inl refl) n;
                 capacity = fit .capacity;
                 most = fit .most;
                 words = j .long ∙ fit .words;

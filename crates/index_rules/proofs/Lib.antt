@@ -2,6 +2,7 @@ pub mod Built
 pub mod Fit
 pub mod Reading
 pub mod Rules
+pub mod Weighing
 pub mod Passing
 pub mod Building
 pub mod Frames
@@ -26,4 +27,5 @@ pub mod Freshing
 pub mod Demanding
 pub mod Finding
 pub mod Sounding
+pub mod Ranking
 pub mod Claims

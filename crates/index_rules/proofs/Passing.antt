@@ -17,12 +17,14 @@ use Rattle.tree_rules.specs.Tree.Hangs.{none as hangsNone, some as hangsSome}
 use Rattle.tree_rules.specs.Chain.{Chain, ended, linked}
 use Rattle.tree_rules.specs.Claims.{Tests}
 use Rattle.tree_rules.proofs.Counting.{times-append, times-head, times-rest, times-cases}
+use Rattle.tree_rules.proofs.Order.{rising-before, rising-after, rising-front, rising-back, rising-tail}
 use Rattle.tree_rules.proofs.Reaching.{length-node, hangs-inside, rooted-most}
 use Rattle.tree_rules.proofs.Claims.{claims}
-use Rattle.index_rules.specs.Live.{Live, Fit, rootOf, firstOf}
+use Rattle.index_rules.specs.Live.{Live, Fit, rootOf, firstOf, unsizedOf}
 use Rattle.index_rules.specs.Sound.{Sound}
 use Rattle.index_rules.specs.Check.{checks}
 use Rattle.index_rules.proofs.Rules.{small}
+use Rattle.index_rules.proofs.Fit.{fit-unsized}
 use Rattle.index_rules.proofs.Reading.{check-claims}
 
 -- A slot of the chain leads on and back.
@@ -46,38 +48,11 @@ chain-back {q = q} {cells = cells} k (linked {i = i} {l = l} w p c) z = times-ca
     go (inl h) = inr (ap (λ (j : ℕ). cell cells j next) (h .0) ∙ sym (h .1))
     go (inr h) = inr h
 
--- In a rising list what stands before a slot has a hash that is at most its own, and what stands after at least.
-below-at : {names l : List ℕ} {p : Pair} (k : ℕ) → Below names p l → 1 ≤ times k l → Less p (pairOf names k)
-unfolding times
-below-at k Below.last z = absurd (omega arith)
-below-at {names} {p = p} k (Below.before {i} {l} h b) z = times-cases k i l z (λ e. rw e h) (λ y. below-at k b y)
-
+-- What stands before a slot has a hash that is at most its own, and what stands after at least.
 hash-least : (p q : Pair) → Less p q → p .hash ≤ q .hash
 unfolding Less
 hash-least p q (inl h) = omega arith
 hash-least p q (inr h) = omega (arith, h .0)
-
-pub rising-after : {names : List ℕ} (a : List ℕ) (i : ℕ) (b : List ℕ) (k : ℕ) → Rising names (a ++ (i ∷ b)) → 1 ≤ times k b → Less (pairOf names i) (pairOf names k)
-rising-after [] i b k (rise h r) z = below-at k h z
-rising-after (x ∷ a) i b k (rise h r) z = rising-after a i b k r z
-
-pub rising-before : {names : List ℕ} (a : List ℕ) (i : ℕ) (b : List ℕ) (k : ℕ) → Rising names (a ++ (i ∷ b)) → 1 ≤ times k a → Less (pairOf names k) (pairOf names i)
-unfolding times
-rising-before [] i b k r z = absurd (omega arith)
-rising-before {names} (x ∷ a) i b k (rise h r) z =
-    times-cases k x a z (λ e. rw e (below-at i h (omega (arith, times-append i a (i ∷ b), times-head i b)))) (λ y. rising-before a i b k r y)
-
-below-front : {names : List ℕ} {p : Pair} (a b : List ℕ) → Below names p (a ++ b) → Below names p a
-below-front [] b h = Below.last
-below-front (x ∷ a) b (Below.before h r) = Below.before h (below-front a b r)
-
-pub rising-front : {names : List ℕ} (a b : List ℕ) → Rising names (a ++ b) → Rising names a
-rising-front [] b r = empty
-rising-front (x ∷ a) b (rise h r) = rise (below-front a b h) (rising-front a b r)
-
-pub rising-back : {names : List ℕ} (a b : List ℕ) → Rising names (a ++ b) → Rising names b
-rising-back [] b r = r
-rising-back (x ∷ a) b (rise h r) = rising-back a b r
 
 -- The top slot of a tree stands in it, and its colour is its state; of no tree it is none.
 top-in : (t : Tree) → top t ≢ null → 1 ≤ times (top t) (slots t)
@@ -163,21 +138,18 @@ module _ (names cells : List ℕ) (few : slotsOf names ≤ null) where
       let x : Walks names cells (top l) (v - 1) (passed (v - 1 - length (slots l))) =
       passes a (calm-left calm) (rising-front (slots l) (i ∷ slots r) rising) (λ d e. inl (k .lefts)) lefts (v - 1) (omega (arith, n)) in
       let y : Walks names cells (top r) (v - 1 - length (slots l)) (passed (v - 1 - length (slots l) - length (slots r))) =
-      passes b (calm-right calm) (tail (rising-back (slots l) (i ∷ slots r) rising)) (λ d e. inr (k .rights)) rights (v - 1 - length (slots l)) (omega (arith, n)) in
+      passes b (calm-right calm) (rising-tail (rising-back (slots l) (i ∷ slots r) rising)) (λ d e. inr (k .rights)) rights (v - 1 - length (slots l)) (omega (arith, n)) in
       let x′ : Walks names cells (cell cells i left) (v - 1) (passed (v - 1 - length (slots l))) = rw (k .lefts) x in
       let y′ : Walks names cells (cell cells i right) (v - 1 - length (slots l)) (passed (v - 1 - length (slots l) - length (slots r))) = rw (k .rights) y in
       let some-left : v ≢ 0 = omega (arith, n) in
       let same : v - length (slots l ++ (i ∷ slots r)) ≡ v - 1 - length (slots l) - length (slots r) = omega (arith, n) in
       rw same (both {m = v - 1 - length (slots l)} solid (k .inside) some-left (beside .links i here) (all-pass (hangsSome k a b) calm rising (above solid) beside) x′ y′)
-    where
-      tail : {j : ℕ} {m : List ℕ} → Rising names (j ∷ m) → Rising names m
-      tail (rise h r) = r
 
-pub sound-passes : {t : Live} → Fit t → Sound t → checks t ≡ nothing
+pub sound-passes : {t : Live} → Fit t → Sound t → checks (unsizedOf t) ≡ nothing
 sound-passes {t} fit h =
     let rooted = h .t3 .rooted in
-    check-claims t .passes .1 (
-      fit,
+    check-claims (unsizedOf t) .passes .1 (
+      fit-unsized fit,
       (
         slotsOf (t .names) - length (slots (h .tree)),
         rw (rooted .from)

@@ -101,6 +101,7 @@ module _ {t : Live} (fit : Fit t) (h : Sound t) (x p : ℕ) (z : Stands x (h .tr
         two = fit .two;
         seven = length-write (t .cells) x place p ∙ fit .seven;
         three = fit .three;
+        each = fit .each;
       }
 
   -- A free slot is another one, and stays cleared.
@@ -148,6 +149,7 @@ module _ {t : Live} (fit : Fit t) (h : Sound t) (x p : ℕ) (z : Stands x (h .tr
         same = same-slots h;
         others = cleared;
         count = sound-count h;
+        sized = h .t8;
       }
 
   only-place : OnlyPlace t (placedAt t x p) x p
@@ -156,6 +158,7 @@ module _ {t : Live} (fit : Fit t) (h : Sound t) (x p : ℕ) (z : Stands x (h .tr
       record {
         names = refl;
         head = refl;
+        sizes = refl;
         long = length-write (t .cells) x place p;
         placed = cell-same (t .cells) x place p room refl;
         others = λ j d. word-away (t .cells) x p j d;

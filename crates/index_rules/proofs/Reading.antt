@@ -12,69 +12,81 @@ use Rattle.tree_rules.specs.Find.{Search, ends, found, slotsOf}
 use Rattle.tree_rules.specs.Check.{checked, walked, Walk, walkAnswer, passed, failed, strayed}
 use Rattle.tree_rules.specs.Claims.{Finds as Searches, Checks as Walkings}
 use Rattle.tree_rules.proofs.Claims.{claims}
-use Rattle.index_rules.specs.Live.{Live, Fit, rootOf, fits}
+use Rattle.index_rules.specs.Live.{Live, Unsized, Fit, FitUnsized, rootWord, fits, fitsUnsized}
 use Rattle.index_rules.specs.Find.{finds}
 use Rattle.index_rules.specs.Check.{checks}
 use Rattle.index_rules.specs.Claims.{Finds, Checks}
-use Rattle.index_rules.proofs.Fit.{fits-fit, fit-fits}
+use Rattle.index_rules.proofs.Fit.{fits-fit, fit-fits, fits-unsized, unsized-fits}
 
--- An answer given on fit words only, with 1 on others.
-module _ (t : Live) (inner : Answer) where
+-- An answer given on fit words only, with 1 on others; F says that they are fit, and f is the test of it.
+pub record Gate (F : Type 0) : Type 0 where
+  pub test : Bool
+  pub opens : F → test ≡ true
+  pub opened : test ≡ true → F
+
+unfoldable pub tree-gate : (t : Live) → Gate (Fit t)
+tree-gate t = record { test = fits t; opens = fit-fits t; opened = fits-fit t }
+
+unfoldable pub unsized-gate : (t : Unsized) → Gate (FitUnsized t)
+unsized-gate t = record { test = fitsUnsized t; opens = unsized-fits t; opened = fits-unsized t }
+
+module _ {F : Type 0} (g : Gate F) (inner : Answer) where
   abbrev pub gated : Answer
-  gated = pick (fits t) inner (refused 1)
+  gated = pick (g .test) inner (refused 1)
 
-  pub on-fit : Fit t → gated ≡ inner
-  on-fit h = simp (fit-fits t h)
+  pub on-fit : F → gated ≡ inner
+  on-fit h = simp (g .opens h)
 
-  pub off-fit : (Fit t → ⊥) → gated ≡ refused 1
-  off-fit n = go (fits t) refl
+  pub off-fit : (F → ⊥) → gated ≡ refused 1
+  off-fit n = go (g .test) refl
     where
-      go : (b : Bool) → fits t ≡ b → pick (fits t) inner (refused 1) ≡ refused 1
-      go true z = absurd (n (fits-fit t z))
+      go : (b : Bool) → g .test ≡ b → pick (g .test) inner (refused 1) ≡ refused 1
+      go true z = absurd (n (g .opened z))
       go false z = simp z
 
-  pub one-only : (inner ≡ refused 1 → ⊥) → (gated ≡ refused 1) ↔ (Fit t → ⊥)
+  pub one-only : (inner ≡ refused 1 → ⊥) → (gated ≡ refused 1) ↔ (F → ⊥)
   one-only n = (λ e h. n (sym (on-fit h) ∙ e), off-fit)
 
-  pub others : {a : Answer} → (a ≡ refused 1 → ⊥) → {P : Type 0} → (inner ≡ a) ↔ P → (gated ≡ a) ↔ (Fit t × P)
-  others {a} n {P} h = (λ e. go (fits t) refl e, λ f. on-fit (f .0) ∙ h .1 (f .1))
+  pub others : {a : Answer} → (a ≡ refused 1 → ⊥) → {P : Type 0} → (inner ≡ a) ↔ P → (gated ≡ a) ↔ (F × P)
+  others {a} n {P} h = (λ e. go (g .test) refl e, λ f. on-fit (f .0) ∙ h .1 (f .1))
     where
-      go : (b : Bool) → fits t ≡ b → gated ≡ a → Fit t × P
-      go true z e = let f = fits-fit t z in (f, h .0 (sym (on-fit f) ∙ e))
+      go : (b : Bool) → g .test ≡ b → gated ≡ a → F × P
+      go true z e = let f = g .opened z in (f, h .0 (sym (on-fit f) ∙ e))
       go false z e = absurd (n (sym e ∙ simp z))
 
-module _ (t : Live) (hash key : ℕ) where
-  at-root : Searches (t .names) (t .cells) (rootOf t) hash key
-  at-root = claims .finds (t .names) (t .cells) (rootOf t) hash key
+module _ (t : Unsized) (hash key : ℕ) where
+  at-root : Searches (t .names) (t .cells) (rootWord (t .head)) hash key
+  at-root = claims .finds (t .names) (t .cells) (rootWord (t .head)) hash key
 
-  pub find-fit : Fit t → finds t hash key ≡ found (t .names) (t .cells) (rootOf t) hash key
+  pub find-fit : FitUnsized t → finds t hash key ≡ found (t .names) (t .cells) (rootWord (t .head)) hash key
   unfolding finds
-  find-fit h = simp (fit-fits t h)
+  find-fit h = simp (unsized-fits t h)
 
-  pub find-unfit : (Fit t → ⊥) → finds t hash key ≡ ends (refused 1)
+  pub find-unfit : (FitUnsized t → ⊥) → finds t hash key ≡ ends (refused 1)
   unfolding finds
-  find-unfit n = go (fits t) refl
+  find-unfit n = go (fitsUnsized t) refl
     where
-      go : (b : Bool) → fits t ≡ b → pick (fits t) (found (t .names) (t .cells) (rootOf t) hash key) (ends (refused 1)) ≡ ends (refused 1)
-      go true z = absurd (n (fits-fit t z))
+      go : (b : Bool) → fitsUnsized t ≡ b → pick (fitsUnsized t) (found (t .names) (t .cells) (rootWord (t .head)) hash key) (ends (refused 1)) ≡ ends (refused 1)
+      go true z = absurd (n (fits-unsized t z))
       go false z = simp z
 
-  find-gated : finds t hash key .answer ≡ gated t (found (t .names) (t .cells) (rootOf t) hash key .answer)
-  unfolding finds
-  find-gated = go (fits t) (found (t .names) (t .cells) (rootOf t) hash key)
+  find-gated : finds t hash key .answer ≡ gated (unsized-gate t) (found (t .names) (t .cells) (rootWord (t .head)) hash key .answer)
+  unfolding finds unsized-gate
+  find-gated = go (fitsUnsized t) (found (t .names) (t .cells) (rootWord (t .head)) hash key)
     where
       go : (b : Bool) (s : Search) → pick b s (ends (refused 1)) .answer ≡ pick b (s .answer) (refused 1)
       go true s = refl
       go false s = refl
 
   pub find-claims : Finds t hash key
+  unfolding unsized-gate
   find-claims =
-      let a = found (t .names) (t .cells) (rootOf t) hash key .answer in
+      let a = found (t .names) (t .cells) (rootWord (t .head)) hash key .answer in
       record {
-        one = rw find-gated (one-only t a (λ e. omega (arith, at-root .only-nine 1 (omega arith) e)));
-        nine = rw find-gated (others t a (λ e. omega (arith, number e)) (at-root .nine));
-        at = λ slot. rw find-gated (others t a (λ e. omega (arith, number e)) (at-root .at slot));
-        none = rw find-gated (others t a (λ e. omega (arith, number e)) (at-root .none));
+        one = rw find-gated (one-only (unsized-gate t) a (λ e. omega (arith, at-root .only-nine 1 (omega arith) e)));
+        nine = rw find-gated (others (unsized-gate t) a (λ e. omega (arith, number e)) (at-root .nine));
+        at = λ slot. rw find-gated (others (unsized-gate t) a (λ e. omega (arith, number e)) (at-root .at slot));
+        none = rw find-gated (others (unsized-gate t) a (λ e. omega (arith, number e)) (at-root .none));
         unfit-looks = λ n. ap (λ (s : Search). s .looks) (find-unfit n);
         looks = λ h. rw (find-fit h) (at-root .looks);
       }
@@ -89,17 +101,17 @@ check-not-one : (names cells : List ℕ) (root : ℕ) → checked names cells ro
 unfolding checked
 check-not-one names cells root e = walk-not-one (walked (slotsOf names) names cells root (slotsOf names)) e
 
-module _ (t : Live) where
-  from-root : Walkings (t .names) (t .cells) (rootOf t)
-  from-root = claims .checks (t .names) (t .cells) (rootOf t)
+module _ (t : Unsized) where
+  from-root : Walkings (t .names) (t .cells) (rootWord (t .head))
+  from-root = claims .checks (t .names) (t .cells) (rootWord (t .head))
 
   pub check-claims : Checks t
-  unfolding checks
+  unfolding checks unsized-gate
   check-claims =
-      let a = checked (t .names) (t .cells) (rootOf t) in
+      let a = checked (t .names) (t .cells) (rootWord (t .head)) in
       record {
-        one = one-only t a (check-not-one (t .names) (t .cells) (rootOf t));
-        nine = others t a (λ e. omega (arith, number e)) (from-root .nine);
-        passes = others t a (λ e. omega (arith, number e)) (from-root .passes);
-        fails = λ test slot. others t a (λ e. omega (arith, number e)) (from-root .fails test slot);
+        one = one-only (unsized-gate t) a (check-not-one (t .names) (t .cells) (rootWord (t .head)));
+        nine = others (unsized-gate t) a (λ e. omega (arith, number e)) (from-root .nine);
+        passes = others (unsized-gate t) a (λ e. omega (arith, number e)) (from-root .passes);
+        fails = λ test slot. others (unsized-gate t) a (λ e. omega (arith, number e)) (from-root .fails test slot);
       }

@@ -22,7 +22,7 @@ use Rattle.redblack.specs.Holding.{Has}
 use Rattle.index_rules.specs.Live.{Live, Fit, rootOf}
 use Rattle.index_rules.specs.Sound.{Sound}
 use Rattle.index_rules.proofs.Rules.{small}
-use Rattle.index_rules.proofs.Passing.{rising-before, rising-after, rising-front, rising-back}
+use Rattle.tree_rules.proofs.Order.{rising-before, rising-after, rising-front, rising-back}
 
 -- Neither below, nor above.
 below-not : {a b c d : ℕ} → b ≤ a → (a ≡ b → d ≤ c) → (a < b) ⊎ ((a ≡ b) × (c < d)) → ⊥

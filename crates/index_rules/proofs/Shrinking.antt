@@ -20,6 +20,7 @@ use Rattle.redblack.specs.Removal.{removed}
 use Rattle.redblack.specs.Balance.{OneFewer}
 use Rattle.redblack.specs.Holding.{Holds, RedBlackTree}
 use Rattle.redblack.specs.Kept.{Agree}
+use Rattle.redblack.specs.Sizes.{SizedTree}
 use Rattle.redblack.specs.Claims.{RemovesSlot}
 use Rattle.redblack.proofs.Kept.{place-aside, prev-aside, next-aside}
 use Rattle.redblack.proofs.Claims.{claims}
@@ -156,7 +157,7 @@ module _ {t : Live} (fit : Fit t) (h : Sound t) (x : ℕ) (here : 1 ≤ times x 
   loose = unchained (t .cells) x
 
   abbrev links : Links
-  links = record { cells = loose; root = rootOf t }
+  links = record { cells = loose; root = rootOf t; sizes = t .sizes }
 
   abbrev gone : Links
   gone = removed (slotsOf (t .names)) links x
@@ -347,6 +348,11 @@ module _ {t : Live} (fit : Fit t) (h : Sound t) (x : ℕ) (here : 1 ≤ times x 
       go (yes e) = rw e own
       go (no d) = away d (without-else k (result .3) d ∙ z)
 
+  gone-sized : SizedTree (slotsOf (t .names)) gone (result .0)
+  gone-sized =
+      Rattle.redblack.proofs.Claims.claims .keeps-sizes (slotsOf (t .names)) (slotsOf (t .names)) links (h .tree) .removal x holds (sound-balanced h)
+      (record { long = fit .each ∙ sym (half fit); same = h .t8 }) here (omega arith) (result .0) (result .1)
+
   pub shrunk-fit : Fit (shrunk t x)
   unfolding shrunk
   shrunk-fit =
@@ -357,6 +363,7 @@ module _ {t : Live} (fit : Fit t) (h : Sound t) (x : ℕ) (here : 1 ≤ times x 
         two = simp length-rename (fit .two);
         seven = wiped-length (gone .cells) x ∙ removes-slot .keeps place place-aside .long ∙ loose-length (t .cells) x ∙ fit .seven;
         three = headed-length (t .head) _ _ _ ∙ fit .three;
+        each = gone-sized .long ∙ half fit;
       }
 
   cap : slotsOf ((shrunk t x) .names) ≡ slotsOf (t .names)
@@ -377,6 +384,7 @@ module _ {t : Live} (fit : Fit t) (h : Sound t) (x : ℕ) (here : 1 ≤ times x 
         same = λ k l. same k (rw cap at l);
         others = λ k l z. others k (rw cap at l) z;
         count = headed-count (t .head) _ _ _ (fit .three) ∙ omega (arith, sound-count h, without-length (result .3));
+        sized = gone-sized .same;
       }
 
   pub shrunk-sound : Shrunk t (shrunk t x) h x

@@ -1,4 +1,4 @@
--- The full check says yes exactly of sound trees: the seven tests in turn, each with its rule.
+-- The full check says yes exactly of sound trees: the eight tests in turn, each with its rule.
 use mathlib.Core.Path.{_≡_, refl, sym, _∙_}
 use mathlib.Core.Logic.{_↔_}
 use mathlib.Core.Bool.{Bool, true, false, false≢true}
@@ -7,19 +7,21 @@ use Rattle.slots.specs.Words.{pick}
 use Rattle.slots.specs.Answers.{Answer, given, refused}
 use Rattle.slots.proofs.Laws.{given-is, number}
 use Rattle.index_rules.specs.Live.{Live, Fit}
-use Rattle.index_rules.specs.Sound.{Sound, rule1, rule2, rule3, rule4, rule5, rule6, sound, sounds}
+use Rattle.index_rules.specs.Sound.{Sound, rule1, rule2, rule3, rule4, rule5, rule6, rule7, sound, sounds}
 use Rattle.index_rules.specs.Claims.{Sounds}
 use Rattle.index_rules.proofs.Fit.{both}
 use Rattle.index_rules.proofs.Rules.{and, rule-one, rule-two, rule-three, rule-four, rule-five, rule-six, rule-seven}
+use Rattle.index_rules.proofs.Weighing.{rule-eight}
 use Rattle.index_rules.proofs.Passing.{sound-passes}
-use Rattle.index_rules.proofs.Reading.{one-only, others}
+use Rattle.index_rules.proofs.Reading.{tree-gate, one-only, others}
 
 module _ {t : Live} (fit : Fit t) where
   pub sound-yes : Sound t → sound t ≡ true
   unfolding sound
   sound-yes h =
       and (rule-one t .1 (h .t1)) (and (rule-two t .1 (h .t2)) (and (rule-three fit (h .t1) .1 (h .tree, h .t3))
-      (and (rule-four fit (h .t1) (h .t3) .1 (h .t4)) (and (rule-five fit (h .t1) (h .t3) .1 (h .t5)) (and (rule-six fit (h .t1) (h .t3) .1 (h .t6)) (rule-seven fit (h .t1) .1 (h .chain, h .t7)))))))
+      (and (rule-four fit (h .t1) (h .t3) .1 (h .t4)) (and (rule-five fit (h .t1) (h .t3) .1 (h .t5)) (and (rule-six fit (h .t1) (h .t3) .1 (h .t6))
+      (and (rule-seven fit (h .t1) .1 (h .chain, h .t7)) (rule-eight fit (h .t1) (h .t3) .1 (h .t8))))))))
 
   pub yes-sound : sound t ≡ true → Sound t
   unfolding sound
@@ -30,9 +32,10 @@ module _ {t : Live} (fit : Fit t) where
       let h4 = both (rule4 t) _ (h3 .1) in
       let h5 = both (rule5 t) _ (h4 .1) in
       let h6 = both (rule6 t) _ (h5 .1) in
+      let h7 = both (rule7 t) _ (h6 .1) in
       let one = rule-one t .0 (h1 .0) in
       let three = rule-three fit one .0 (h3 .0) in
-      let seven = rule-seven fit one .0 (h6 .1) in
+      let seven = rule-seven fit one .0 (h7 .0) in
       record {
         tree = three .0;
         chain = seven .0;
@@ -43,6 +46,7 @@ module _ {t : Live} (fit : Fit t) where
         t5 = rule-five fit one (three .1) .0 (h5 .0);
         t6 = rule-six fit one (three .1) .0 (h6 .0);
         t7 = seven .1;
+        t8 = rule-eight fit one (three .1) .0 (h7 .1);
       }
 
   pub unsound : sound t ≡ false → Sound t → ⊥
@@ -66,10 +70,10 @@ module _ (t : Live) where
   inner = pick (sound t) (given 1) (given 0)
 
   pub sound-claims : Sounds t
-  unfolding sounds
+  unfolding sounds tree-gate
   sound-claims =
       record {
-        one = one-only t inner (not-one (sound t));
+        one = one-only (tree-gate t) inner (not-one (sound t));
         yes = yes-exactly;
         no = no-exactly;
         passes-too = λ f h. sound-passes f h;
@@ -80,16 +84,17 @@ module _ (t : Live) where
         rule-five = λ f one three. rule-five f one three;
         rule-six = λ f one three. rule-six f one three;
         rule-seven = λ f one. rule-seven f one;
+        rule-eight = λ f one three. rule-eight f one three;
       }
     where
       yes-exactly : (sounds t ≡ given 1) ↔ (Fit t × Sound t)
       yes-exactly =
-          let h = others t inner (λ e. omega (arith, number e)) (verdict (sound t)) in
+          let h = others (tree-gate t) inner (λ e. omega (arith, number e)) (verdict (sound t)) in
           (λ e. (let k = h .0 e in (k .0, yes-sound (k .0) (k .1))), λ k. h .1 (k .0, sound-yes (k .0) (k .1)))
 
       no-exactly : (sounds t ≡ given 0) ↔ (Fit t × (Sound t → ⊥))
       no-exactly =
-          let h = others t inner (λ e. omega (arith, number e)) (verdict-no (sound t)) in
+          let h = others (tree-gate t) inner (λ e. omega (arith, number e)) (verdict-no (sound t)) in
           (λ e. (let k = h .0 e in (k .0, unsound (k .0) (k .1))), λ k. h .1 (k .0, false-of (λ e. k .1 (yes-sound (k .0) e))))
         where
           false-of : (sound t ≡ true → ⊥) → sound t ≡ false

@@ -165,7 +165,7 @@ module _ {t : Live} (fit : Fit t) (h : Sound t) (j : JournalLine) where
           let g = grown-sound fit h (lowestFree t) y (j .hash) (j .key) (j .place) (f .inside) (f .unused) (sits seat) n in
           let left : (l : List Entry) → listing (g .sound) ≡ l → Left t u l =
           λ l w. subst (λ (v : Live). Left t v l) (stays-is (a .1)) (record {
-            fit = grown-fit fit h (lowestFree t) y (j .hash) (j .key) (j .place) (f .inside) (f .unused) (sits seat);
+            fit = grown-fit fit h (lowestFree t) y (j .hash) (j .key) (j .place) (f .inside) (f .unused) (sits seat) n;
             sound = g .sound;
             capacity = grown-capacity t (lowestFree t) y (j .hash) (j .key) (j .place);
             lists = w;

@@ -78,6 +78,7 @@ pub record Frees (t u : Live) (x : ℕ) : Type 0 where
 pub record OnlyPlace (t u : Live) (x p : ℕ) : Type 0 where
   pub names : u .names ≡ t .names
   pub head : u .head ≡ t .head
+  pub sizes : u .sizes ≡ t .sizes
   pub long : length (u .cells) ≡ length (t .cells)
   pub placed : cell (u .cells) x place ≡ p
   pub others : (j : ℕ) → j ≢ fields * x + place → getD (u .cells) j 0 ≡ getD (t .cells) j 0

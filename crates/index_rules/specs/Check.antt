@@ -2,7 +2,7 @@
 use Rattle.slots.specs.Words.{pick}
 use Rattle.slots.specs.Answers.{Answer, refused}
 use Rattle.tree_rules.specs.Check.{checked}
-use Rattle.index_rules.specs.Live.{Live, rootOf, fits}
+use Rattle.index_rules.specs.Live.{Unsized, rootWord, fitsUnsized}
 
-unfoldable pub checks : Live → Answer
-checks t = pick (fits t) (checked (t .names) (t .cells) (rootOf t)) (refused 1)
+unfoldable pub checks : Unsized → Answer
+checks t = pick (fitsUnsized t) (checked (t .names) (t .cells) (rootWord (t .head))) (refused 1)

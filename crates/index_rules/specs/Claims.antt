@@ -5,16 +5,16 @@ use mathlib.Core.Bool.{true}
 use mathlib.Core.List.{List, [], _∷_}
 use Prim.Native.Nat.{ℕ, _+_, _-_, _*_, _^_, _<_, _≤_}
 use lib.ListN.{length, getD}
-use Rattle.slots.specs.Words.{place, cell}
+use Rattle.slots.specs.Words.{null, place, cell}
 use Rattle.slots.specs.Pairs.{pair, pairOf}
 use Rattle.slots.specs.Answers.{some, given, nothing, refused}
 use Rattle.tree_rules.specs.Find.{slotsOf, Follows, Lost, Here, Missed}
 use Rattle.tree_rules.specs.Looks.{LooksAt}
 use Rattle.tree_rules.specs.Check.{passed, failed, strayed, Walks}
-use Rattle.index_rules.specs.Live.{Live, Fit, rootOf, countOf}
+use Rattle.index_rules.specs.Live.{Live, Unsized, unsizedOf, Fit, FitUnsized, rootWord, countOf}
 use Rattle.index_rules.specs.Find.{finds}
 use Rattle.index_rules.specs.Check.{checks}
-use Rattle.index_rules.specs.Sound.{Sound, T1, T2, T3, T4, T5, T6, T7, rule1, rule2, rule3, rule4, rule5, rule6, rule7, sounds}
+use Rattle.index_rules.specs.Sound.{Sound, T1, T2, T3, T4, T5, T6, T7, T8, rule1, rule2, rule3, rule4, rule5, rule6, rule7, rule8, sounds}
 use Rattle.tree_rules.specs.Tree.{Tree, slots, times, Rising}
 use Rattle.redblack.specs.Balance.{OneFewer}
 use Rattle.redblack.specs.Holding.{Stands, Has}
@@ -23,32 +23,33 @@ use Rattle.index_rules.specs.Insert.{inserts}
 use Rattle.index_rules.specs.Remove.{removes}
 use Rattle.index_rules.specs.Replace.{replaces}
 use Rattle.index_rules.specs.Rollback.{rolls}
+use Rattle.index_rules.specs.Ranks.{kths, positions}
 use Rattle.index_rules.specs.Fresh.{FitLengths, freshes}
-use Rattle.index_rules.specs.Contents.{Entry, entry, contents, listing, HoldSame, put, without, withPlace, In}
+use Rattle.index_rules.specs.Contents.{Entry, entry, contents, listing, HoldSame, put, without, withPlace, In, StandsAt}
 use Rattle.index_rules.specs.Undoing.{Undoes, Fits}
 use Rattle.index_rules.specs.Calls.{Call, after, Allowed, Places, Lowest, NoneFree, Takes, Frees, OnlyPlace, Notes, OneLine, BackTo}
 
 -- find on any words, for any pair.
-pub record Finds (t : Live) (hash key : ℕ) : Type 0 where
+pub record Finds (t : Unsized) (hash key : ℕ) : Type 0 where
   -- 1 Unfit, "slice lengths disagree, a capacity .. breaks its rule": exactly then
-  pub one : (finds t hash key .answer ≡ refused 1) ↔ (Fit t → ⊥)
+  pub one : (finds t hash key .answer ≡ refused 1) ↔ (FitUnsized t → ⊥)
   -- 9 Lost: exactly where the words are fit and the search is lost
-  pub nine : (finds t hash key .answer ≡ refused 9) ↔ (Fit t × Lost (t .names) (t .cells) (rootOf t) hash key)
+  pub nine : (finds t hash key .answer ≡ refused 9) ↔ (FitUnsized t × Lost (t .names) (t .cells) (rootWord (t .head)) hash key)
   -- the slot, and Nothing, exactly where the words are fit and the search comes to them
-  pub at : (slot : ℕ) → (finds t hash key .answer ≡ given slot) ↔ (Fit t × Here (t .names) (t .cells) (rootOf t) hash key slot)
-  pub none : (finds t hash key .answer ≡ nothing) ↔ (Fit t × Missed (t .names) (t .cells) (rootOf t) hash key)
+  pub at : (slot : ℕ) → (finds t hash key .answer ≡ given slot) ↔ (FitUnsized t × Here (t .names) (t .cells) (rootWord (t .head)) hash key slot)
+  pub none : (finds t hash key .answer ≡ nothing) ↔ (FitUnsized t × Missed (t .names) (t .cells) (rootWord (t .head)) hash key)
   -- 1 has no looks; on fit words they are the slots that the search follows from the root, in order
-  pub unfit-looks : (Fit t → ⊥) → finds t hash key .looks ≡ []
-  pub looks : Fit t → LooksAt (t .names) hash key (Follows (t .names) (t .cells) (rootOf t) hash key) (finds t hash key)
+  pub unfit-looks : (FitUnsized t → ⊥) → finds t hash key .looks ≡ []
+  pub looks : FitUnsized t → LooksAt (t .names) hash key (Follows (t .names) (t .cells) (rootWord (t .head)) hash key) (finds t hash key)
 
 -- check, the source's own, on any words.
-pub record Checks (t : Live) : Type 0 where
-  pub one : (checks t ≡ refused 1) ↔ (Fit t → ⊥)
+pub record Checks (t : Unsized) : Type 0 where
+  pub one : (checks t ≡ refused 1) ↔ (FitUnsized t → ⊥)
   -- "9": the root or one of a node's own five links out of range, or more visits than slots, where the walk comes to it
-  pub nine : (checks t ≡ refused 9) ↔ (Fit t × Walks (t .names) (t .cells) (rootOf t) (slotsOf (t .names)) strayed)
+  pub nine : (checks t ≡ refused 9) ↔ (FitUnsized t × Walks (t .names) (t .cells) (rootWord (t .head)) (slotsOf (t .names)) strayed)
   -- "Passes, or the first failing test with its slot"
-  pub passes : (checks t ≡ nothing) ↔ (Fit t × ((v : ℕ) × Walks (t .names) (t .cells) (rootOf t) (slotsOf (t .names)) (passed v)))
-  pub fails : (test slot : ℕ) → (checks t ≡ record { number = 100 + test; value = some slot }) ↔ (Fit t × Walks (t .names) (t .cells) (rootOf t) (slotsOf (t .names)) (failed test slot))
+  pub passes : (checks t ≡ nothing) ↔ (FitUnsized t × ((v : ℕ) × Walks (t .names) (t .cells) (rootWord (t .head)) (slotsOf (t .names)) (passed v)))
+  pub fails : (test slot : ℕ) → (checks t ≡ record { number = 100 + test; value = some slot }) ↔ (FitUnsized t × Walks (t .names) (t .cells) (rootWord (t .head)) (slotsOf (t .names)) (failed test slot))
 
 -- The full check on any words: "yes exactly if sound", and each rule's own test exactly where the rule holds, given those before it.
 pub record Sounds (t : Live) : Type 0 where
@@ -56,7 +57,7 @@ pub record Sounds (t : Live) : Type 0 where
   pub yes : (sounds t ≡ given 1) ↔ (Fit t × Sound t)
   pub no : (sounds t ≡ given 0) ↔ (Fit t × (Sound t → ⊥))
   -- "Passing check_invariants is not soundness", but a sound tree passes
-  pub passes-too : Fit t → Sound t → checks t ≡ nothing
+  pub passes-too : Fit t → Sound t → checks (unsizedOf t) ≡ nothing
   pub rule-one : (rule1 t ≡ true) ↔ T1 t
   pub rule-two : (rule2 t ≡ true) ↔ T2 t
   pub rule-three : Fit t → T1 t → (rule3 t ≡ true) ↔ ((tree : Tree) × T3 t tree)
@@ -64,15 +65,16 @@ pub record Sounds (t : Live) : Type 0 where
   pub rule-five : Fit t → T1 t → {tree : Tree} → T3 t tree → (rule5 t ≡ true) ↔ T5 tree
   pub rule-six : Fit t → T1 t → {tree : Tree} → T3 t tree → (rule6 t ≡ true) ↔ T6 tree
   pub rule-seven : Fit t → T1 t → (rule7 t ≡ true) ↔ ((chain : List ℕ) × T7 t chain)
+  pub rule-eight : Fit t → T1 t → {tree : Tree} → T3 t tree → (rule8 t ≡ true) ↔ T8 t tree
 
 -- find on a sound tree: the slot exactly where the pair is, Nothing exactly where it is not, never 9; and no slot is looked at twice.
 pub record FindsSound (t : Live) (fit : Fit t) (h : Sound t) (hash key : ℕ) : Type 0 where
-  pub at : (slot : ℕ) → (finds t hash key .answer ≡ given slot) ↔ (Stands slot (h .tree) × (pairOf (t .names) slot ≡ pair hash key))
-  pub none : (finds t hash key .answer ≡ nothing) ↔ (Has (t .names) (h .tree) hash key → ⊥)
-  pub never-nine : finds t hash key .answer ≡ refused 9 → ⊥
-  pub once : (x : ℕ) → times x (finds t hash key .looks) ≤ 1
+  pub at : (slot : ℕ) → (finds (unsizedOf t) hash key .answer ≡ given slot) ↔ (Stands slot (h .tree) × (pairOf (t .names) slot ≡ pair hash key))
+  pub none : (finds (unsizedOf t) hash key .answer ≡ nothing) ↔ (Has (t .names) (h .tree) hash key → ⊥)
+  pub never-nine : finds (unsizedOf t) hash key .answer ≡ refused 9 → ⊥
+  pub once : (x : ℕ) → times x (finds (unsizedOf t) hash key .looks) ≤ 1
   -- "two to the power of nodes looked at is at most (n+1) squared", detours at a null child included
-  pub not-deep : 2 ^ length (finds t hash key .looks) ≤ (countOf t + 1) * (countOf t + 1)
+  pub not-deep : 2 ^ length (finds (unsizedOf t) hash key .looks) ≤ (countOf t + 1) * (countOf t + 1)
 
 -- The contents of a sound tree are one list, and it strictly rises: two trees have equal contents exactly if they hold the same.
 pub record Contained (t : Live) (fit : Fit t) : Type 0 where
@@ -171,6 +173,26 @@ pub record Rolls (ix : Index) (m : ℕ) : Type 0 where
       × Undoes (slotsOf (ix .live .names)) (ix .lines) m (lengthOf (ix .lines)) (listing h) (listing g)
       × BackTo m (ix .lines) (rolls ix m .left .lines) × (slotsOf ((rolls ix m .left .live) .names) ≡ slotsOf (ix .live .names))
 
+-- The k-th call on any words.
+pub record Kths (t : Live) (k : ℕ) : Type 0 where
+  pub one : (kths t k ≡ refused 1) ↔ (Fit t → ⊥)
+  pub two : (kths t k ≡ refused 2) ↔ (Fit t × (Sound t → ⊥))
+  -- 15 Out of range exactly if k is not below the count
+  pub fifteen : (kths t k ≡ refused 15) ↔ (Fit t × Sound t × (countOf t ≤ k))
+  -- else the slot of the k-th entry of the contents
+  pub slot : (x : ℕ) → (kths t k ≡ given x) ↔ (Fit t × ((h : Sound t) × (k < length (contents h)) × (getD (slots (h .tree)) k null ≡ x)))
+
+-- The position call on any words.
+pub record Positions (t : Live) (hash key : ℕ) : Type 0 where
+  pub one : (positions t hash key ≡ refused 1) ↔ (Fit t → ⊥)
+  pub two : (positions t hash key ≡ refused 2) ↔ (Fit t × (Sound t → ⊥))
+  pub four : (positions t hash key ≡ refused 4) ↔ (Fit t × ((h : Sound t) × (Has (t .names) (h .tree) hash key → ⊥)))
+  -- else exactly the number of smaller pairs: as many entries of the contents stand before the pair's own
+  pub place : (k : ℕ) → (positions t hash key ≡ given k) ↔ (Fit t × ((h : Sound t) × StandsAt k hash key (contents h)))
+  -- each of the two calls undoes the other
+  pub undone : (k x : ℕ) → kths t k ≡ given x → pairOf (t .names) x ≡ pair hash key → positions t hash key ≡ given k
+  pub done-again : (k : ℕ) → positions t hash key ≡ given k → (x : ℕ) × (kths t k ≡ given x) × (pairOf (t .names) x ≡ pair hash key)
+
 -- An empty index is written into any slices of fit lengths, whatever their words were.
 pub record Freshes (ix : Index) : Type 0 where
   pub one : (freshes ix .answer ≡ refused 1) ↔ (FitLengths ix → ⊥)
@@ -197,8 +219,8 @@ pub record Demand3 (ix : Index) (fit : FitIndex ix) (h : Sound (ix .live)) (word
   pub journal : BackTo (lengthOf (ix .lines)) (after calls ix .lines) (rolls (after calls ix) (lengthOf (ix .lines)) .left .lines)
 
 pub record Claims : Type 0 where
-  pub find : (t : Live) (hash key : ℕ) → Finds t hash key
-  pub check : (t : Live) → Checks t
+  pub find : (t : Unsized) (hash key : ℕ) → Finds t hash key
+  pub check : (t : Unsized) → Checks t
   pub sound : (t : Live) → Sounds t
   pub find-sound : (t : Live) (fit : Fit t) (h : Sound t) (hash key : ℕ) → FindsSound t fit h hash key
   pub holds : (t : Live) (fit : Fit t) → Contained t fit
@@ -207,6 +229,8 @@ pub record Claims : Type 0 where
   pub remove : (ix : Index) (hash key : ℕ) → Removes ix hash key
   pub replace : (ix : Index) (hash key p : ℕ) → Replaces ix hash key p
   pub rollback : (ix : Index) (m : ℕ) → Rolls ix m
+  pub kth : (t : Live) (k : ℕ) → Kths t k
+  pub position : (t : Live) (hash key : ℕ) → Positions t hash key
   pub fresh : (ix : Index) → Freshes ix
   pub demand3 : (ix : Index) (fit : FitIndex ix) (h : Sound (ix .live)) (words : Places (contents h)) (calls : List Call) (allowed : Allowed (lengthOf (ix .lines)) calls)
       → Demand3 ix fit h words calls allowed

@@ -2,8 +2,9 @@
 use mathlib.Core.Path.{_≡_}
 use mathlib.Core.Logic.{_↔_}
 use mathlib.Core.Bool.{Bool}
-use mathlib.Core.List.{List, [], _∷_, map}
+use mathlib.Core.List.{List, [], _∷_, _++_, map}
 use Prim.Native.Nat.{ℕ}
+use lib.ListN.{length}
 use lib.Dec.{eqb}
 use Rattle.slots.specs.Words.{pick, place, cell, nameOf, hashPart, keyPart, _and_}
 use Rattle.slots.specs.Pairs.{pair, pairOf, before}
@@ -80,3 +81,11 @@ HasPair hash key l = (p : ℕ) × In (entry hash key p) l
 pub data Lacks (hash key : ℕ) : List Entry → Type 0 where
   empty : Lacks hash key []
   other : {x : Entry} {l : List Entry} → ((x .hash ≡ hash) → (x .key ≡ key) → ⊥) → Lacks hash key l → Lacks hash key (x ∷ l)
+
+-- The pair's entry stands at position k of the list: k others stand before it.
+pub record StandsAt (k hash key : ℕ) (l : List Entry) : Type 0 where
+  pub lower : List Entry
+  pub upper : List Entry
+  pub at : ℕ
+  pub is : l ≡ lower ++ (entry hash key at ∷ upper)
+  pub before : length lower ≡ k

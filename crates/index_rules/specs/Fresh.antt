@@ -13,7 +13,7 @@ use Rattle.index_rules.specs.Remove.{wiped}
 use Rattle.index_rules.specs.Rollback.{blanked}
 use Rattle.tree_rules.specs.Find.{slotsOf}
 
--- The four slices are as long as an index's, whatever their words are.
+-- The five slices are as long as an index's, whatever their words are.
 pub record FitLengths (ix : Index) : Type 0 where
   pub tree : Fit (ix .live)
   pub capacity : ℕ
@@ -23,11 +23,11 @@ pub record FitLengths (ix : Index) : Type 0 where
 unfoldable pub fitsLengths : Index → Bool
 fitsLengths ix = fits (ix .live) and wholeLines (ix .lines)
 
--- The first so many slots cleared, their names too.
+-- The first so many slots cleared, their names and sizes too.
 unfoldable pub bared : ℕ → Live → Live
 bared zero t = t
 bared (suc k) t =
-    bared k (record { names = rename (rename (t .names) k hashPart 0) k keyPart 0; cells = wiped (t .cells) k; head = t .head })
+    bared k (record { names = rename (rename (t .names) k hashPart 0) k keyPart 0; cells = wiped (t .cells) k; head = t .head; sizes = set (t .sizes) k 0 })
 
 -- Every slot cleared, a header of nothing, and a journal of zeros; 1 where the lengths do not fit, and nothing is written.
 unfoldable pub freshes : Index → Outcome
@@ -35,5 +35,5 @@ freshes ix =
     let t = bared (slotsOf (ix .live .names)) (ix .live) in
     pick (fitsLengths ix)
     (outcome (given 1)
-    (index (record { names = t .names; cells = t .cells; head = headed (t .head) null null 0 }) (set (blanked (linesOf (ix .lines)) (ix .lines) 0) 0 0)))
+    (index (record { names = t .names; cells = t .cells; head = headed (t .head) null null 0; sizes = t .sizes }) (set (blanked (linesOf (ix .lines)) (ix .lines) 0) 0 0)))
     (outcome (refused 1) ix)

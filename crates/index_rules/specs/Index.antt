@@ -16,9 +16,9 @@ pub record Index : Type 0 where
 abbrev pub index : Live → List ℕ → Index
 index t lines = record { live = t; lines = lines }
 
--- The tree with its journal that four lent slices are.
-abbrev pub lent : List ℕ → List ℕ → List ℕ → List ℕ → Index
-lent names cells head lines = index (lentTree names cells head) lines
+-- The tree with its journal that five lent slices are.
+abbrev pub lent : List ℕ → List ℕ → List ℕ → List ℕ → List ℕ → Index
+lent names cells head sizes lines = index (lentTree names cells head sizes) lines
 
 -- What a call comes to: its answer, and all that it leaves in the lent slices.
 pub record Outcome : Type 0 where

@@ -12,4 +12,5 @@ pub mod Fresh
 pub mod Contents
 pub mod Undoing
 pub mod Calls
+pub mod Ranks
 pub mod Claims

@@ -28,11 +28,12 @@ wiped cells x =
 -- After the check: the slot x goes.
 unfoldable pub shrunk : Live → ℕ → Live
 shrunk t x =
-    let gone = removed (slotsOf (t .names)) (record { cells = unchained (t .cells) x; root = rootOf t }) x in
+    let gone = removed (slotsOf (t .names)) (record { cells = unchained (t .cells) x; root = rootOf t; sizes = t .sizes }) x in
     record {
       names = rename (rename (t .names) x hashPart 0) x keyPart 0;
       cells = wiped (gone .cells) x;
       head = headed (t .head) (gone .root) (newFirst t x) (countOf t - 1);
+      sizes = gone .sizes;
     }
 
 -- The line of it, with the place that the slot had and the pair of the slot before it, if one stood there.

@@ -7,7 +7,7 @@ use Rattle.index_rules.specs.Present.{wherePresent}
 
 -- After the check: the slot x has the place p.
 unfoldable pub placedAt : Live → ℕ → ℕ → Live
-placedAt t x p = lentTree (t .names) (write (t .cells) x place p) (t .head)
+placedAt t x p = lentTree (t .names) (write (t .cells) x place p) (t .head) (t .sizes)
 
 -- And a line more, with both places.
 unfoldable pub afterReplace : Index → ℕ → ℕ → ℕ → ℕ → Index

@@ -1,9 +1,9 @@
--- "A tree is sound when": T1 to T7 of a live tree of n slots, in the rules' order, and the full check, a test for each rule.
+-- "A tree is sound when": T1 to T8 of a live tree of n slots, in the rules' order, and the full check, a test for each rule.
 use mathlib.Core.Path.{_≡_}
 use mathlib.Core.Logic.{_↔_}
 use mathlib.Core.Bool.{Bool, true, false}
 use mathlib.Core.List.{List}
-use Prim.Native.Nat.{ℕ, zero, suc, _-_, _<_, _≤_}
+use Prim.Native.Nat.{ℕ, zero, suc, _+_, _-_, _<_, _≤_}
 use lib.Dec.{eqb, leb}
 use Rattle.slots.specs.Words.{null, pick, place, state, parent, left, right, prev, next, free, cell, nameOf, hashPart, keyPart, _and_}
 use Rattle.slots.specs.Answers.{Answer, Value, some, none, given, refused}
@@ -11,6 +11,7 @@ use Rattle.tree_rules.specs.Check.{inRange, linksIn, Named, LinksNamed}
 use Rattle.tree_rules.specs.Tree.{Tree, slots, times, Rooted, Rising, Coloured, Level}
 use Rattle.tree_rules.specs.Rules.{reached, rises, coloured, level}
 use Rattle.tree_rules.specs.Chain.{Chain, chained, tally}
+use Rattle.tree_rules.specs.Sizes.{sizeWord, SizedBy}
 use Rattle.index_rules.specs.Live.{Live, rootOf, firstOf, countOf, fits}
 use Rattle.tree_rules.specs.Find.{slotsOf}
 
@@ -65,6 +66,10 @@ pub record T7 (t : Live) (chain : List ℕ) : Type 0 where
   pub linked : Chain (slotsOf (t .names)) (t .cells) null (firstOf t) chain
   pub all : (i : ℕ) → i < slotsOf (t .names) → used (t .cells) i ≡ times i chain
 
+-- T8 "the stored size is that number, 0 in a free slot."
+abbrev pub T8 : Live → Tree → Type 0
+T8 t tree = SizedBy (t .sizes) tree
+
 pub record Sound (t : Live) : Type 0 where
   pub tree : Tree
   pub chain : List ℕ
@@ -75,6 +80,7 @@ pub record Sound (t : Live) : Type 0 where
   pub t5 : T5 tree
   pub t6 : T6 tree
   pub t7 : T7 t chain
+  pub t8 : T8 t tree
 
 -- The full check, a test for each rule. A test asks nothing that an earlier one has settled.
 unfoldable pub isCleared : Live → ℕ → Bool
@@ -133,8 +139,21 @@ rule7 t =
     (leaves n (countOf t) (chained n n (t .cells) null (firstOf t)))
     false
 
+-- A slot of the tree has one more than its two children together, a free one 0.
+unfoldable pub sizeFine : Live → ℕ → Bool
+sizeFine t i =
+    eqb (sizeWord (t .sizes) i)
+    (pick (eqb (cell (t .cells) i state) free) 0 (1 + sizeWord (t .sizes) (cell (t .cells) i left) + sizeWord (t .sizes) (cell (t .cells) i right)))
+
+unfoldable pub sizesFine : ℕ → Live → Bool
+sizesFine zero t = true
+sizesFine (suc k) t = sizeFine t k and sizesFine k t
+
+unfoldable pub rule8 : Live → Bool
+rule8 t = sizesFine (slotsOf (t .names)) t
+
 unfoldable pub sound : Live → Bool
-sound t = rule1 t and rule2 t and rule3 t and rule4 t and rule5 t and rule6 t and rule7 t
+sound t = rule1 t and rule2 t and rule3 t and rule4 t and rule5 t and rule6 t and rule7 t and rule8 t
 
 -- "The full check and acceptance give 1, or else yes or no": yes is 1, no is 0.
 unfoldable pub sounds : Live → Answer

@@ -9,11 +9,11 @@ use native.Mathlib.Numerals.{sub-one}
 use borrow.Author.Tests.{not-true, not-false}
 use Rattle.slots.specs.Words.{null, state, parent, left, right, black, red, code, cell, write}
 use Rattle.slots.proofs.Laws.{pick-eq, pick-ne}
-use Rattle.redblack.specs.Links.{Links, read, isRed, colourOf, Turn, done, more}
+use Rattle.redblack.specs.Links.{Links, lentLinks, read, isRed, colourOf, Turn, done, more}
 use Rattle.redblack.specs.Rotate.{rotated}
 use Rattle.redblack.specs.Insertion.{raised, straightened, lifted, insertionTurn, insertionTurns, balancedInsertion}
 use Rattle.redblack.specs.Deletion.{capped, settled, tucked, eased, sunk, deletionTurn, balancedDeletion}
-use Rattle.links.specs.Turns.{links, turnOf}
+use Rattle.links.specs.Turns.{turnOf}
 use Rattle.links.specs.declared.balance.Step.{Step}
 use Rattle.links.specs.declared.balance.Step.the-variants.{Done, More}
 
@@ -21,7 +21,7 @@ use Rattle.links.specs.declared.balance.Step.the-variants.{Done, More}
 module _ (near far : ℕ) (s : Links) (xp xpp : ℕ) where
   pub raise : {l1 l2 : List ℕ} {t : Links}
       → l1 ≡ write (s .cells) xp state (code black) → l2 ≡ write l1 xpp state (code red)
-      → t ≡ rotated far near (links l2 (s .root)) xpp → t ≡ raised near far s xp xpp
+      → t ≡ rotated far near (lentLinks l2 (s .root) (s .sizes)) xpp → t ≡ raised near far s xp xpp
   unfolding raised
   raise e1 e2 e3 = rw (← e1, ← e2) e3
 
@@ -40,7 +40,7 @@ module _ (near far : ℕ) (s : Links) (x xp xpp : ℕ) where
   pub uncle-red : {y : ℕ} {b : Bool} {l1 l2 l3 : List ℕ}
       → y ≡ read s xpp far → b ≡ isRed s y → b ≡ true
       → l1 ≡ write (s .cells) y state (code black) → l2 ≡ write l1 xp state (code black) → l3 ≡ write l2 xpp state (code red)
-      → more (links l3 (s .root)) xpp ≡ lifted near far s x xp xpp
+      → more (lentLinks l3 (s .root) (s .sizes)) xpp ≡ lifted near far s x xp xpp
   unfolding lifted
   uncle-red e1 e2 h e3 e4 e5 = rw (← e1, ← e2, h, ← e3, ← e4, ← e5)
 
@@ -52,7 +52,7 @@ module _ (near far : ℕ) (s : Links) (x xp xpp : ℕ) where
 -- The ways out of a turn: x has no parent; its parent is not red, is the root, stands on the left or on the right.
 module _ (s : Links) (x : ℕ) where
   pub orphan : {xp : ℕ} {l : List ℕ} → xp ≡ read s x parent → xp ≡ null → l ≡ write (s .cells) x state (code black)
-      → done (links l x) ≡ insertionTurn s x
+      → done (lentLinks l x (s .sizes)) ≡ insertionTurn s x
   unfolding insertionTurn
   orphan e1 h e2 = rw (← e1, pick-eq _ _ h, ← e2)
 
@@ -95,13 +95,13 @@ module _ {turn : Links → ℕ → Turn} {loop : ℕ → Links → ℕ → Links
   over {n = zero} {x = x} {s = s} i h = rw (k .spent s x) at i
   over {n = suc m} i h = absurd (not-suc-le-zero h)
 
-  pub ends : {n x t : ℕ} {s w : Links} {l : List ℕ} {step : Step}
-      → loop n s x ≡ w → 0 < n → turnOf step l ≡ turn s x → step ≡ Done t → links l t ≡ w
+  pub ends : {n x t : ℕ} {s w : Links} {cells sizes : List ℕ} {step : Step}
+      → loop n s x ≡ w → 0 < n → turnOf step cells sizes ≡ turn s x → step ≡ Done t → lentLinks cells t sizes ≡ w
   ends {n = zero} i h e d = absurd (not-suc-le-zero h)
   ends {n = suc m} {x = x} {s = s} i h e d = rw (k .unrolled m s x, ← e, d) at i
 
-  pub goes-on : {n x t y : ℕ} {s w : Links} {l : List ℕ} {step : Step}
-      → loop n s x ≡ w → 0 < n → turnOf step l ≡ turn s x → step ≡ More t y → loop (n - 1) (links l t) y ≡ w
+  pub goes-on : {n x t y : ℕ} {s w : Links} {cells sizes : List ℕ} {step : Step}
+      → loop n s x ≡ w → 0 < n → turnOf step cells sizes ≡ turn s x → step ≡ More t y → loop (n - 1) (lentLinks cells t sizes) y ≡ w
   goes-on {n = zero} i h e d = absurd (not-suc-le-zero h)
   goes-on {n = suc m} {x = x} {s = s} i h e d = rw sub-one (rw (k .unrolled m s x, ← e, d) at i)
 
@@ -110,7 +110,7 @@ unfolding insertionTurns
 insertion = record { spent = λ s x. refl; unrolled = λ n s x. refl }
 
 pub started : (budget : ℕ) (s : Links) (x : ℕ) {l : List ℕ} {w : Links}
-    → l ≡ write (s .cells) x state (code red) → w ≡ insertionTurns budget (links l (s .root)) x → w ≡ balancedInsertion budget s x
+    → l ≡ write (s .cells) x state (code red) → w ≡ insertionTurns budget (lentLinks l (s .root) (s .sizes)) x → w ≡ balancedInsertion budget s x
 unfolding balancedInsertion
 started budget s x e1 e2 = rw (← e1) e2
 
@@ -118,7 +118,7 @@ started budget s x e1 e2 = rw (← e1) e2
 module _ (near far : ℕ) (s : Links) (xp y : ℕ) where
   pub settle : {h o : ℕ} {l1 l2 l3 : List ℕ} {t : Links}
       → h ≡ code (colourOf s xp) → l1 ≡ write (s .cells) y state h → o ≡ cell l1 y far
-      → l2 ≡ write l1 o state (code black) → l3 ≡ write l2 xp state (code black) → t ≡ rotated near far (links l3 (s .root)) xp
+      → l2 ≡ write l1 o state (code black) → l3 ≡ write l2 xp state (code black) → t ≡ rotated near far (lentLinks l3 (s .root) (s .sizes)) xp
       → more t (t .root) ≡ settled near far s xp y
   unfolding settled capped
   settle e1 e2 e3 e4 e5 e6 = rw (← e1, ← e2, ← e3, ← e4, ← e5, ← e6)
@@ -126,7 +126,7 @@ module _ (near far : ℕ) (s : Links) (xp y : ℕ) where
 module _ (near far : ℕ) (s : Links) (y : ℕ) where
   pub tuck : {i : ℕ} {l1 l2 : List ℕ} {t : Links}
       → i ≡ read s y near → l1 ≡ write (s .cells) i state (code black) → l2 ≡ write l1 y state (code red)
-      → t ≡ rotated far near (links l2 (s .root)) y → t ≡ tucked near far s y
+      → t ≡ rotated far near (lentLinks l2 (s .root) (s .sizes)) y → t ≡ tucked near far s y
   unfolding tucked
   tuck e1 e2 e3 e4 = rw (← e1, ← e2, ← e3) e4
 
@@ -147,14 +147,14 @@ module _ (near far : ℕ) (s : Links) (x xp y : ℕ) where
   pub none-red : {o i : ℕ} {b d : Bool} {l : List ℕ}
       → o ≡ read s y far → b ≡ isRed s o → b ≡ false → i ≡ read s y near → d ≡ isRed s i → d ≡ false
       → l ≡ write (s .cells) y state (code red)
-      → more (links l (s .root)) xp ≡ eased near far s x xp y
+      → more (lentLinks l (s .root) (s .sizes)) xp ≡ eased near far s x xp y
   unfolding eased
   none-red e1 e2 h e3 e4 k e5 = rw (← e1, ← e2, h, ← e3, ← e4, k, ← e5)
 
 module _ (near far : ℕ) (s : Links) (x xp : ℕ) where
   pub sibling-red : {y q z : ℕ} {b : Bool} {l1 l2 : List ℕ} {t : Links} {v : Turn}
       → y ≡ read s xp far → b ≡ isRed s y → b ≡ true
-      → l1 ≡ write (s .cells) y state (code black) → l2 ≡ write l1 xp state (code red) → t ≡ rotated near far (links l2 (s .root)) xp
+      → l1 ≡ write (s .cells) y state (code black) → l2 ≡ write l1 xp state (code red) → t ≡ rotated near far (lentLinks l2 (s .root) (s .sizes)) xp
       → q ≡ read t x parent → z ≡ read t q far → v ≡ eased near far t x q z
       → v ≡ sunk near far s x xp
   unfolding sunk
@@ -177,13 +177,13 @@ module _ (s : Links) (x : ℕ) where
 
   pub rootless : {xp : ℕ} {l : List ℕ}
       → x ≢ null → x ≢ s .root → xp ≡ read s x parent → xp ≡ null → l ≡ write (s .cells) x state (code black)
-      → done (links l x) ≡ deletionTurn s x
+      → done (lentLinks l x (s .sizes)) ≡ deletionTurn s x
   unfolding deletionTurn
   rootless n m e1 h e2 = rw (pick-ne _ _ n, pick-ne _ _ m, ← e1, pick-eq _ _ h, ← e2)
 
   pub red-slot : {xp : ℕ} {b : Bool} {l : List ℕ}
       → x ≢ null → x ≢ s .root → xp ≡ read s x parent → xp ≢ null → b ≡ isRed s x → b ≡ true → l ≡ write (s .cells) x state (code black)
-      → done (links l (s .root)) ≡ deletionTurn s x
+      → done (lentLinks l (s .root) (s .sizes)) ≡ deletionTurn s x
   unfolding deletionTurn
   red-slot n m e1 h e2 t e3 = rw (pick-ne _ _ n, pick-ne _ _ m, ← e1, pick-ne _ _ h, ← e2, t, ← e3)
 

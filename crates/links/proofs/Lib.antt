@@ -1,3 +1,4 @@
+pub mod Sizing
 pub mod Rotating
 pub mod Balancing
 pub mod OneBalance

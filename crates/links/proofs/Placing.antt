@@ -5,10 +5,11 @@ use mathlib.Core.Logic.{_≢_}
 use Prim.Native.Nat.{ℕ}
 use Rattle.slots.specs.Words.{null, parent, left, right, write}
 use Rattle.slots.proofs.Laws.{pick-eq, pick-ne}
-use Rattle.redblack.specs.Links.{Links}
+use Rattle.redblack.specs.Links.{Links, lentLinks}
+use Rattle.redblack.specs.Climbing.{weighedIn}
 use Rattle.redblack.specs.Insertion.{balancedInsertion}
 use Rattle.redblack.specs.Hanging.{Spot, spot, sideFor, descended, hooked, inserted, spotted}
-use Rattle.links.specs.Spots.{links, spotOf}
+use Rattle.links.specs.Spots.{spotOf}
 use Rattle.links.specs.declared.place.Spot as code
 use Rattle.links.proofs.Walks.{Walk}
 
@@ -31,15 +32,16 @@ module _ (steps : ℕ) (names : List ℕ) (s : Links) (hash key : ℕ) where
 module _ (l : List ℕ) (x above side : ℕ) where
   pub hook : {l1 l2 l3 l4 : List ℕ}
       → l1 ≡ write l x parent above → l2 ≡ write l1 x left null → l3 ≡ write l2 x right null → l4 ≡ write l3 above side x
-      → (root : ℕ) → links l4 root ≡ hooked (links l root) x (spot above side)
+      → (root : ℕ) (sizes : List ℕ) → lentLinks l4 root sizes ≡ hooked (lentLinks l root sizes) x (spot above side)
   unfolding hooked
-  hook e1 e2 e3 e4 root = rw (← e1, ← e2, ← e3, ← e4)
+  hook e1 e2 e3 e4 root sizes = rw (← e1, ← e2, ← e3, ← e4)
 
 module _ (budget : ℕ) (names : List ℕ) (s : Links) (x hash key : ℕ) where
-  pub hang : {at : code.Spot} {l : List ℕ} {w : Links}
-      → spotOf at ≡ spotted budget names s hash key
-      → ((root : ℕ) → links l root ≡ hooked (links (s .cells) root) x (spotOf at))
-      → w ≡ balancedInsertion budget (links l (s .root)) x
+  pub hang : {at : code.Spot} {l z : List ℕ} {w : Links}
+      → ((sizes : List ℕ) → spotOf at ≡ spotted budget names (lentLinks (s .cells) (s .root) sizes) hash key)
+      → ((root : ℕ) (sizes : List ℕ) → lentLinks l root sizes ≡ hooked (lentLinks (s .cells) root sizes) x (spotOf at))
+      → ((root : ℕ) → lentLinks l root z ≡ weighedIn budget (lentLinks l root (s .sizes)) x)
+      → w ≡ balancedInsertion budget (lentLinks l (s .root) z) x
       → w ≡ inserted budget s x (spotted budget names s hash key)
   unfolding inserted
-  hang e1 e2 e3 = rw (← e1, ← e2 (s .root)) e3
+  hang e1 e2 e3 e4 = rw (← e1 (s .sizes), ← e2 (s .root) (s .sizes), ← e3 (s .root)) e4

@@ -1,6 +1,5 @@
 -- The values of the code as the models have them, and the steps of a removal that the models say in place.
 use mathlib.Core.Bool.{Bool}
-use mathlib.Core.List.{List}
 use Prim.Native.Nat.{ℕ}
 use lib.Dec.{eqb}
 use Rattle.slots.specs.Words.{pick, left, right, black}
@@ -8,10 +7,6 @@ use Rattle.redblack.specs.Links.{Links, read, stored, painted}
 use Rattle.redblack.specs.Hanging as hanging
 use Rattle.redblack.specs.Deletion.{balancedDeletion}
 use Rattle.links.specs.declared.place.Spot.{Spot}
-
--- The links of a tree with these cells and this root.
-abbrev pub links : List ℕ → ℕ → Links
-links l t = record { cells = l; root = t }
 
 -- A spot of the code, as the models have it.
 abbrev pub spotOf : Spot → hanging.Spot

@@ -33,33 +33,62 @@ fn paint(cells: &mut [u32], i: u32, colour: u32)
 }
 
 // The parent is painted black, the grandparent red, and the grandparent goes down on the far side.
-fn raise(cells: &mut [u32], root: u32, xp: u32, xpp: u32, near: u32, far: u32) -> u32
-    ensures { λ top. ⌜ lentLinks (now (cells .exit)) top ≡ raised near far (lentLinks (now (cells .entry)) root) xp xpp ⌝ }
+fn raise(
+    cells: &mut [u32],
+    sizes: &mut [u32],
+    root: u32,
+    xp: u32,
+    xpp: u32,
+    near: u32,
+    far: u32,
+) -> u32
+    ensures { λ top. ⌜ lentLinks (now (cells .exit)) top (now (sizes .exit))
+        ≡ raised near far (lentLinks (now (cells .entry)) root (now (sizes .entry))) xp xpp ⌝ }
 {
     paint(cells, xp, BLACK);
     paint(cells, xpp, RED);
-    rotate(cells, root, xpp, far, near)
+    rotate(cells, sizes, root, xpp, far, near)
 }
 
 // The uncle is not red. Where x stands on the inner side its parent goes down first, and takes x's part.
-fn straighten(cells: &mut [u32], root: u32, x: u32, xp: u32, xpp: u32, near: u32, far: u32) -> Step
-    ensures { λ r. ⌜ turnOf r (now (cells .exit)) ≡ straightened near far (lentLinks (now (cells .entry)) root) x xp xpp ⌝ }
+fn straighten(
+    cells: &mut [u32],
+    sizes: &mut [u32],
+    root: u32,
+    x: u32,
+    xp: u32,
+    xpp: u32,
+    near: u32,
+    far: u32,
+) -> Step
+    ensures { λ r. ⌜ turnOf r (now (cells .exit)) (now (sizes .exit))
+        ≡ straightened near far (lentLinks (now (cells .entry)) root (now (sizes .entry))) x xp xpp ⌝ }
 {
     if x == get(cells, xp, far) {
-        let low = rotate(cells, root, xp, near, far);
+        let low = rotate(cells, sizes, root, xp, near, far);
         let q = get(cells, xp, PARENT);
         let qp = get(cells, q, PARENT);
-        let top = raise(cells, low, q, qp, near, far);
+        let top = raise(cells, sizes, low, q, qp, near, far);
         return Step::More(top, xp);
     }
-    let top = raise(cells, root, xp, xpp, near, far);
+    let top = raise(cells, sizes, root, xp, xpp, near, far);
     Step::More(top, x)
 }
 
 // The parent stands on the near side of the grandparent. With a red uncle both are painted black, and the loop goes on
 // from the grandparent.
-fn lift(cells: &mut [u32], root: u32, x: u32, xp: u32, xpp: u32, near: u32, far: u32) -> Step
-    ensures { λ r. ⌜ turnOf r (now (cells .exit)) ≡ lifted near far (lentLinks (now (cells .entry)) root) x xp xpp ⌝ }
+fn lift(
+    cells: &mut [u32],
+    sizes: &mut [u32],
+    root: u32,
+    x: u32,
+    xp: u32,
+    xpp: u32,
+    near: u32,
+    far: u32,
+) -> Step
+    ensures { λ r. ⌜ turnOf r (now (cells .exit)) (now (sizes .exit))
+        ≡ lifted near far (lentLinks (now (cells .entry)) root (now (sizes .entry))) x xp xpp ⌝ }
 {
     let uncle = get(cells, xpp, far);
     if is_red(cells, uncle) {
@@ -68,13 +97,14 @@ fn lift(cells: &mut [u32], root: u32, x: u32, xp: u32, xpp: u32, near: u32, far:
         paint(cells, xpp, RED);
         return Step::More(root, xpp);
     }
-    straighten(cells, root, x, xp, xpp, near, far)
+    straighten(cells, sizes, root, x, xp, xpp, near, far)
 }
 
 // One turn of balance_insertion: x with no parent is the root and is painted black; a parent that is not red, or is the
 // root, ends the loop.
-fn insertion_turn(cells: &mut [u32], root: u32, x: u32) -> Step
-    ensures { λ r. ⌜ turnOf r (now (cells .exit)) ≡ insertionTurn (lentLinks (now (cells .entry)) root) x ⌝ }
+fn insertion_turn(cells: &mut [u32], sizes: &mut [u32], root: u32, x: u32) -> Step
+    ensures { λ r. ⌜ turnOf r (now (cells .exit)) (now (sizes .exit))
+        ≡ insertionTurn (lentLinks (now (cells .entry)) root (now (sizes .entry))) x ⌝ }
 {
     let xp = get(cells, x, PARENT);
     if xp == NULL {
@@ -89,20 +119,21 @@ fn insertion_turn(cells: &mut [u32], root: u32, x: u32) -> Step
         return Step::Done(root);
     }
     if get(cells, xpp, LEFT) == xp {
-        return lift(cells, root, x, xp, xpp, LEFT, RIGHT);
+        return lift(cells, sizes, root, x, xp, xpp, LEFT, RIGHT);
     }
-    lift(cells, root, x, xp, xpp, RIGHT, LEFT)
+    lift(cells, sizes, root, x, xp, xpp, RIGHT, LEFT)
 }
 
 // The loop of balance_insertion, at most budget turns of it. Returns the root.
-fn insertion_turns(cells: &mut [u32], root: u32, x: u32, budget: u32) -> u32
-    ensures { λ top. ⌜ lentLinks (now (cells .exit)) top ≡ insertionTurns budget (lentLinks (now (cells .entry)) root) x ⌝ }
+fn insertion_turns(cells: &mut [u32], sizes: &mut [u32], root: u32, x: u32, budget: u32) -> u32
+    ensures { λ top. ⌜ lentLinks (now (cells .exit)) top (now (sizes .exit))
+        ≡ insertionTurns budget (lentLinks (now (cells .entry)) root (now (sizes .entry))) x ⌝ }
 {
     let mut top = root;
     let mut at = x;
     let mut turns = budget;
     while 0 < turns {
-        let step = insertion_turn(cells, top, at);
+        let step = insertion_turn(cells, sizes, top, at);
         match step {
             Step::Done(last) => return last,
             Step::More(next, y) => {
@@ -116,77 +147,114 @@ fn insertion_turns(cells: &mut [u32], root: u32, x: u32, budget: u32) -> u32
 }
 
 // The new slot x is painted red, then the loop runs. Returns the root.
-pub(crate) fn balance_insertion(cells: &mut [u32], root: u32, x: u32, budget: u32) -> u32
-    ensures { λ top. ⌜ lentLinks (now (cells .exit)) top ≡ balancedInsertion budget (lentLinks (now (cells .entry)) root) x ⌝ }
+pub(crate) fn balance_insertion(
+    cells: &mut [u32],
+    sizes: &mut [u32],
+    root: u32,
+    x: u32,
+    budget: u32,
+) -> u32
+    ensures { λ top. ⌜ lentLinks (now (cells .exit)) top (now (sizes .exit))
+        ≡ balancedInsertion budget (lentLinks (now (cells .entry)) root (now (sizes .entry))) x ⌝ }
 {
     paint(cells, x, RED);
-    insertion_turns(cells, root, x, budget)
+    insertion_turns(cells, sizes, root, x, budget)
 }
 
 // The outer nephew is red: the sibling takes the parent's colour, its outer child and the parent turn black, and the
 // parent goes down. The loop goes on from the root, where it ends.
-fn settle(cells: &mut [u32], root: u32, xp: u32, y: u32, near: u32, far: u32) -> Step
-    ensures { λ r. ⌜ turnOf r (now (cells .exit)) ≡ settled near far (lentLinks (now (cells .entry)) root) xp y ⌝ }
+fn settle(
+    cells: &mut [u32],
+    sizes: &mut [u32],
+    root: u32,
+    xp: u32,
+    y: u32,
+    near: u32,
+    far: u32,
+) -> Step
+    ensures { λ r. ⌜ turnOf r (now (cells .exit)) (now (sizes .exit))
+        ≡ settled near far (lentLinks (now (cells .entry)) root (now (sizes .entry))) xp y ⌝ }
 {
     let hue = colour(cells, xp);
     paint(cells, y, hue);
     let outer = get(cells, y, far);
     paint(cells, outer, BLACK);
     paint(cells, xp, BLACK);
-    let top = rotate(cells, root, xp, near, far);
+    let top = rotate(cells, sizes, root, xp, near, far);
     Step::More(top, top)
 }
 
 // The inner nephew is red and the outer is not: the inner one turns black, the sibling red, and the sibling goes down on
 // the far side.
-fn tuck(cells: &mut [u32], root: u32, y: u32, near: u32, far: u32) -> u32
-    ensures { λ top. ⌜ lentLinks (now (cells .exit)) top ≡ tucked near far (lentLinks (now (cells .entry)) root) y ⌝ }
+fn tuck(cells: &mut [u32], sizes: &mut [u32], root: u32, y: u32, near: u32, far: u32) -> u32
+    ensures { λ top. ⌜ lentLinks (now (cells .exit)) top (now (sizes .exit))
+        ≡ tucked near far (lentLinks (now (cells .entry)) root (now (sizes .entry))) y ⌝ }
 {
     let inner = get(cells, y, near);
     paint(cells, inner, BLACK);
     paint(cells, y, RED);
-    rotate(cells, root, y, far, near)
+    rotate(cells, sizes, root, y, far, near)
 }
 
 // The sibling y is not red. With no red nephew it turns red, and the loop goes on from the parent.
-fn ease(cells: &mut [u32], root: u32, x: u32, xp: u32, y: u32, near: u32, far: u32) -> Step
-    ensures { λ r. ⌜ turnOf r (now (cells .exit)) ≡ eased near far (lentLinks (now (cells .entry)) root) x xp y ⌝ }
+fn ease(
+    cells: &mut [u32],
+    sizes: &mut [u32],
+    root: u32,
+    x: u32,
+    xp: u32,
+    y: u32,
+    near: u32,
+    far: u32,
+) -> Step
+    ensures { λ r. ⌜ turnOf r (now (cells .exit)) (now (sizes .exit))
+        ≡ eased near far (lentLinks (now (cells .entry)) root (now (sizes .entry))) x xp y ⌝ }
 {
     let outer = get(cells, y, far);
     if is_red(cells, outer) {
-        return settle(cells, root, xp, y, near, far);
+        return settle(cells, sizes, root, xp, y, near, far);
     }
     let inner = get(cells, y, near);
     if is_red(cells, inner) {
-        let low = tuck(cells, root, y, near, far);
+        let low = tuck(cells, sizes, root, y, near, far);
         let q = get(cells, x, PARENT);
         let z = get(cells, q, far);
-        return settle(cells, low, q, z, near, far);
+        return settle(cells, sizes, low, q, z, near, far);
     }
     paint(cells, y, RED);
     Step::More(root, xp)
 }
 
 // A red sibling turns black, the parent red, and the parent goes down first.
-fn sink(cells: &mut [u32], root: u32, x: u32, xp: u32, near: u32, far: u32) -> Step
-    ensures { λ r. ⌜ turnOf r (now (cells .exit)) ≡ sunk near far (lentLinks (now (cells .entry)) root) x xp ⌝ }
+fn sink(
+    cells: &mut [u32],
+    sizes: &mut [u32],
+    root: u32,
+    x: u32,
+    xp: u32,
+    near: u32,
+    far: u32,
+) -> Step
+    ensures { λ r. ⌜ turnOf r (now (cells .exit)) (now (sizes .exit))
+        ≡ sunk near far (lentLinks (now (cells .entry)) root (now (sizes .entry))) x xp ⌝ }
 {
     let y = get(cells, xp, far);
     if is_red(cells, y) {
         paint(cells, y, BLACK);
         paint(cells, xp, RED);
-        let low = rotate(cells, root, xp, near, far);
+        let low = rotate(cells, sizes, root, xp, near, far);
         let q = get(cells, x, PARENT);
         let z = get(cells, q, far);
-        return ease(cells, low, x, q, z, near, far);
+        return ease(cells, sizes, low, x, q, z, near, far);
     }
-    ease(cells, root, x, xp, y, near, far)
+    ease(cells, sizes, root, x, xp, y, near, far)
 }
 
 // One turn of balance_deletion: it ends at null and at the root, before it looks at the colour; x with no parent is the
 // root and is painted black; a red x is painted black.
-fn deletion_turn(cells: &mut [u32], root: u32, x: u32) -> Step
-    ensures { λ r. ⌜ turnOf r (now (cells .exit)) ≡ deletionTurn (lentLinks (now (cells .entry)) root) x ⌝ }
+fn deletion_turn(cells: &mut [u32], sizes: &mut [u32], root: u32, x: u32) -> Step
+    ensures { λ r. ⌜ turnOf r (now (cells .exit)) (now (sizes .exit))
+        ≡ deletionTurn (lentLinks (now (cells .entry)) root (now (sizes .entry))) x ⌝ }
 {
     if x == NULL {
         return Step::Done(root);
@@ -204,20 +272,27 @@ fn deletion_turn(cells: &mut [u32], root: u32, x: u32) -> Step
         return Step::Done(root);
     }
     if get(cells, xp, LEFT) == x {
-        return sink(cells, root, x, xp, LEFT, RIGHT);
+        return sink(cells, sizes, root, x, xp, LEFT, RIGHT);
     }
-    sink(cells, root, x, xp, RIGHT, LEFT)
+    sink(cells, sizes, root, x, xp, RIGHT, LEFT)
 }
 
 // From x on, the loop runs for at most budget turns. Returns the root.
-pub(crate) fn balance_deletion(cells: &mut [u32], root: u32, x: u32, budget: u32) -> u32
-    ensures { λ top. ⌜ lentLinks (now (cells .exit)) top ≡ balancedDeletion budget (lentLinks (now (cells .entry)) root) x ⌝ }
+pub(crate) fn balance_deletion(
+    cells: &mut [u32],
+    sizes: &mut [u32],
+    root: u32,
+    x: u32,
+    budget: u32,
+) -> u32
+    ensures { λ top. ⌜ lentLinks (now (cells .exit)) top (now (sizes .exit))
+        ≡ balancedDeletion budget (lentLinks (now (cells .entry)) root (now (sizes .entry))) x ⌝ }
 {
     let mut top = root;
     let mut at = x;
     let mut turns = budget;
     while 0 < turns {
-        let step = deletion_turn(cells, top, at);
+        let step = deletion_turn(cells, sizes, top, at);
         match step {
             Step::Done(last) => return last,
             Step::More(next, y) => {

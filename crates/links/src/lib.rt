@@ -1,7 +1,8 @@
-// One tree's links, written: how a slot is hung and how it leaves, each with the source's balancing. Rotations and balancing are private,
-// as in the source.
+// One tree's links, written: how a slot is hung and how it leaves, each with the source's balancing, and the sizes beside them. Rotations
+// and balancing are private, as in the source.
 mod balance;
 pub mod hang;
 mod place;
 mod rotate;
+mod sizes;
 pub mod unlink;

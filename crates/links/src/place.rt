@@ -8,6 +8,8 @@ use slots::comes_before;
 use slots::get;
 use slots::name;
 ghost use mathlib.Core.Path.{_≡_};
+ghost use mathlib.Core.List.{List};
+ghost use Prim.Native.Nat.{ℕ};
 ghost use Rattle.redblack.specs.Hanging.{sideFor, descended, spotted};
 ghost use Rattle.links.specs.Spots.{spotOf};
 ghost use Rattle.redblack.specs.Links.{lentLinks};
@@ -65,7 +67,8 @@ pub(crate) fn place(
     key: u64,
     steps: u32,
 ) -> Spot
-    ensures { λ r. ⌜ spotOf r ≡ spotted steps (now (names .entry)) (lentLinks (now (cells .entry)) root) hash key ⌝ }
+    ensures { λ r. ⌜ ((sizes : List ℕ) → spotOf r
+        ≡ spotted steps (now (names .entry)) (lentLinks (now (cells .entry)) root sizes) hash key) ⌝ }
 {
     if root == NULL {
         return Spot {

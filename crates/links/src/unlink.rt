@@ -1,5 +1,8 @@
 // A slot leaves the tree, and the tree is balanced.
 use crate::balance::balance_deletion;
+use crate::sizes::ONE_LESS;
+use crate::sizes::exchange;
+use crate::sizes::weigh;
 use slots::BLACK;
 use slots::LEFT;
 use slots::NULL;
@@ -11,14 +14,17 @@ use slots::get;
 use slots::is_red;
 use slots::put;
 ghost use mathlib.Core.Path.{_≡_};
+ghost use mathlib.Core.List.{List};
 ghost use Prim.Native.Nat.{ℕ};
 ghost use Rattle.redblack.specs.Removal.{replaced, lowered, traded, replacement, spliced, detached, dropped, leftmost, removed};
 ghost use Rattle.links.specs.Spots.{relinked, rebalanced, blackened};
 ghost use Rattle.redblack.specs.Links.{lentLinks};
 
-// q's link to p leads to x: the left one where p stands on the left, else the right one. The root, whatever it is, stays.
+// q's link to p leads to x: the left one where p stands on the left, else the right one. The root and the sizes,
+// whatever they are, stay.
 fn relink(cells: &mut [u32], q: u32, p: u32, x: u32)
-    ensures { λ _. ⌜ ((root : ℕ) → lentLinks (now (cells .exit)) root ≡ relinked (lentLinks (now (cells .entry)) root) q p x) ⌝ }
+    ensures { λ _. ⌜ ((root : ℕ) (sizes : List ℕ) → lentLinks (now (cells .exit)) root sizes
+        ≡ relinked (lentLinks (now (cells .entry)) root sizes) q p x) ⌝ }
 {
     if get(cells, q, LEFT) == p {
         put(cells, q, LEFT, x);
@@ -27,9 +33,10 @@ fn relink(cells: &mut [u32], q: u32, p: u32, x: u32)
     }
 }
 
-// q's child p is replaced by x; with no q, x is the root. Returns the root.
+// q's child p is replaced by x; with no q, x is the root. The sizes, whatever they are, stay. Returns the root.
 fn replace(cells: &mut [u32], root: u32, q: u32, p: u32, x: u32) -> u32
-    ensures { λ top. ⌜ lentLinks (now (cells .exit)) top ≡ replaced (lentLinks (now (cells .entry)) root) q p x ⌝ }
+    ensures { λ top. ⌜ ((sizes : List ℕ) → lentLinks (now (cells .exit)) top sizes
+        ≡ replaced (lentLinks (now (cells .entry)) root sizes) q p x) ⌝ }
 {
     if q == NULL {
         return x;
@@ -39,9 +46,10 @@ fn replace(cells: &mut [u32], root: u32, q: u32, p: u32, x: u32) -> u32
 }
 
 // p goes where its successor t stands: under t where t is its right child pr, else under t's parent tp, and t takes the
-// right child. The root, whatever it is, stays.
+// right child. The root and the sizes, whatever they are, stay.
 fn lower(cells: &mut [u32], p: u32, t: u32, pr: u32, tp: u32)
-    ensures { λ _. ⌜ ((root : ℕ) → lentLinks (now (cells .exit)) root ≡ lowered (lentLinks (now (cells .entry)) root) p t pr tp) ⌝ }
+    ensures { λ _. ⌜ ((root : ℕ) (sizes : List ℕ) → lentLinks (now (cells .exit)) root sizes
+        ≡ lowered (lentLinks (now (cells .entry)) root sizes) p t pr tp) ⌝ }
 {
     if t == pr {
         put(cells, p, PARENT, t);
@@ -54,10 +62,11 @@ fn lower(cells: &mut [u32], p: u32, t: u32, pr: u32, tp: u32)
     put(cells, pr, PARENT, t);
 }
 
-// With two children, successor and slot trade positions and colours. t is the successor; what is read is read before a
-// link changes. Returns the root.
-fn trade(cells: &mut [u32], root: u32, p: u32, t: u32) -> u32
-    ensures { λ top. ⌜ lentLinks (now (cells .exit)) top ≡ traded (lentLinks (now (cells .entry)) root) p t ⌝ }
+// With two children, successor and slot trade positions and colours, and last their sizes. t is the successor; what is
+// read is read before a link changes. Returns the root.
+fn trade(cells: &mut [u32], sizes: &mut [u32], root: u32, p: u32, t: u32) -> u32
+    ensures { λ top. ⌜ lentLinks (now (cells .exit)) top (now (sizes .exit))
+        ≡ traded (lentLinks (now (cells .entry)) root (now (sizes .entry))) p t ⌝ }
 {
     let high = colour(cells, p);
     let low = colour(cells, t);
@@ -75,12 +84,14 @@ fn trade(cells: &mut [u32], root: u32, p: u32, t: u32) -> u32
     put(cells, t, LEFT, pl);
     put(cells, pl, PARENT, t);
     put(cells, t, PARENT, pp);
-    replace(cells, root, pp, p, t)
+    let top = replace(cells, root, pp, p, t);
+    exchange(sizes, p, t);
+    top
 }
 
 // The one child takes the slot's position, or the slot stands as its own replacement.
 fn replacement(cells: &[u32], p: u32) -> u32
-    ensures { λ r. ⌜ ((root : ℕ) → r ≡ replacement (lentLinks (now (cells .entry)) root) p) ⌝ }
+    ensures { λ r. ⌜ ((root : ℕ) (sizes : List ℕ) → r ≡ replacement (lentLinks (now (cells .entry)) root sizes) p) ⌝ }
 {
     let low = get(cells, p, LEFT);
     if low == NULL {
@@ -93,9 +104,11 @@ fn replacement(cells: &[u32], p: u32) -> u32
     low
 }
 
-// The replacement x takes the position of p, and p keeps no link to the tree. Returns the root.
+// The replacement x takes the position of p, and p keeps no link to the tree. The sizes, whatever they are, stay. Returns
+// the root.
 fn splice(cells: &mut [u32], root: u32, p: u32, x: u32) -> u32
-    ensures { λ top. ⌜ lentLinks (now (cells .exit)) top ≡ spliced (lentLinks (now (cells .entry)) root) p x ⌝ }
+    ensures { λ top. ⌜ ((sizes : List ℕ) → lentLinks (now (cells .exit)) top sizes
+        ≡ spliced (lentLinks (now (cells .entry)) root sizes) p x) ⌝ }
 {
     let pp = get(cells, p, PARENT);
     put(cells, x, PARENT, pp);
@@ -106,9 +119,11 @@ fn splice(cells: &mut [u32], root: u32, p: u32, x: u32) -> u32
     top
 }
 
-// The slot that stood as its own replacement leaves its parent; with none, the tree is empty. Returns the root.
+// The slot that stood as its own replacement leaves its parent; with none, the tree is empty. The sizes, whatever they
+// are, stay. Returns the root.
 fn detach(cells: &mut [u32], root: u32, p: u32) -> u32
-    ensures { λ top. ⌜ lentLinks (now (cells .exit)) top ≡ detached (lentLinks (now (cells .entry)) root) p ⌝ }
+    ensures { λ top. ⌜ ((sizes : List ℕ) → lentLinks (now (cells .exit)) top sizes
+        ≡ detached (lentLinks (now (cells .entry)) root sizes) p) ⌝ }
 {
     let pp = get(cells, p, PARENT);
     let top = replace(cells, root, pp, p, NULL);
@@ -118,18 +133,27 @@ fn detach(cells: &mut [u32], root: u32, p: u32) -> u32
 
 // If the removed slot is now black, balance_deletion starts at the replacement x. Where it is red, as redness says,
 // nothing is to be done. Returns the root.
-fn rebalance(cells: &mut [u32], root: u32, x: u32, redness: bool, budget: u32) -> u32
-    ensures { λ top. ⌜ lentLinks (now (cells .exit)) top ≡ rebalanced budget (lentLinks (now (cells .entry)) root) x redness ⌝ }
+fn rebalance(
+    cells: &mut [u32],
+    sizes: &mut [u32],
+    root: u32,
+    x: u32,
+    redness: bool,
+    budget: u32,
+) -> u32
+    ensures { λ top. ⌜ lentLinks (now (cells .exit)) top (now (sizes .exit))
+        ≡ rebalanced budget (lentLinks (now (cells .entry)) root (now (sizes .entry))) x redness ⌝ }
 {
     if redness {
         return root;
     }
-    balance_deletion(cells, root, x, budget)
+    balance_deletion(cells, sizes, root, x, budget)
 }
 
-// A replacement that became the root is painted black.
+// A replacement that became the root is painted black. The sizes, whatever they are, stay.
 fn blacken(cells: &mut [u32], root: u32, x: u32)
-    ensures { λ _. ⌜ lentLinks (now (cells .exit)) root ≡ blackened (lentLinks (now (cells .entry)) root) x ⌝ }
+    ensures { λ _. ⌜ ((sizes : List ℕ) → lentLinks (now (cells .exit)) root sizes
+        ≡ blackened (lentLinks (now (cells .entry)) root sizes) x) ⌝ }
 {
     if root == x {
         put(cells, x, STATE, BLACK);
@@ -137,27 +161,30 @@ fn blacken(cells: &mut [u32], root: u32, x: u32)
 }
 
 // p, with at most one child, goes: its replacement takes its position, the tree is balanced, and a slot that stood as
-// its own replacement is detached. Returns the root.
-fn drop_slot(cells: &mut [u32], root: u32, p: u32, budget: u32) -> u32
-    ensures { λ top. ⌜ lentLinks (now (cells .exit)) top ≡ dropped budget (lentLinks (now (cells .entry)) root) p ⌝ }
+// its own replacement is detached. Where p leaves the links it leaves the sizes above it. Returns the root.
+fn drop_slot(cells: &mut [u32], sizes: &mut [u32], root: u32, p: u32, budget: u32) -> u32
+    ensures { λ top. ⌜ lentLinks (now (cells .exit)) top (now (sizes .exit))
+        ≡ dropped budget (lentLinks (now (cells .entry)) root (now (sizes .entry))) p ⌝ }
 {
     let x = replacement(cells, p);
     let red = is_red(cells, p);
     if x == p {
-        let low = rebalance(cells, root, x, red, budget);
+        let low = rebalance(cells, sizes, root, x, red, budget);
+        weigh(cells, sizes, p, 0, ONE_LESS, budget);
         let top = detach(cells, low, p);
         blacken(cells, top, x);
         return top;
     }
+    weigh(cells, sizes, p, 0, ONE_LESS, budget);
     let low = splice(cells, root, p, x);
-    let top = rebalance(cells, low, x, red, budget);
+    let top = rebalance(cells, sizes, low, x, red, budget);
     blacken(cells, top, x);
     top
 }
 
 // The leftmost slot from q down, at most so many steps.
 fn leftmost(cells: &[u32], q: u32, budget: u32) -> u32
-    ensures { λ r. ⌜ ((root : ℕ) → r ≡ leftmost budget (lentLinks (now (cells .entry)) root) q) ⌝ }
+    ensures { λ r. ⌜ ((root : ℕ) (sizes : List ℕ) → r ≡ leftmost budget (lentLinks (now (cells .entry)) root sizes) q) ⌝ }
 {
     let mut at = q;
     let mut rest = budget;
@@ -173,17 +200,18 @@ fn leftmost(cells: &[u32], q: u32, budget: u32) -> u32
 }
 
 // The slot p leaves the tree, after it traded with its successor where it has two children. Returns the root.
-pub fn unlink_slot(cells: &mut [u32], root: u32, p: u32, budget: u32) -> u32
-    ensures { λ top. ⌜ lentLinks (now (cells .exit)) top ≡ removed budget (lentLinks (now (cells .entry)) root) p ⌝ }
+pub fn unlink_slot(cells: &mut [u32], sizes: &mut [u32], root: u32, p: u32, budget: u32) -> u32
+    ensures { λ top. ⌜ lentLinks (now (cells .exit)) top (now (sizes .exit))
+        ≡ removed budget (lentLinks (now (cells .entry)) root (now (sizes .entry))) p ⌝ }
 {
     if get(cells, p, LEFT) == NULL {
-        return drop_slot(cells, root, p, budget);
+        return drop_slot(cells, sizes, root, p, budget);
     }
     let pr = get(cells, p, RIGHT);
     if pr == NULL {
-        return drop_slot(cells, root, p, budget);
+        return drop_slot(cells, sizes, root, p, budget);
     }
     let t = leftmost(cells, pr, budget);
-    let low = trade(cells, root, p, t);
-    drop_slot(cells, low, p, budget)
+    let low = trade(cells, sizes, root, p, t);
+    drop_slot(cells, sizes, low, p, budget)
 }

@@ -18,7 +18,7 @@ use Rattle.redblack.specs.Sided.{Sided, Way, fork, plug, slots, Site, ho
 use Rattle.redblack.specs.Balance.{Mended, crown, void}
 use Rattle.redblack.specs.Kept.{Aside}
 use Rattle.redblack.specs.Holding.{Holds, plain}
-use Rattle.redblack.specs.Claims.{PlainWords, Rotates, BalancesInsertion, BalancesDeletion, RemovesSlot, HangsSlot, Traps, Claims, spun}
+use Rattle.redblack.specs.Claims.{PlainWords, Rotates, BalancesInsertion, BalancesDeletion, RemovesSlot, HangsSlot, KeepsSizes, Traps, Claims, spun}
 use Rattle.redblack.proofs.Ends.{Outcome, on}
 use Rattle.redblack.proofs.Frames.{cell-of, whole}
 use Rattle.redblack.proofs.Order.{slots-plug, around-spin}
@@ -29,6 +29,7 @@ use Rattle.redblack.proofs.Trade.{dive}
 use Rattle.redblack.proofs.Bridge.{sided, plain-sided, plain-slots, plain-count, site-holds, holds-site, sound-plain, plain-sound, plain-height, height-plain, plain-wants, wants-plain, plain-outcome}
 use Rattle.redblack.proofs.Placing.{depth-cap, placed-link}
 use Rattle.redblack.proofs.Plain.{hung-balanced, slot-removed, removed-spares, slot-hung, hung-spares}
+use Rattle.redblack.proofs.Sizes.{rotation-tree, insertion-tree, deletion-tree, removal-tree, hanging-tree}
 use Rattle.redblack.proofs.Kept.{read-write, rotated-keeps, insertion-keeps, deletion-keeps, removed-keeps, inserted-keeps, place-aside, prev-aside, next-aside}
 use Rattle.redblack.proofs.Outside.{rotation-spares, insertion-spares, deletion-spares}
 
@@ -139,6 +140,17 @@ hanging-claims n budget names s t x hash key =
       keeps = λ f a. inserted-keeps a budget s x _ (placed-link budget names s hash key);
     }
 
+-- The sizes.
+sizes-claims : (n budget : ℕ) (s : Links) (t : Tree) → KeepsSizes n budget s t
+sizes-claims n budget s t =
+    record {
+      rotation = λ h z σ p c u k. rotation-tree t σ p h z c u k;
+      insertion = λ x h z c u k. insertion-tree t budget x h z c u k;
+      deletion = λ x h z c u k. deletion-tree t budget x h z c u k;
+      removal = λ p h v z c l u k. removal-tree t budget p h v z c l u k;
+      hanging = λ names x hash key h v z up none w f l u k. hanging-tree t budget names x hash key h v z up none w f l u k;
+    }
+
 -- The traps: the tests that come before the colour.
 turn-no-grandparent : (s : Links) (x : ℕ) → read s x parent ≢ null → isRed s (read s x parent) ≡ true → read s (read s x parent) parent ≡ null → insertionTurn s x ≡ done s
 unfolding insertionTurn
@@ -181,5 +193,6 @@ claims =
       balances-deletion = deletion-claims;
       removes-slot = removal-claims;
       hangs-slot = hanging-claims;
+      keeps-sizes = sizes-claims;
       traps = trap-claims;
     }

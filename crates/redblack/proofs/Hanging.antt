@@ -14,10 +14,11 @@ use Rattle.redblack.specs.Sided.{Sided, Way, top, upper, plug, slots, hi
 use Rattle.redblack.specs.Balance.{RedBlack, void, dark}
 use Rattle.redblack.specs.Insertion.{insertionTurn, insertionTurns, balancedInsertion}
 use Rattle.redblack.specs.Hanging.{spot, hooked, inserted}
+use Rattle.redblack.specs.Climbing.{weighedIn}
 use Rattle.redblack.specs.Kept.{Agree}
 use Rattle.redblack.proofs.Ends.{Part, Outcome, blackPart}
 use Rattle.redblack.proofs.Reading.{reads, roomy-cap, recap}
-use Rattle.redblack.proofs.Frames.{hit-same, hit-ne, apart, way-cell, way-tree, way-on, tree-frame, way-frame}
+use Rattle.redblack.proofs.Frames.{hit-same, hit-ne, apart, way-cell, way-tree, way-on, tree-frame, way-frame, site-of}
 use Rattle.redblack.proofs.Depth.{depth}
 use Rattle.redblack.proofs.Parts.{part-of}
 use Rattle.redblack.proofs.Insertion.{insertion}
@@ -62,7 +63,7 @@ hooked-site {n} {s} {σ} {c} {xp} {b} {C} x wx fresh h =
 pub inserting-part : {n : ℕ} {s : Links} {σ : Side} {c : Colour} {xp : ℕ} {b : Sided} {C : Way} (m x : ℕ) → n ≤ m → x < n → countWay x (frame σ c xp b ∷ C) ≡ 0 → Part (frame σ c xp b ∷ C) bare
     → Site n s (frame σ c xp b ∷ C) bare → Outcome n (inserted m s x (spot xp (toward σ))) (slots (plug (frame σ c xp b ∷ C) (fork σ red bare x bare)))
 unfolding inserted
-inserting-part m x l wx fresh (blackPart w void) h = let v = hooked-site x wx fresh h in insertion m _ w v (omega (arith, depth v))
+inserting-part m x l wx fresh (blackPart w void) h = let v = hooked-site x wx fresh h in insertion m _ w (site-of _ refl refl v) (omega (arith, depth v))
 
 pub inserting : {n : ℕ} {s : Links} {σ : Side} {c : Colour} {xp k : ℕ} {b : Sided} {C : Way} (m x : ℕ) → n ≤ m → x < n → countWay x (frame σ c xp b ∷ C) ≡ 0 → RedBlack black k (plug (frame σ c xp b ∷ C) bare)
     → Site n s (frame σ c xp b ∷ C) bare → Outcome n (inserted m s x (spot xp (toward σ))) (slots (plug (frame σ c xp b ∷ C) (fork σ red bare x bare)))
@@ -74,12 +75,12 @@ unfolding insertionTurns insertionTurn
 turns-first zero s x l e = absurd (omega arith)
 turns-first (suc m) s x l e = rw (e, insertionTurns)
 
-pub planting : {n : ℕ} {s : Links} (m x f : ℕ) → ltb f fields ≡ true → n ≤ m → x < n → Cap n s → Outcome n (inserted m s x (spot null f)) (x ∷ [])
-unfolding inserted balancedInsertion hooked count countWay slots
-planting {n} {s} m x f lf l wx k =
+pub planted : {n : ℕ} {s : Links} (m x f : ℕ) → ltb f fields ≡ true → n ≤ m → x < n → Cap n s → Site n (inserted m s x (spot null f)) [] (fork leftward black bare x bare)
+unfolding inserted balancedInsertion hooked count countWay
+planted {n} {s} m x f lf l wx k =
     let hx : roomy fields (s .cells) x ≡ true = roomy-cap x k wx in
     let xn : x ≢ null = omega (arith, k .small) in
-    let s1 = painted (hooked s x (spot null f)) x red in
+    let s1 = painted (weighedIn m (hooked s x (spot null f)) x) x red in
     let t = rooted (painted s1 x black) x in
     let e : inserted m s x (spot null f) ≡ t = turns-first m s1 x (omega arith) (simp (reads, hx)) in
     let c : Cell n t null leftward black null x null = record { inside = wx; above = simp (reads, hx); this = simp (reads, hx); that = simp (reads, hx); hued = simp (reads, hx) } in
@@ -90,4 +91,8 @@ planting {n} {s} m x f lf l wx k =
       tree = some {a = bare} {b = bare} c none none;
       once = λ j. (let z = added (λ (i : ℕ). 0) x j refl (omega arith) in omega arith);
     } in
-    record { tree = fork leftward black bare x bare; height = 1; site = rw e v; sound = dark void void; same = refl }
+    rw e v
+
+pub planting : {n : ℕ} {s : Links} (m x f : ℕ) → ltb f fields ≡ true → n ≤ m → x < n → Cap n s → Outcome n (inserted m s x (spot null f)) (x ∷ [])
+unfolding slots
+planting m x f lf l wx k = record { tree = fork leftward black bare x bare; height = 1; site = planted m x f lf l wx k; sound = dark void void; same = refl }

@@ -9,17 +9,18 @@ use native.Mathlib.Decide.{ℕ-discrete, decLt}
 use lib.ListN.{length}
 use lib.Seq.{getD-set-same, getD-set-other, set-out}
 use lib.Dec.{eqb, ltb}
-use Rattle.slots.specs.Words.{pick, null, place, state, parent, left, right, prev, next, Colour, code, fields, cell, write, black, red, leftward, rightward}
+use Rattle.slots.specs.Words.{pick, null, place, state, parent, left, right, prev, next, Colour, code, fields, cell, write, black, leftward, rightward}
 use Rattle.slots.proofs.Laws.{cell-across, length-write, toward-small}
-use Rattle.redblack.specs.Links.{Links, read, stored, rooted, painted, isRed, colourOf, Turn, done, more}
+use Rattle.redblack.specs.Links.{Links, read, stored, rooted, painted, resized, isRed, colourOf}
 use Rattle.redblack.specs.Rotate.{hung, turned, rotated}
-use Rattle.redblack.specs.Insertion.{raised, straightened, lifted, insertionTurn, insertionTurns, balancedInsertion}
+use Rattle.redblack.specs.Insertion.{insertionTurns, balancedInsertion}
 use Rattle.redblack.specs.Hanging.{Spot, hooked, inserted}
-use Rattle.redblack.specs.Deletion.{capped, settled, tucked, eased, sunk, deletionTurn, balancedDeletion}
+use Rattle.redblack.specs.Deletion.{balancedDeletion}
 use Rattle.redblack.specs.Removal.{replaced, lowered, traded, replacement, spliced, detached, dropped, leftmost, removed}
 use Rattle.redblack.specs.Kept.{Aside, Keeps}
 use Rattle.redblack.proofs.Ends.{Link, up, on}
 use Rattle.redblack.proofs.Reading.{state-side}
+use Rattle.redblack.proofs.Rounds.{Keeping, near-link, far-link, round-insertionTurns, round-insertion, round-deletion}
 
 -- A read after a write gives what was written, or what was there.
 pub read-write : (P : ℕ → Type 0) (l : List ℕ) (i g v k h : ℕ) → P v → P (cell l k h) → P (cell (write l i g v) k h)
@@ -60,11 +61,6 @@ pub record Held (P : ℕ → Type 0) (j f : ℕ) (o s : Links) : Type 0 where
   pub long : length (s .cells) ≡ length (o .cells)
   pub same : read s j f ≡ read o j f
 
--- So have the words that a turn leaves, and the next slot is of P.
-data HeldTurn (P : ℕ → Type 0) (j f : ℕ) (o : Links) : Turn → Type 0 where
-  ended : {t : Links} → Held P j f o t → HeldTurn P j f o (done t)
-  going : {t : Links} {y : ℕ} → Held P j f o t → P y → HeldTurn P j f o (more t y)
-
 module _ {P : ℕ → Type 0} {j f : ℕ} {o : Links} (off : (l : List ℕ) (i g v : ℕ) → P i → Link g → cell (write l i g v) j f ≡ cell l j f) (pale : (l : List ℕ) (i v : ℕ) → P i → cell (write l i state v) j f ≡ cell l j f) where
   held-stored : {s : Links} (i g v : ℕ) → Link g → P i → P v → Held P j f o s → Held P j f o (stored s i g v)
   held-stored {s} i g v lg pi pv h =
@@ -79,6 +75,10 @@ module _ {P : ℕ → Type 0} {j f : ℕ} {o : Links} (off : (l : List ℕ) (i g
 
   held-rooted : {s : Links} (r : ℕ) → P r → Held P j f o s → Held P j f o (rooted s r)
   held-rooted {s} r pr h = record { closed = record { none = h .closed .none; root = pr; links = h .closed .links }; long = h .long; same = h .same }
+
+  -- Other sizes beside the same links.
+  held-resized : {s : Links} (l : List ℕ) → Held P j f o s → Held P j f o (resized s l)
+  held-resized l h = record { closed = record { none = h .closed .none; root = h .closed .root; links = h .closed .links }; long = h .long; same = h .same }
 
   held-pick : {s t : Links} (b : Bool) → Held P j f o s → Held P j f o t → Held P j f o (pick b s t)
   held-pick true h k = h
@@ -100,103 +100,29 @@ module _ {P : ℕ → Type 0} {j f : ℕ} {o : Links} (off : (l : List ℕ) (i g
       let q = read (stored (stored s p far inner) inner parent p) p parent in
       let pq : P q = h1 .closed .links p parent up pp in
       let h2 = held-hung q p r ln lf pq pr (held-stored r parent q up pr pq h1) in
-      held-pick (eqb p null) h (held-pick (eqb r null) h (held-stored p parent r up pp pr (held-stored r near p ln pr pp h2)))
+      held-pick (eqb p null) h (held-pick (eqb r null) h (held-resized _ (held-stored p parent r up pp pr (held-stored r near p ln pr pp h2))))
 
-  turn-pick : {g k : Turn} (b : Bool) → HeldTurn P j f o g → HeldTurn P j f o k → HeldTurn P j f o (pick b g k)
-  turn-pick true h k = h
-  turn-pick false h k = k
-
-  -- The insertion.
-  held-raised : {near far : ℕ} {s : Links} (xp xpp : ℕ) → Link near → Link far → P xp → P xpp → Held P j f o s → Held P j f o (raised near far s xp xpp)
-  unfolding raised
-  held-raised xp xpp ln lf pxp pxpp h = held-rotated xpp lf ln pxpp (held-painted xpp red pxpp (held-painted xp black pxp h))
-
-  held-straightened : {near far : ℕ} {s : Links} (x xp xpp : ℕ) → Link near → Link far → P x → P xp → P xpp → Held P j f o s → HeldTurn P j f o (straightened near far s x xp xpp)
-  unfolding straightened
-  held-straightened {near} {far} {s} x xp xpp ln lf px pxp pxpp h =
-      let h1 = held-rotated xp ln lf pxp h in
-      let pq = h1 .closed .links xp parent up pxp in
-      turn-pick (eqb x (read s xp far)) (going (held-raised _ _ ln lf pq (h1 .closed .links _ parent up pq) h1) pxp) (going (held-raised xp xpp ln lf pxp pxpp h) px)
-
-  held-lifted : {near far : ℕ} {s : Links} (x xp xpp : ℕ) → Link near → Link far → P x → P xp → P xpp → Held P j f o s → HeldTurn P j f o (lifted near far s x xp xpp)
-  unfolding lifted
-  held-lifted {near} {far} {s} x xp xpp ln lf px pxp pxpp h =
-      turn-pick (isRed s (read s xpp far)) (going (held-painted xpp red pxpp (held-painted xp black pxp (held-painted _ black (h .closed .links xpp far lf pxpp) h))) pxpp)
-      (held-straightened x xp xpp ln lf px pxp pxpp h)
-
-  held-insertionTurn : {s : Links} (x : ℕ) → P x → Held P j f o s → HeldTurn P j f o (insertionTurn s x)
-  unfolding insertionTurn
-  held-insertionTurn {s} x px h =
-      let xp = read s x parent in
-      let xpp = read s xp parent in
-      let pxp : P xp = h .closed .links x parent up px in
-      let pxpp : P xpp = h .closed .links xp parent up pxp in
-      turn-pick (eqb xp null) (ended (held-rooted x px (held-painted x black px h)))
-      (turn-pick (isRed s xp)
-      (turn-pick (eqb xpp null) (ended h)
-      (turn-pick (eqb (read s xpp left) xp) (held-lifted x xp xpp (on leftward) (on rightward) px pxp pxpp h) (held-lifted x xp xpp (on rightward) (on leftward) px pxp pxpp h)))
-      (ended h))
+  -- The balancings.
+  keeping : Keeping P P (Held P j f o)
+  keeping =
+      record {
+        loose = λ pi. pi;
+        solid = λ pi e. pi;
+        link = λ i g lg pi h. h .closed .links i g lg pi;
+        root = λ h. h .closed .root;
+        paint = held-painted;
+        spin = λ p e pp h. held-rotated p (near-link e) (far-link e) pp h;
+        crown = λ x px e h. held-rooted x px h;
+      }
 
   pub held-insertionTurns : {s : Links} (m x : ℕ) → P x → Held P j f o s → Held P j f o (insertionTurns m s x)
-  unfolding insertionTurns
-  held-insertionTurns zero x px h = h
-  held-insertionTurns {s} (suc m) x px h = go (held-insertionTurn x px h) refl (λ t y py k. held-insertionTurns m y py k)
-    where
-      go : {g : Turn} → HeldTurn P j f o g → insertionTurn s x ≡ g → ((t : Links) (y : ℕ) → P y → Held P j f o t → Held P j f o (insertionTurns m t y)) → Held P j f o (insertionTurns (suc m) s x)
-      go (ended k) e again = rw (e, insertionTurns) k
-      go (going {t} {y} k py) e again = rw (e, insertionTurns) (again t y py k)
+  held-insertionTurns m x px h = round-insertionTurns keeping m x px h
 
   pub held-insertion : {s : Links} (m x : ℕ) → P x → Held P j f o s → Held P j f o (balancedInsertion m s x)
-  unfolding balancedInsertion
-  held-insertion m x px h = held-insertionTurns m x px (held-painted x red px h)
-
-  -- The deletion.
-  held-settled : {near far : ℕ} {s : Links} (xp y : ℕ) → Link near → Link far → P xp → P y → Held P j f o s → HeldTurn P j f o (settled near far s xp y)
-  unfolding settled capped
-  held-settled {near} {far} {s} xp y ln lf pxp py h =
-      let h1 = held-painted y (colourOf s xp) py h in
-      let h2 = held-rotated xp ln lf pxp (held-painted xp black pxp (held-painted _ black (h1 .closed .links y far lf py) h1)) in
-      going h2 (h2 .closed .root)
-
-  held-tucked : {near far : ℕ} {s : Links} (y : ℕ) → Link near → Link far → P y → Held P j f o s → Held P j f o (tucked near far s y)
-  unfolding tucked
-  held-tucked {near} y ln lf py h = held-rotated y lf ln py (held-painted y red py (held-painted _ black (h .closed .links y near ln py) h))
-
-  held-eased : {near far : ℕ} {s : Links} (x xp y : ℕ) → Link near → Link far → P x → P xp → P y → Held P j f o s → HeldTurn P j f o (eased near far s x xp y)
-  unfolding eased
-  held-eased {near} {far} {s} x xp y ln lf px pxp py h =
-      let h1 = held-tucked y ln lf py h in
-      let pq = h1 .closed .links x parent up px in
-      turn-pick (isRed s (read s y far)) (held-settled xp y ln lf pxp py h)
-      (turn-pick (isRed s (read s y near)) (held-settled _ _ ln lf pq (h1 .closed .links _ far lf pq) h1) (going (held-painted y red py h) pxp))
-
-  held-sunk : {near far : ℕ} {s : Links} (x xp : ℕ) → Link near → Link far → P x → P xp → Held P j f o s → HeldTurn P j f o (sunk near far s x xp)
-  unfolding sunk
-  held-sunk {near} {far} {s} x xp ln lf px pxp h =
-      let py = h .closed .links xp far lf pxp in
-      let h1 = held-rotated xp ln lf pxp (held-painted xp red pxp (held-painted _ black py h)) in
-      let pq = h1 .closed .links x parent up px in
-      turn-pick (isRed s (read s xp far)) (held-eased x _ _ ln lf px pq (h1 .closed .links _ far lf pq) h1) (held-eased x xp _ ln lf px pxp py h)
-
-  held-deletionTurn : {s : Links} (x : ℕ) → P x → Held P j f o s → HeldTurn P j f o (deletionTurn s x)
-  unfolding deletionTurn
-  held-deletionTurn {s} x px h =
-      let xp = read s x parent in
-      let pxp : P xp = h .closed .links x parent up px in
-      turn-pick (eqb x null) (ended h)
-      (turn-pick (eqb x (s .root)) (ended h)
-      (turn-pick (eqb xp null) (ended (held-rooted x px (held-painted x black px h)))
-      (turn-pick (isRed s x) (ended (held-painted x black px h))
-      (turn-pick (eqb (read s xp left) x) (held-sunk x xp (on leftward) (on rightward) px pxp h) (held-sunk x xp (on rightward) (on leftward) px pxp h)))))
+  held-insertion m x px h = round-insertion keeping m x px h
 
   pub held-deletion : {s : Links} (m x : ℕ) → P x → Held P j f o s → Held P j f o (balancedDeletion m s x)
-  unfolding balancedDeletion
-  held-deletion zero x px h = h
-  held-deletion {s} (suc m) x px h = go (held-deletionTurn x px h) refl (λ t y py k. held-deletion m y py k)
-    where
-      go : {g : Turn} → HeldTurn P j f o g → deletionTurn s x ≡ g → ((t : Links) (y : ℕ) → P y → Held P j f o t → Held P j f o (balancedDeletion m t y)) → Held P j f o (balancedDeletion (suc m) s x)
-      go (ended k) e again = rw (e, balancedDeletion) k
-      go (going {t} {y} k py) e again = rw (e, balancedDeletion) (again t y py k)
+  held-deletion m x px h = round-deletion keeping m x px h
 
   -- The removal.
   held-replaced : {s : Links} (q p x : ℕ) → P q → P x → Held P j f o s → Held P j f o (replaced s q p x)
@@ -222,7 +148,7 @@ module _ {P : ℕ → Type 0} {j f : ℕ} {o : Links} (off : (l : List ℕ) (i g
       let h1 = held-painted p (colourOf s t) pp (held-painted t (colourOf s p) pt h) in
       let h2 = held-lowered p t _ _ pp pt (c .links p right (on rightward) pp) (c .links t parent up pt) h1 in
       let h3 = held-stored _ parent p up ptr pp (held-stored p right _ (on rightward) pp ptr (held-stored p left null (on leftward) pp (c .none) h2)) in
-      held-replaced _ p t pw pt (held-stored t parent _ up pt pw (held-stored _ parent t up pl pt (held-stored t left _ (on leftward) pt pl h3)))
+      held-resized _ (held-replaced _ p t pw pt (held-stored t parent _ up pt pw (held-stored _ parent t up pl pt (held-stored t left _ (on leftward) pt pl h3))))
 
   held-spliced : {s : Links} (p x : ℕ) → P p → P x → Held P j f o s → Held P j f o (spliced s p x)
   unfolding spliced
@@ -241,9 +167,9 @@ module _ {P : ℕ → Type 0} {j f : ℕ} {o : Links} (off : (l : List ℕ) (i g
       let px : P (replacement s p) =
       pick-in P (eqb (read s p left) null) (pick-in P (eqb (read s p right) null) pp (h .closed .links p right (on rightward) pp)) (h .closed .links p left (on leftward) pp) in
       let x = replacement s p in
-      let h1 = held-pick (eqb x p) h (held-spliced p x pp px h) in
+      let h1 = held-pick (eqb x p) h (held-spliced p x pp px (held-resized _ h)) in
       let h2 = held-pick (isRed s p) h1 (held-deletion m x px h1) in
-      let h3 = held-pick (eqb x p) (held-detached p pp h2) h2 in
+      let h3 = held-pick (eqb x p) (held-detached p pp (held-resized _ h2)) h2 in
       held-pick (eqb _ x) (held-painted x black px h3) h3
 
   pub held-removed : {s : Links} (m p : ℕ) → P p → Held P j f o s → Held P j f o (removed m s p)
@@ -262,7 +188,7 @@ module _ {P : ℕ → Type 0} {j f : ℕ} {o : Links} (off : (l : List ℕ) (i g
 
   pub held-inserted : {s : Links} (m x : ℕ) (at : Spot) → Link (at .side) → P x → P (at .above) → Held P j f o s → Held P j f o (inserted m s x at)
   unfolding inserted
-  held-inserted m x at l px pq h = held-insertion m x px (held-hooked x at l px pq h)
+  held-inserted m x at l px pq h = held-insertion m x px (held-resized _ (held-hooked x at l px pq h))
 
 -- Place, prev and next lie off all those writes, whatever the slots: here P holds of every slot.
 Any : ℕ → Type 0

@@ -14,17 +14,18 @@ use Rattle.redblack.specs.Sided.{Sided, Way, top, plug, count, countWay,
 use Rattle.redblack.specs.Rotate.{rotated}
 use Rattle.redblack.specs.Insertion.{balancedInsertion}
 use Rattle.redblack.specs.Hanging.{spot, hooked, inserted}
+use Rattle.redblack.specs.Climbing.{weighedIn}
 use Rattle.redblack.specs.Deletion.{balancedDeletion}
 use Rattle.redblack.specs.Removal.{removed}
 use Rattle.redblack.specs.Kept.{Agree, Absent}
 use Rattle.redblack.proofs.Ends.{Link, up, on}
 use Rattle.redblack.proofs.Reading.{reads, roomy-cap}
-use Rattle.redblack.proofs.Frames.{hit-same, hit-ne, apart, count-plug, whole}
+use Rattle.redblack.proofs.Frames.{hit-same, hit-ne, apart, count-plug, whole, site-of}
 use Rattle.redblack.proofs.Hanging.{hooked-site, turns-first}
 use Rattle.redblack.proofs.Kept.{link-small, Closed, Held, held-rotated, held-insertionTurns, held-insertion, held-deletion, held-removed}
 
 -- The slots of a tree, and null.
-In : Sided → ℕ → Type 0
+unfoldable pub In : Sided → ℕ → Type 0
 In t i = (i ≡ null) ⊎ (1 ≤ count i t)
 
 -- The words of a slot of the tree hold null or slots of the tree.
@@ -57,7 +58,7 @@ hangs-in P {s = s} pn pq sub (some {a = a} {b} {i = k} c x y) i g lg l =
     go (no d) (no u) f h = h (omega (arith, hit-ne d))
 
 -- So the tree is a set of slots that its links do not lead out of.
-closed-site : {n : ℕ} {s : Links} (C : Way) {t : Sided} → Site n s C t → Closed (In (plug C t)) s
+pub closed-site : {n : ℕ} {s : Links} (C : Way) {t : Sided} → Site n s C t → Closed (In (plug C t)) s
 unfolding In
 closed-site {n} {s} C {t} h =
     let T = plug C t in
@@ -109,7 +110,7 @@ pub inserting-spares : {n : ℕ} {s : Links} {σ : Side} {c : Colour} {xp j : �
 unfolding inserted balancedInsertion hooked count countWay
 inserting-spares {n} {s} {σ} {c} {xp} {j} {b} {C} m x wx fresh h k =
     let D : Way = frame σ c xp b ∷ C in
-    let v = hooked-site x wx fresh h in
+    let v = site-of (painted (weighedIn m (hooked s x (spot xp (toward σ))) x) x red) refl refl (hooked-site x wx fresh h) in
     let e = count-plug j D (fork σ red bare x bare) in
     let jx : j ≢ x = apart (omega (arith, k .nowhere)) in
     let jq : j ≢ xp = apart (omega (arith, k .nowhere)) in
@@ -121,6 +122,6 @@ unfolding inserted balancedInsertion hooked
 planting-spares {n} {s} m x f j lf l wx k jn jx =
     let hx : roomy fields (s .cells) x ≡ true = roomy-cap x k wx in
     let xn : x ≢ null = omega (arith, k .small) in
-    let s1 = painted (hooked s x (spot null f)) x red in
+    let s1 = painted (weighedIn m (hooked s x (spot null f)) x) x red in
     let e : inserted m s x (spot null f) ≡ rooted (painted s1 x black) x = turns-first m s1 x (omega arith) (simp (reads, hx)) in
     rw e (record { same = λ g h. simp reads })

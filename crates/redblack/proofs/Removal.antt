@@ -14,12 +14,13 @@ use Rattle.slots.proofs.Laws.{length-write}
 use Rattle.redblack.specs.Links.{Links, read, stored, isRed}
 use Rattle.redblack.specs.Sided.{Sided, Way, top, upper, plug, slots, count, Cap, Site, bare, fork, none, home}
 use Rattle.redblack.specs.Balance.{Wants, void, dark, rosy}
+use Rattle.redblack.specs.Climbing.{weighedOut}
 use Rattle.redblack.specs.Deletion.{balancedDeletion}
 use Rattle.redblack.specs.Removal.{replaced, replacement, spliced, detached, dropped}
 use Rattle.redblack.specs.Kept.{Agree}
 use Rattle.redblack.proofs.Ends.{Part, Outcome, blackPart, redPart, up}
 use Rattle.redblack.proofs.Reading.{reads, roomy-cap, recap, solid}
-use Rattle.redblack.proofs.Frames.{hit-same, apart, count-upper, upper-count, cell-of, this-of, agree-trans, Moved, whole, rehang, root-else, not-root}
+use Rattle.redblack.proofs.Frames.{hit-same, apart, count-upper, upper-count, cell-of, this-of, agree-trans, Moved, site-of, whole, rehang, root-else, not-root}
 use Rattle.redblack.proofs.Paint.{Repaints, one-painted, painting}
 use Rattle.redblack.proofs.Order.{slots-plug}
 use Rattle.redblack.proofs.Depth.{depth}
@@ -29,7 +30,7 @@ use Rattle.redblack.proofs.Seat.{rewire, heads-on, Seat, seat}
 use Rattle.redblack.proofs.Deletion.{turn-red, deletion-root, deletion-done, deletion}
 
 -- The slot in view, which is bare, leaves the tree.
-detached-site : {n : ℕ} {s : Links} {ρ : Side} {d : Colour} {p : ℕ} {C : Way} → Site n s C (fork ρ d bare p bare) → Site n (detached s p) C bare
+pub detached-site : {n : ℕ} {s : Links} {ρ : Side} {d : Colour} {p : ℕ} {C : Way} → Site n s C (fork ρ d bare p bare) → Site n (detached s p) C bare
 unfolding detached count
 detached-site {n} {s} {p = p} {C} h =
     let k = cell-of (h .tree) in
@@ -51,7 +52,7 @@ detached-site {n} {s} {p = p} {C} h =
 splicedBy : Links → ℕ → ℕ → ℕ → Links
 splicedBy s p x q = stored (stored (stored (replaced (stored s x parent q) q p x) p left null) p right null) p parent null
 
-spliced-site : {n : ℕ} {s : Links} {ρ σ : Side} {d e : Colour} {a b : Sided} {x p : ℕ} {C : Way} → Site n s C (fork ρ d (fork σ e a x b) p bare) → Site n (spliced s p x) C (fork σ e a x b)
+pub spliced-site : {n : ℕ} {s : Links} {ρ σ : Side} {d e : Colour} {a b : Sided} {x p : ℕ} {C : Way} → Site n s C (fork ρ d (fork σ e a x b) p bare) → Site n (spliced s p x) C (fork σ e a x b)
 unfolding spliced splicedBy count
 spliced-site {n} {s} {ρ} {σ} {d} {e} {a} {b} {x} {p} {C} h =
     let k = cell-of (h .tree) in
@@ -90,17 +91,18 @@ replacement-one s leftward p x e f z = rw (e, z)
 replacement-one s rightward p x e f z = rw (f, e, z)
 
 -- A leaf is its own replacement and goes; a replacement that is not the root is as the loop leaves it.
-dropped-red : (m : ℕ) (s : Links) (p : ℕ) → replacement s p ≡ p → isRed s p ≡ true → (detached s p) .root ≢ p → dropped m s p ≡ detached s p
+dropped-red : (m : ℕ) (s : Links) (p : ℕ) → replacement s p ≡ p → isRed s p ≡ true → (detached (weighedOut m s p) p) .root ≢ p
+    → dropped m s p ≡ detached (weighedOut m s p) p
 unfolding dropped
 dropped-red m s p r f d = rw (r, eq-eqb p p refl, f, ne-eqb _ _ d)
 
-dropped-black : (m : ℕ) (s : Links) (p : ℕ) → replacement s p ≡ p → isRed s p ≡ false → (detached (balancedDeletion m s p) p) .root ≢ p
-    → dropped m s p ≡ detached (balancedDeletion m s p) p
+dropped-black : (m : ℕ) (s : Links) (p : ℕ) {t : Links} → replacement s p ≡ p → isRed s p ≡ false → balancedDeletion m s p ≡ t
+    → (detached (weighedOut m t p) p) .root ≢ p → dropped m s p ≡ detached (weighedOut m t p) p
 unfolding dropped
-dropped-black m s p r f d = rw (r, eq-eqb p p refl, f, ne-eqb _ _ d)
+dropped-black m s p r f e d = rw (r, eq-eqb p p refl, f, e, ne-eqb _ _ d)
 
 dropped-one : (m : ℕ) (s : Links) (p x : ℕ) {t : Links} → replacement s p ≡ x → x ≢ p → isRed s p ≡ false
-    → balancedDeletion m (spliced s p x) x ≡ t → t .root ≢ x → dropped m s p ≡ t
+    → balancedDeletion m (spliced (weighedOut m s p) p x) x ≡ t → t .root ≢ x → dropped m s p ≡ t
 unfolding dropped
 dropped-one m s p x {t} r d f e g = rw (r, ne-eqb x p d, f, e, ne-eqb _ _ g)
 
@@ -108,15 +110,17 @@ dropped-one m s p x {t} r d f e g = rw (r, ne-eqb x p d, f, e, ne-eqb _ _ g)
 record Crowns (t u : Links) (x : ℕ) : Type 0 where
   crown : read u x state ≡ code black
   paints : Repaints t u x x x
+  sizes : u .sizes ≡ t .sizes
 
 dropped-top : {n : ℕ} (m : ℕ) (s : Links) (p x : ℕ) {t : Links} → Cap n t → x < n → replacement s p ≡ x → x ≢ p → isRed s p ≡ false
-    → balancedDeletion m (spliced s p x) x ≡ t → t .root ≡ x → Crowns t (dropped m s p) x
+    → balancedDeletion m (spliced (weighedOut m s p) p x) x ≡ t → t .root ≡ x → Crowns t (dropped m s p) x
 unfolding dropped
 dropped-top m s p x {t} k w r d f e g =
     rw (r, ne-eqb x p d, f, e, eq-eqb _ _ g)
     (record {
       crown = simp (reads, roomy-cap x k w);
       paints = record { long = simp length-write; root = refl; links = λ l h i z. simp reads; states = λ l a b c. simp reads };
+      sizes = refl;
     })
 
 -- What was detached is not the root.
@@ -124,53 +128,68 @@ detached-root : {n : ℕ} {s : Links} {ρ : Side} {d : Colour} {p : ℕ} {C : Wa
 unfolding count
 detached-root {p = p} h = root-else (detached-site h .way) (omega (arith, cell-of (h .tree) .inside, h .cap .small)) (omega (arith, h .once p, hit-same p))
 
-module _ {n : ℕ} {s : Links} {ρ : Side} {p : ℕ} {C : Way} (m : ℕ) (l : length C < m) where
-  bare-red : Wants 0 black C → Site n s C (fork ρ red bare p bare) → Outcome n (dropped m s p) (slots (plug C bare))
-  bare-red w h =
-      let k = cell-of (h .tree) in
-      let z = plug-any w void in
-      let e = dropped-red m s p (replacement-none s ρ p (k .this) (k .that)) (red-top (h .tree)) (detached-root h) in
-      record { tree = plug C bare; height = z .0; site = rw e (whole C (detached-site h)); sound = z .1; same = refl }
+-- What the removal of p comes to: p is bare and red, or bare and black, or black over one red child.
+pub red-is : {n : ℕ} {s : Links} {ρ : Side} {p : ℕ} {C : Way} (m : ℕ) → Site n s C (fork ρ red bare p bare) → dropped m s p ≡ detached (weighedOut m s p) p
+red-is {s = s} {ρ} {p} m h =
+    let k = cell-of (h .tree) in
+    dropped-red m s p (replacement-none s ρ p (k .this) (k .that)) (red-top (h .tree)) (detached-root (site-of (weighedOut m s p) refl refl h))
 
-  bare-black : {e : Colour} → Wants 1 e C → Site n s C (fork ρ black bare p bare) → Outcome n (dropped m s p) (slots (plug C bare))
-  bare-black w h =
-      let k = cell-of (h .tree) in
-      let o = deletion m w void h l in
-      let f = dark-top (h .cap) (dark {σ = ρ} {i = p} void void) (h .tree) in
-      let e = dropped-black m s p (replacement-none s ρ p (k .this) (k .that)) f (detached-root (o .site)) in
-      record { tree = plug (o .path) bare; height = o .height; site = rw e (whole (o .path) (detached-site (o .site))); sound = o .sound; same = o .same bare }
+pub black-is : {n : ℕ} {s : Links} {ρ : Side} {p : ℕ} {C D : Way} (m : ℕ) → Site n s C (fork ρ black bare p bare)
+    → Site n (balancedDeletion m s p) D (fork ρ black bare p bare) → dropped m s p ≡ detached (weighedOut m (balancedDeletion m s p) p) p
+black-is {s = s} {ρ} {p} m h v =
+    let k = cell-of (h .tree) in
+    let f = dark-top (h .cap) (dark {σ = ρ} {i = p} void void) (h .tree) in
+    dropped-black m s p (replacement-none s ρ p (k .this) (k .that)) f refl (detached-root (site-of (weighedOut m (balancedDeletion m s p) p) refl refl v))
 
--- A red child takes the place and the black: by the loop's first turn, or as the root, where the loop does not look.
-one-black : {n : ℕ} {s : Links} {ρ σ : Side} {p x : ℕ} (C : Way) (m : ℕ) → 0 < m → Site n s C (fork ρ black (fork σ red bare x bare) p bare) → Site n (dropped m s p) C (fork σ black bare x bare)
+-- The red child takes the place and the black: by the loop's first turn, or as the root, where the loop does not look.
+pub record OneLeft (n : ℕ) (s u : Links) (σ : Side) (x : ℕ) (C : Way) : Type 0 where
+  pub site : Site n u C (fork σ black bare x bare)
+  pub sizes : u .sizes ≡ s .sizes
+
+pub one-black : {n : ℕ} {s : Links} {ρ σ : Side} {p x : ℕ} (C : Way) (m : ℕ) → 0 < m → Site n s C (fork ρ black (fork σ red bare x bare) p bare)
+    → OneLeft n (spliced (weighedOut m s p) p x) (dropped m s p) σ x C
 unfolding count
 one-black {s = s} {ρ} {σ} {p} {x} [] m l h =
     let k = cell-of (h .tree) in
-    let v = spliced-site h in
+    let s1 = spliced (weighedOut m s p) p x in
+    let v = spliced-site (site-of (weighedOut m s p) refl refl h) in
     let xp : x ≢ p = apart (omega (arith, h .once x, hit-same x)) in
-    let top : (spliced s p x) .root ≡ x = elim (v .way) [ home e ↦ e ] in
+    let top : s1 .root ≡ x = elim (v .way) [ home e ↦ e ] in
     let w = cell-of (v .tree) .inside in
     let e = dropped-top m s p x (v .cap) w (replacement-one s ρ p x (k .this) (k .that) (solid w (h .cap .small)))
-    xp (rw (k .hued)) (ap (balancedDeletion m (spliced s p x)) (sym top) ∙ deletion-root m (spliced s p x)) top in
-    one-painted black (v .cap) w (e .paints) (e .crown) (painting black v)
+    xp (rw (k .hued)) (ap (balancedDeletion m s1) (sym top) ∙ deletion-root m s1) top in
+    record { site = one-painted black (v .cap) w (e .paints) (e .crown) (painting black v); sizes = e .sizes }
 one-black {s = s} {ρ} {σ} {p} {x} (f ∷ C) m l h =
     let k = cell-of (h .tree) in
-    let v = spliced-site h in
+    let s1 = spliced (weighedOut m s p) p x in
+    let v = spliced-site (site-of (weighedOut m s p) refl refl h) in
     let xp : x ≢ p = apart (omega (arith, h .once x, hit-same x)) in
     let r = replacement-one s ρ p x (k .this) (k .that) (solid (cell-of (this-of (h .tree)) .inside) (h .cap .small)) in
-    let d = deletion-done m (spliced s p x) x l (turn-red v) in
-    let e = dropped-one m s p x r xp (rw (k .hued)) d (λ z. not-root v (sym z)) in
-    rw e (painting black v)
+    let e = dropped-one m s p x r xp (rw (k .hued)) (deletion-done m s1 x l (turn-red v)) (λ z. not-root v (sym z)) in
+    record { site = rw e (painting black v); sizes = ap (λ (u : Links). u .sizes) e }
+
+module _ {n : ℕ} {s : Links} {ρ : Side} {p : ℕ} {C : Way} (m : ℕ) (l : length C < m) where
+  bare-red : Wants 0 black C → Site n s C (fork ρ red bare p bare) → Outcome n (dropped m s p) (slots (plug C bare))
+  bare-red w h =
+      let z = plug-any w void in
+      record { tree = plug C bare; height = z .0; site = rw (red-is m h) (whole C (detached-site (site-of (weighedOut m s p) refl refl h))); sound = z .1; same = refl }
+
+  bare-black : {e : Colour} → Wants 1 e C → Site n s C (fork ρ black bare p bare) → Outcome n (dropped m s p) (slots (plug C bare))
+  bare-black w h =
+      let o = deletion m w void h l in
+      let v : Site n (weighedOut m (balancedDeletion m s p) p) (o .path) (fork ρ black bare p bare) = site-of _ refl refl (o .site) in
+      record { tree = plug (o .path) bare; height = o .height; site = rw (black-is m h (o .site)) (whole (o .path) (detached-site v)); sound = o .sound; same = o .same bare }
 
 -- The cases are all that a red-black tree leaves.
 pub dropping-part : {n : ℕ} {s : Links} {ρ : Side} {d : Colour} {a : Sided} {p : ℕ} {C : Way} (m : ℕ) → n ≤ m → Part C (fork ρ d a p bare) → Site n s C (fork ρ d a p bare) → Outcome n (dropped m s p) (slots (plug C a))
 unfolding slots
 dropping-part m l (blackPart w (dark void void)) h = bare-black m (omega (arith, depth h)) w h
-dropping-part {C = C} m l (blackPart w (dark (rosy {σ = σ} {i = x} void void) void)) h =
+dropping-part {s = s} {p = p} {C} m l (blackPart w (dark (rosy {σ = σ} {i = x} void void) void)) h =
     let z = plug-black w (dark {σ = σ} {i = x} void void) in
     record {
       tree = plug C (fork σ black bare x bare);
       height = z .0;
-      site = whole C (one-black C m (omega (arith, depth h)) h);
+      site = whole C (one-black C m (omega (arith, depth h)) h .site);
       sound = z .1;
       same = slots-plug C (fork σ black bare x bare) (fork σ red bare x bare) refl;
     }

@@ -28,11 +28,11 @@ traded-dropping {t = t} m c p a C D l o h =
     dropping-part m l (part-turn rightward p (part-reslot D rightward c p t a C o)) (turn v)
 
 -- Which way the removal takes.
-removed-left : (m : ℕ) (s : Links) (p : ℕ) → read s p left ≡ null → removed m s p ≡ dropped m s p
+pub removed-left : (m : ℕ) (s : Links) (p : ℕ) → read s p left ≡ null → removed m s p ≡ dropped m s p
 unfolding removed
 removed-left m s p e = rw e
 
-removed-right : (m : ℕ) (s : Links) (p : ℕ) → read s p right ≡ null → removed m s p ≡ dropped m s p
+pub removed-right : (m : ℕ) (s : Links) (p : ℕ) → read s p right ≡ null → removed m s p ≡ dropped m s p
 unfolding removed
 removed-right m s p e = go (eqb (read s p left) null) refl
   where
@@ -40,7 +40,7 @@ removed-right m s p e = go (eqb (read s p left) null) refl
     go true f = rw f
     go false f = rw (f, e)
 
-removed-two : (m : ℕ) (s : Links) (p i j t : ℕ) → read s p left ≡ i → eqb i null ≡ false → read s p right ≡ j → eqb j null ≡ false → leftmost m s j ≡ t → removed m s p ≡ dropped m (traded s p t) p
+pub removed-two : (m : ℕ) (s : Links) (p i j t : ℕ) → read s p left ≡ i → eqb i null ≡ false → read s p right ≡ j → eqb j null ≡ false → leftmost m s j ≡ t → removed m s p ≡ dropped m (traded s p t) p
 unfolding removed
 removed-two m s p i j t e f g h k = rw (e, f, g, h, k)
 

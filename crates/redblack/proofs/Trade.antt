@@ -12,10 +12,11 @@ use Rattle.slots.specs.Words.{null, state, parent, left, right, Colour, code, S
 use Rattle.slots.proofs.Laws.{pick-eq, pick-ne, length-write, toward-small, toward-other}
 use Rattle.redblack.specs.Links.{Links, read, stored, painted, colourOf}
 use Rattle.redblack.specs.Sided.{Sided, Way, top, upper, plug, hit, count, countWay, Cap, Cell, Hangs, Leads, Site, bare, fork, frame, none, some, via}
+use Rattle.redblack.specs.Climbing.{exchanged}
 use Rattle.redblack.specs.Removal.{replaced, lowered, traded}
 use Rattle.redblack.specs.Kept.{Agree}
 use Rattle.redblack.proofs.Reading.{side-state, parent-side, reads, roomy-cap, recap}
-use Rattle.redblack.proofs.Frames.{hit-same, apart, count-top, top-count, count-upper, upper-count, cell-of, that-of, way-cell, way-tree, way-on, agree-trans, Moved, tree-frame, outward, inward, rehang}
+use Rattle.redblack.proofs.Frames.{hit-same, apart, count-top, top-count, count-upper, upper-count, cell-of, that-of, way-cell, way-tree, way-on, agree-trans, Moved, tree-frame, site-of, outward, inward, rehang}
 use Rattle.redblack.proofs.Paint.{painting}
 use Rattle.redblack.proofs.Looks.{pick-side, colour-is}
 use Rattle.redblack.proofs.Seat.{rewire, Seat, seat}
@@ -50,7 +51,7 @@ unfolding plug
 dive [] h = h
 dive (frame τ c i b ∷ D) h = inward (dive D h)
 
-leads-on : {n x : ℕ} {s : Links} (D : Way) {E : Way} → Leads n s x (D ++ E) → Leads n s (crest x D) E
+pub leads-on : {n x : ℕ} {s : Links} (D : Way) {E : Way} → Leads n s x (D ++ E) → Leads n s (crest x D) E
 leads-on [] h = h
 leads-on (frame τ c i b ∷ D) (via k y w) = leads-on D w
 
@@ -343,7 +344,7 @@ deep-site {n} {s} {τ} {c} {ct} {tr} {y} {q} {t} cp p pl C D h =
 
 -- The trade with what it reads first.
 tradedBy : Links → ℕ → ℕ → Colour → Colour → ℕ → ℕ → ℕ → ℕ → ℕ → Links
-tradedBy s p t cp ct a b r w q = replaced (linked (lowered (painted (painted s t cp) p ct) p t r q) p t a b w) w p t
+tradedBy s p t cp ct a b r w q = exchanged (replaced (linked (lowered (painted (painted s t cp) p ct) p t r q) p t a b w) w p t) p t
 
 traded-by : (s : Links) (p t : ℕ) → traded s p t ≡ tradedBy s p t (colourOf s p) (colourOf s t) (read s t right) (read s p left) (read s p right) (read s p parent) (read s t parent)
 unfolding traded tradedBy linked
@@ -372,8 +373,8 @@ traded-site {s = s} {ct} {tr} {t} cp p pl C [] h =
     let kt = cell-of (h .tree) in
     let s1 = painted (painted s t cp) p ct in
     let e = traded-is s cp ct p t (top tr) (top pl) t (upper C) p (kp .hued) (kt .hued) (kt .that) (kp .that) (kp .this) (kp .above) (kt .above)
-    ∙ ap (λ (u : Links). replaced (linked u p t (top tr) (top pl) (upper C)) (upper C) p t) (lowered-next s1 p t p) in
-    rw e (next-site (repaint [] rightward cp p pl C h))
+    ∙ ap (λ (u : Links). exchanged (replaced (linked u p t (top tr) (top pl) (upper C)) (upper C) p t) p t) (lowered-next s1 p t p) in
+    rw e (site-of _ refl refl (next-site (repaint [] rightward cp p pl C h)))
 traded-site {s = s} {ct} {tr} {t} cp p pl C (frame τ c q y ∷ D) h =
     let kp = way-cell (leads-on D (way-on (h .way))) in
     let kt = cell-of (h .tree) in
@@ -383,5 +384,5 @@ traded-site {s = s} {ct} {tr} {t} cp p pl C (frame τ c q y ∷ D) h =
     let ty : t ≢ top y = apart (omega (arith, h .once t, hit-same t, count-top t y (omega (arith, kt .inside, h .cap .small)))) in
     let tr′ : t ≢ crest q D = apart (omega (arith, h .once t, hit-same t, crest-count t q D, countWay-append t D (frame rightward cp p pl ∷ C))) in
     let e = traded-is s cp ct p t (top tr) (top pl) (crest q D) (upper C) q (kp .hued) (kt .hued) (kt .that) (kp .that) (kp .this) (kp .above) (kt .above)
-    ∙ ap (λ (u : Links). replaced (linked u p t (top tr) (top pl) (upper C)) (upper C) p t) (lowered-deep s1 τ p t (crest q D) q tr′ (k1 .this) (λ z. ty (sym z ∙ k1 .that))) in
-    rw e (deep-site ct p pl C D v)
+    ∙ ap (λ (u : Links). exchanged (replaced (linked u p t (top tr) (top pl) (upper C)) (upper C) p t) p t) (lowered-deep s1 τ p t (crest q D) q tr′ (k1 .this) (λ z. ty (sym z ∙ k1 .that))) in
+    rw e (site-of _ refl refl (deep-site ct p pl C D v))

@@ -72,7 +72,7 @@ pub leaving : {n : ℕ} {s : Links} {l : List ℕ} (m p : ℕ) → n ≤ m → 1
 leaving m p k c o = let r = reached leftward p c o in relisted (r .same) (removal-part m k (r .part) (r .site))
 
 -- The list counts as the tree does.
-counted : {l : List ℕ} (j : ℕ) (t : Sided) → slots t ≡ l → count j t ≡ times j l
+pub counted : {l : List ℕ} (j : ℕ) (t : Sided) → slots t ≡ l → count j t ≡ times j l
 counted j t e = sym (count-slots j t) ∙ ap (times j) e
 
 -- A slot whose child on the side σ is null is bare there.
@@ -84,15 +84,15 @@ bared {n} {s} {σ} {p} r e = go (r .near) (r .site)
     go (fork τ d u i v) h = absurd (omega (arith, sym (cell-of (h .tree) .this) ∙ e, cell-of (this-of (h .tree)) .inside, h .cap .small))
 
 -- A null link of the whole: the slot q with nothing on its side σ.
-record Open (n : ℕ) (s : Links) (σ : Side) (q : ℕ) (l : List ℕ) : Type 0 where
-  path : Way
-  colour : Colour
-  far : Sided
-  site : Site n s path (fork σ colour bare q far)
-  part : Part path (fork σ colour bare q far)
-  same : slots (plug path (fork σ colour bare q far)) ≡ l
+pub record Open (n : ℕ) (s : Links) (σ : Side) (q : ℕ) (l : List ℕ) : Type 0 where
+  pub path : Way
+  pub colour : Colour
+  pub far : Sided
+  pub site : Site n s path (fork σ colour bare q far)
+  pub part : Part path (fork σ colour bare q far)
+  pub same : slots (plug path (fork σ colour bare q far)) ≡ l
 
-open-at : {n : ℕ} {s : Links} {l : List ℕ} (σ : Side) (q : ℕ) → 1 ≤ times q l → read s q (toward σ) ≡ null → Outcome n s l → Open n s σ q l
+pub open-at : {n : ℕ} {s : Links} {l : List ℕ} (σ : Side) (q : ℕ) → 1 ≤ times q l → read s q (toward σ) ≡ null → Outcome n s l → Open n s σ q l
 open-at σ q c e o =
     let r = reached σ q c o in
     let b = bared r e in

@@ -4,10 +4,10 @@ use mathlib.Core.Logic.{_≢_, _⊎_, _↔_}
 use mathlib.Core.List.{List, [], _∷_}
 use mathlib.Core.Bool.{true}
 use Prim.Native.Nat.{ℕ, suc, _<_, _≤_}
-use lib.ListN.{length}
+use lib.ListN.{length, getD}
 use Rattle.slots.specs.Words.{null, place, state, parent, prev, next, Colour, black, red, code, Side, other, toward}
 use Rattle.slots.specs.Pairs.{pair, pairOf}
-use Rattle.redblack.specs.Links.{Links, read, painted, isRed, done}
+use Rattle.redblack.specs.Links.{Links, read, painted, sizeAt, isRed, done}
 use Rattle.redblack.specs.Rotate.{rotated}
 use Rattle.redblack.specs.Insertion.{insertionTurn, balancedInsertion}
 use Rattle.redblack.specs.Deletion.{deletionTurn, balancedDeletion}
@@ -16,6 +16,7 @@ use Rattle.redblack.specs.Hanging.{spotted, inserted}
 use Rattle.tree_rules.specs.Tree.{Tree, slots, Rising, Meets}
 use Rattle.redblack.specs.Sided.{Sided, bare, fork, Frame, Way, plug, slots as listed, Site}
 use Rattle.redblack.specs.Balance.{RedBlack, Wants, Mended, OneFewer, crown}
+use Rattle.redblack.specs.Sizes.{SizedTree}
 use Rattle.redblack.specs.Kept.{Aside, Keeps, Agree, Absent}
 use Rattle.redblack.specs.Holding.{Holds, RedBlackTree, Stands, Fresh, Has, Hung, depth, plain}
 
@@ -112,6 +113,19 @@ pub record HangsSlot (n budget : ℕ) (names : List ℕ) (s : Links) (t : Tree) 
   -- place, prev and next of every slot are as they were, on any words
   pub keeps : (f : ℕ) → Aside f → Keeps f s (inserted budget s x (spotted budget names s hash key))
 
+-- The stored sizes: where they are those of the tree t that the links hold, they are afterwards those of the tree u that the links hold then.
+-- That there is such a tree the claims above say.
+pub record KeepsSizes (n budget : ℕ) (s : Links) (t : Tree) : Type 0 where
+  -- a rotation and both balancings, on any tree, red-black or not
+  pub rotation : Holds n s t → SizedTree n s t → (σ : Side) (p : ℕ) → Stands p t → (u : Tree) → Holds n (spun σ s p) u → SizedTree n (spun σ s p) u
+  pub insertion : (x : ℕ) → Holds n (painted s x red) t → SizedTree n s t → Stands x t → (u : Tree) → Holds n (balancedInsertion budget s x) u → SizedTree n (balancedInsertion budget s x) u
+  pub deletion : (x : ℕ) → Holds n s t → SizedTree n s t → Stands x t → (u : Tree) → Holds n (balancedDeletion budget s x) u → SizedTree n (balancedDeletion budget s x) u
+  -- the slot p leaves a red-black tree, and its own size is 0 then
+  pub removal : (p : ℕ) → Holds n s t → RedBlackTree t → SizedTree n s t → Stands p t → n ≤ budget → (u : Tree) → Holds n (removed budget s p) u → SizedTree n (removed budget s p) u
+  -- the slot x, whose pair no slot of the tree has, joins it
+  pub hanging : (names : List ℕ) (x hash key : ℕ) → Holds n s t → RedBlackTree t → SizedTree n s t → Rising names (slots t) → (Has names t hash key → ⊥) → x < n → Fresh x t → n ≤ budget
+      → (u : Tree) → Holds n (inserted budget s x (spotted budget names s hash key)) u → SizedTree n (inserted budget s x (spotted budget names s hash key)) u
+
 -- The two traps in the text of the balancing, of the models, on any words.
 pub record Traps (s : Links) : Type 0 where
   -- "balance_deletion returns at x == root before looking at colour."
@@ -131,4 +145,5 @@ pub record Claims : Type 0 where
   pub balances-deletion : (n budget : ℕ) (s : Links) (x : ℕ) → BalancesDeletion n budget s x
   pub removes-slot : (n budget : ℕ) (s : Links) (t : Tree) (p : ℕ) → RemovesSlot n budget s t p
   pub hangs-slot : (n budget : ℕ) (names : List ℕ) (s : Links) (t : Tree) (x hash key : ℕ) → HangsSlot n budget names s t x hash key
+  pub keeps-sizes : (n budget : ℕ) (s : Links) (t : Tree) → KeepsSizes n budget s t
   pub traps : (s : Links) → Traps s

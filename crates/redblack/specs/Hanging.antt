@@ -5,6 +5,7 @@ use lib.Dec.{eqb}
 use Rattle.slots.specs.Words.{null, pick, parent, left, right, cell, nameOf, hashPart, keyPart}
 use Rattle.slots.specs.Pairs.{before}
 use Rattle.redblack.specs.Links.{Links, stored}
+use Rattle.redblack.specs.Climbing.{weighedIn}
 use Rattle.redblack.specs.Insertion.{balancedInsertion}
 
 -- The slot above, null where the tree is empty, and the field of the side to hang on.
@@ -32,9 +33,9 @@ hooked s x at =
     let s1 = stored (stored (stored s x parent (at .above)) x left null) x right null in
     stored s1 (at .above) (at .side) x
 
--- Hung, and balanced: in an empty tree x becomes the root and is black.
+-- Hung, counted, and balanced: in an empty tree x becomes the root and is black.
 unfoldable pub inserted : ℕ → Links → ℕ → Spot → Links
-inserted budget s x at = balancedInsertion budget (hooked s x at) x
+inserted budget s x at = balancedInsertion budget (weighedIn budget (hooked s x at) x) x
 
 -- The spot where the order says that the pair hangs: under no slot where the tree is empty.
 unfoldable pub spotted : ℕ → List ℕ → Links → ℕ → ℕ → Spot

@@ -1,11 +1,13 @@
 pub mod Links
 pub mod Rotate
+pub mod Climbing
 pub mod Insertion
 pub mod Deletion
 pub mod Removal
 pub mod Hanging
 pub mod Sided
 pub mod Balance
+pub mod Sizes
 pub mod Kept
 pub mod Holding
 pub mod Claims

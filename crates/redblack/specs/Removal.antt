@@ -3,6 +3,7 @@ use Prim.Native.Nat.{ℕ, zero, suc}
 use lib.Dec.{eqb}
 use Rattle.slots.specs.Words.{null, pick, parent, left, right, black}
 use Rattle.redblack.specs.Links.{Links, read, stored, rooted, painted, isRed, colourOf}
+use Rattle.redblack.specs.Climbing.{weighedOut, exchanged}
 use Rattle.redblack.specs.Deletion.{balancedDeletion}
 
 -- q's child p is replaced by x; with no q, x is the root.
@@ -11,7 +12,7 @@ replaced s q p x =
     pick (eqb q null) (rooted s x)
     (pick (eqb (read s q left) p) (stored s q left x) (stored s q right x))
 
--- "With two children, successor and slot trade positions and colours." t is the successor; what is read is read before a link changes.
+-- "With two children, successor and slot trade positions and colours." They trade their sizes too. t is the successor; what is read is read before a link changes.
 unfoldable pub lowered : Links → ℕ → ℕ → ℕ → ℕ → Links
 lowered s p t pr tp =
     let a = stored s p parent tp in
@@ -26,7 +27,7 @@ traded s p t =
     let pp = read s p parent in
     let s2 = lowered s1 p t (read s p right) (read s t parent) in
     let s3 = stored (stored (stored s2 p left null) p right tr) tr parent p in
-    replaced (stored (stored (stored s3 t left pl) pl parent t) t parent pp) pp p t
+    exchanged (replaced (stored (stored (stored s3 t left pl) pl parent t) t parent pp) pp p t) p t
 
 -- "The one child takes the slot's position, or the slot stands as its own replacement."
 unfoldable pub replacement : Links → ℕ → ℕ
@@ -46,13 +47,13 @@ detached s p =
     stored (replaced s pp p null) p parent null
 
 -- p, with at most one child, goes. "If the removed slot is now black, balance_deletion starts at the replacement.
--- The slot is detached .. A replacement that became the root is painted black."
+-- The slot is detached .. A replacement that became the root is painted black." Where it leaves the links it leaves the sizes above it.
 unfoldable pub dropped : ℕ → Links → ℕ → Links
 dropped budget s p =
     let x = replacement s p in
-    let s1 = pick (eqb x p) s (spliced s p x) in
+    let s1 = pick (eqb x p) s (spliced (weighedOut budget s p) p x) in
     let s2 = pick (isRed s p) s1 (balancedDeletion budget s1 x) in
-    let s3 = pick (eqb x p) (detached s2 p) s2 in
+    let s3 = pick (eqb x p) (detached (weighedOut budget s2 p) p) s2 in
     pick (eqb (s3 .root) x) (painted s3 x black) s3
 
 -- The leftmost slot from q down, at most so many steps.

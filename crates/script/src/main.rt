@@ -18,13 +18,14 @@ fn answer(
     names: &mut [u64],
     cells: &mut [u32],
     head: &mut [u32],
+    sizes: &mut [u32],
     lines: &mut [u64],
     out: &mut [u8],
 ) -> Line {
     let mut kept = line;
     let mut at = 0;
     while at < chunk.len() {
-        let fed = feed(kept, &chunk[at..], names, cells, head, lines, out);
+        let fed = feed(kept, &chunk[at..], names, cells, head, sizes, lines, out);
         let taken = fed.taken;
         let written = fed.written;
         io::write_all(STDOUT_FILENO, &out[..written]);
@@ -45,6 +46,7 @@ fn serve(
     names: &mut [u64],
     cells: &mut [u32],
     head: &mut [u32],
+    sizes: &mut [u32],
     lines: &mut [u64],
     out: &mut [u8],
 ) -> Line {
@@ -56,7 +58,7 @@ fn serve(
         if n == 0 {
             return kept;
         }
-        kept = answer(kept, &chunk[..n], names, cells, head, lines, out);
+        kept = answer(kept, &chunk[..n], names, cells, head, sizes, lines, out);
         turns -= 1;
     }
     kept
@@ -68,10 +70,11 @@ fn close(
     names: &mut [u64],
     cells: &mut [u32],
     head: &mut [u32],
+    sizes: &mut [u32],
     lines: &mut [u64],
     out: &mut [u8],
 ) {
-    let fed = finish(line, names, cells, head, lines, out);
+    let fed = finish(line, names, cells, head, sizes, lines, out);
     let written = fed.written;
     io::write_all(STDOUT_FILENO, &out[..written]);
 }
@@ -80,15 +83,17 @@ fn main() {
     let mut names = [0u64; 1024];
     let mut cells = [0u32; 3584];
     let mut head = [0u32; 3];
+    let mut sizes = [0u32; 512];
     let mut lines = [0u64; JOURNAL_WORDS];
     let mut out = [0u8; 524288];
     let mut chunk = [0u8; 65536];
-    fresh(&mut names, &mut cells, &mut head, &mut lines);
+    fresh(&mut names, &mut cells, &mut head, &mut sizes, &mut lines);
     let line = serve(
         &mut chunk,
         &mut names,
         &mut cells,
         &mut head,
+        &mut sizes,
         &mut lines,
         &mut out,
     );
@@ -97,6 +102,7 @@ fn main() {
         &mut names,
         &mut cells,
         &mut head,
+        &mut sizes,
         &mut lines,
         &mut out,
     );

@@ -5,6 +5,7 @@ use lib.ListN.{length}
 use Rattle.slots.specs.Answers.{Answer}
 use Rattle.tree_rules.specs.Find.{withLooks}
 use Rattle.index_rules.specs.Index.{Index}
+use Rattle.index_rules.specs.Live.{unsizedOf}
 use Rattle.index_rules.specs.Find.{finds}
 use Rattle.script_rules.specs.Commands.{find}
 use Rattle.script_rules.specs.Answers.{searchLine, foundText, obeyed}
@@ -12,9 +13,9 @@ use Rattle.script_rules.specs.Claims.{Asks}
 
 module _ (ix : Index) (h k : ℕ) where
   abbrev looks : ℕ
-  looks = length (finds (ix .live) h k .looks)
+  looks = length (finds (unsizedOf (ix .live)) h k .looks)
 
-  line : {a : Answer} → finds (ix .live) h k .answer ≡ a → obeyed ix (find h k) .text ≡ searchLine (withLooks looks a)
+  line : {a : Answer} → finds (unsizedOf (ix .live)) h k .answer ≡ a → obeyed ix (find h k) .text ≡ searchLine (withLooks looks a)
   unfolding obeyed
   line e = ap (λ (a : Answer). searchLine (withLooks looks a)) e
 

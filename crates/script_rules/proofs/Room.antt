@@ -11,7 +11,7 @@ use lib.Dec.{eqb, ltb}
 use borrow.Author.Tests.{lt-ltb}
 use Rattle.slots.specs.Words.{null, pick, place, next, cell, nameOf, hashPart, keyPart}
 use Rattle.slots.specs.Answers.{Answer, Value, none, some}
-use Rattle.index_rules.specs.Live.{Live, fits, firstOf}
+use Rattle.index_rules.specs.Live.{Live, unsizedOf, fits, firstOf}
 use Rattle.index_rules.specs.Index.{Index, fitsIndex, lengthOf}
 use Rattle.index_rules.specs.Find.{finds}
 use Rattle.index_rules.specs.Insert.{inserts}
@@ -118,7 +118,7 @@ pub answer-short : (ix : Index) (c : Command) → length (obeyed ix c .text) ≤
 unfolding obeyed
 answer-short ix (insert h k p) = omega (arith, told-short slotText (inserts ix h k p .answer) (omega arith))
 answer-short ix (remove h k) = omega (arith, told-short goneText (removes ix h k .answer) (omega arith))
-answer-short ix (find h k) = omega (arith, search-short (counted (finds (ix .live) h k)))
+answer-short ix (find h k) = omega (arith, search-short (counted (finds (unsizedOf (ix .live)) h k)))
 answer-short ix (rollback m) = omega (arith, told-short backText (rolls ix m .answer) (omega arith))
 answer-short ix mark = marking-short ix
 answer-short ix list = listing-short (ix .live)

@@ -4,7 +4,7 @@ use Prim.Native.Nat.{ℕ, zero, suc}
 use lib.Dec.{eqb, ltb}
 use Rattle.slots.specs.Words.{null, pick, place, next, cell, nameOf, hashPart, keyPart}
 use Rattle.slots.specs.Answers.{Answer, Value, none, some}
-use Rattle.index_rules.specs.Live.{Live, fits, firstOf}
+use Rattle.index_rules.specs.Live.{Live, unsizedOf, fits, firstOf}
 use Rattle.index_rules.specs.Find.{finds}
 use Rattle.index_rules.specs.Index.{Index, Outcome, fitsIndex, lengthOf}
 use Rattle.index_rules.specs.Insert.{inserts}
@@ -91,7 +91,7 @@ saying word o = record { text = told word (o .answer); left = o .left }
 unfoldable pub obeyed : Index → Command → Said
 obeyed ix (insert h k p) = saying slotText (inserts ix h k p)
 obeyed ix (remove h k) = saying goneText (removes ix h k)
-obeyed ix (find h k) = record { text = searchLine (counted (finds (ix .live) h k)); left = ix }
+obeyed ix (find h k) = record { text = searchLine (counted (finds (unsizedOf (ix .live)) h k)); left = ix }
 obeyed ix (rollback m) = saying backText (rolls ix m)
 obeyed ix mark = record { text = marking ix; left = ix }
 obeyed ix list = record { text = listing (ix .live); left = ix }

@@ -4,7 +4,7 @@ use mathlib.Core.Logic.{_≢_, _↔_}
 use mathlib.Core.List.{List, [], _∷_, _++_}
 use Prim.Native.Nat.{ℕ, _+_, _^_, _<_, _≤_}
 use lib.ListN.{length, take}
-use Rattle.index_rules.specs.Live.{Live, Fit, countOf}
+use Rattle.index_rules.specs.Live.{Live, unsizedOf, Fit, countOf}
 use Rattle.index_rules.specs.Index.{Index}
 use Rattle.index_rules.specs.Sound.{Sound}
 use Rattle.slots.specs.Answers.{given, nothing, refused}
@@ -42,13 +42,13 @@ pub record Calls (chunk : List ℕ) (line : Line) (ix : Index) (buffer : List �
 -- "The script program's `?` prints the number last on its line": the slot and the looks, that there is none and the looks, 9 and the looks;
 -- 1 is answered before anything is looked at.
 pub record Asks (ix : Index) (h k : ℕ) : Type 0 where
-  pub at : (slot : ℕ) → finds (ix .live) h k .answer ≡ given slot
-      → obeyed ix (find h k) .text ≡ atText ++ (decimal slot ++ (space ∷ (decimal (length (finds (ix .live) h k .looks)) ++ (newline ∷ []))))
-  pub none : finds (ix .live) h k .answer ≡ nothing
-      → obeyed ix (find h k) .text ≡ noneText ++ (space ∷ (decimal (length (finds (ix .live) h k .looks)) ++ (newline ∷ [])))
-  pub nine : finds (ix .live) h k .answer ≡ refused 9
-      → obeyed ix (find h k) .text ≡ noText ++ (decimal 9 ++ (space ∷ (decimal (length (finds (ix .live) h k .looks)) ++ (newline ∷ []))))
-  pub one : finds (ix .live) h k .answer ≡ refused 1 → obeyed ix (find h k) .text ≡ noText ++ (decimal 1 ++ (newline ∷ []))
+  pub at : (slot : ℕ) → finds (unsizedOf (ix .live)) h k .answer ≡ given slot
+      → obeyed ix (find h k) .text ≡ atText ++ (decimal slot ++ (space ∷ (decimal (length (finds (unsizedOf (ix .live)) h k .looks)) ++ (newline ∷ []))))
+  pub none : finds (unsizedOf (ix .live)) h k .answer ≡ nothing
+      → obeyed ix (find h k) .text ≡ noneText ++ (space ∷ (decimal (length (finds (unsizedOf (ix .live)) h k .looks)) ++ (newline ∷ [])))
+  pub nine : finds (unsizedOf (ix .live)) h k .answer ≡ refused 9
+      → obeyed ix (find h k) .text ≡ noText ++ (decimal 9 ++ (space ∷ (decimal (length (finds (unsizedOf (ix .live)) h k .looks)) ++ (newline ∷ []))))
+  pub one : finds (unsizedOf (ix .live)) h k .answer ≡ refused 1 → obeyed ix (find h k) .text ≡ noText ++ (decimal 1 ++ (newline ∷ []))
   pub left : obeyed ix (find h k) .left ≡ ix
 
 pub record Claims : Type 0 where

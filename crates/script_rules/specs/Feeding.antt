@@ -54,8 +54,8 @@ pub record Turn : Type 0 where
   pub paper : Paper
 
 -- A lent index and a lent buffer, written so far.
-abbrev pub lentTurn : List ℕ → List ℕ → List ℕ → List ℕ → List ℕ → ℕ → Turn
-lentTurn names cells head lines out at = record { index = lent names cells head lines; paper = lentPaper out at }
+abbrev pub lentTurn : List ℕ → List ℕ → List ℕ → List ℕ → List ℕ → List ℕ → ℕ → Turn
+lentTurn names cells head sizes lines out at = record { index = lent names cells head sizes lines; paper = lentPaper out at }
 
 abbrev pub performed : Index → Paper → Command → Turn
 performed ix p c = let s = obeyed ix c in record { index = s .left; paper = typed p (s .text) }
@@ -67,8 +67,8 @@ pub record Desk : Type 0 where
   pub paper : Paper
 
 -- The desk that a line, a lent index and a lent buffer, written so far, are.
-abbrev pub lentDesk : Line → List ℕ → List ℕ → List ℕ → List ℕ → List ℕ → ℕ → Desk
-lentDesk line names cells head lines out at = record { line = line; index = lent names cells head lines; paper = lentPaper out at }
+abbrev pub lentDesk : Line → List ℕ → List ℕ → List ℕ → List ℕ → List ℕ → List ℕ → ℕ → Desk
+lentDesk line names cells head sizes lines out at = record { line = line; index = lent names cells head sizes lines; paper = lentPaper out at }
 
 -- The line is answered, and the next one begins.
 unfoldable pub answered : Desk → Desk

@@ -17,7 +17,7 @@ use Rattle.tree_rules.specs.Find.{slotsOf}
 
 -- The slots of the set, as a live tree has them.
 abbrev pub slotted : Set → Live
-slotted s = record { names = s .names; cells = s .cells; head = [] }
+slotted s = record { names = s .names; cells = s .cells; head = []; sizes = [] }
 
 -- There is a bin i of table k.
 pub record Place (s : Set) (k i : ℕ) : Type 0 where

@@ -1,7 +1,7 @@
 -- The words of a slot: what a field is, what a read gives and what a write leaves.
 use mathlib.Core.List.{List}
 use mathlib.Core.Bool.{Bool, true, false}
-use Prim.Native.Nat.{ℕ, _+_, _*_}
+use Prim.Native.Nat.{ℕ, _+_, _*_, _%_}
 use lib.ListN.{length, getD, set}
 use lib.Dec.{leb}
 
@@ -109,3 +109,7 @@ rename l i f v = store parts l i f v
 -- All the words of slot i are there, w to a slot.
 unfoldable pub roomy : ℕ → List ℕ → ℕ → Bool
 roomy w l i = leb (w * i + w) (length l)
+
+-- A sum of words of 32 bits: past the last it begins again at 0.
+unfoldable pub sum : ℕ → ℕ → ℕ
+sum m n = (m + n) % 4294967296

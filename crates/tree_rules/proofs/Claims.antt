@@ -1,23 +1,29 @@
 -- Every claim of the crate holds: the laws of the other files, put together.
+use mathlib.Core.Path.{_≡_, ap, _∙_}
 use mathlib.Core.List.{List}
 use Prim.Native.Nat.{ℕ, _+_, _*_, _^_, _≤_}
+use native.Mathlib.Omega.{arith}
 use native.Mathlib.Nat.{le-trans}
 use lib.Pow.{pow-mono}
-use lib.ListN.{length}
-use Rattle.slots.specs.Words.{null}
+use lib.ListN.{length, getD}
+use Rattle.slots.specs.Words.{null, nameOf, hashPart, keyPart}
+use Rattle.slots.specs.Answers.{some}
 use Rattle.tree_rules.specs.Find.{slotsOf, found}
-use Rattle.tree_rules.specs.Claims.{Finds, Rules, Chains, Claims, Shallow}
+use Rattle.tree_rules.specs.Claims.{Finds, Rules, Chains, Claims, Shallow, Weighs}
 use Rattle.tree_rules.specs.Tree.{Tree, slots, Rooted, Coloured, Level, height}
 use Rattle.tree_rules.proofs.Height.{not-deep, looks-most}
 use Rattle.tree_rules.proofs.Found.{lost-nine, nine-lost, only-nine, here-given, given-here, missed-nothing, nothing-missed}
 use Rattle.tree_rules.proofs.Deciding.{look-claims}
 use Rattle.tree_rules.proofs.Looks.{tree-looks}
 use Rattle.tree_rules.proofs.Checking.{test-claims, check-claims}
-use Rattle.tree_rules.proofs.Reaching.{reached-rooted, rooted-reached, rooted-unique}
+use Rattle.tree_rules.proofs.Reaching.{reached-rooted, rooted-reached, rooted-unique, rooted-most}
 use Rattle.tree_rules.proofs.Chaining.{chained-chain, chain-chained, chain-once, chain-unique}
 use Rattle.tree_rules.proofs.Rising.{rises-rising}
 use Rattle.tree_rules.proofs.Colouring.{coloured-coloured}
 use Rattle.tree_rules.proofs.Levelling.{level-level}
+use Rattle.tree_rules.specs.Ranks.{kthFrom, rankFrom}
+use Rattle.tree_rules.proofs.Adding.{sizeIn-none, sized-adds, adds-sized}
+use Rattle.tree_rules.proofs.Positions.{kth-slot, rank-of}
 use Rattle.tree_rules.proofs.Sizing.{tree-size, obeyed-spent}
 
 search-claims : (names cells : List ℕ) (root hash key : ℕ) → Finds names cells root hash key
@@ -66,5 +72,18 @@ looks-squared names cells root hash key {t} r c l = le-trans (pow-mono (found-mo
 shallow-claims : (names cells : List ℕ) (root hash key : ℕ) (t : Tree) → Shallow names cells root hash key t
 shallow-claims names cells root hash key t = record { height-most = not-deep t; looks-most = found-most names cells root hash key }
 
+weigh-claims : (n : ℕ) (names cells sizes : List ℕ) (few : n ≤ null) (long : length sizes ≡ n) (root : ℕ) (t : Tree) → Weighs n names cells sizes few long root t
+weigh-claims n names cells sizes few long root t =
+    record {
+      found = λ h. (λ z. (sized-adds small t (h .once) z, λ k e. z k ∙ sizeIn-none k t e), λ a. adds-sized small t (h .once) (a .0) (a .1));
+      kth = λ h z k l. ap (λ (i : ℕ). kthFrom n cells sizes i k) (h .from) ∙ kth-slot cells sizes small n k (h .hangs) (sized-adds small t (h .once) z) (rooted-most n cells few root h) l;
+      rank = λ h z up k l. (let x = getD (slots t) k null in
+          ap (λ (i : ℕ). rankFrom n names cells sizes i (nameOf names x hashPart) (nameOf names x keyPart) 0) (h .from)
+          ∙ rank-of names cells sizes small n k 0 few (h .hangs) (sized-adds small t (h .once) z) up (rooted-most n cells few root h) l (omega (arith, rooted-most n cells few root h)) ∙ ap some (omega arith));
+    }
+  where
+    small : length sizes ≤ null
+    small = omega arith
+
 pub claims : Claims
-claims = record { looks = look-claims; finds = search-claims; tests = test-claims; checks = check-claims; rules = rule-claims; chains = chain-claims; shallow = shallow-claims }
+claims = record { looks = look-claims; finds = search-claims; tests = test-claims; checks = check-claims; rules = rule-claims; chains = chain-claims; shallow = shallow-claims; weighs = weigh-claims }

@@ -13,13 +13,13 @@ use Rattle.tree_rules.specs.Tree.{times}
 use Rattle.tree_rules.specs.Chain.{tally}
 
 -- Whether k is i, as a number.
-abbrev hit : ℕ → ℕ → ℕ
+abbrev pub hit : ℕ → ℕ → ℕ
 hit k i = pick (eqb k i) 1 0
 
-hit-same : {k i : ℕ} → k ≡ i → hit k i ≡ 1
+pub hit-same : {k i : ℕ} → k ≡ i → hit k i ≡ 1
 hit-same e = pick-eq 1 0 e
 
-hit-other : {k i : ℕ} → k ≢ i → hit k i ≡ 0
+pub hit-other : {k i : ℕ} → k ≢ i → hit k i ≡ 0
 hit-other d = pick-ne 1 0 d
 
 pub times-append : (k : ℕ) (a b : List ℕ) → times k (a ++ b) ≡ times k a + times k b

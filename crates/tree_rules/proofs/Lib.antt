@@ -15,4 +15,7 @@ pub mod Rising
 pub mod Colouring
 pub mod Levelling
 pub mod Sizing
+pub mod Order
+pub mod Adding
+pub mod Positions
 pub mod Claims

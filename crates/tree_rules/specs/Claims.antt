@@ -4,8 +4,8 @@ use mathlib.Core.Logic.{_≢_, _↔_}
 use mathlib.Core.List.{List}
 use mathlib.Core.Bool.{true, false}
 use Prim.Native.Nat.{ℕ, _+_, _-_, _*_, _^_, _<_, _≤_}
-use lib.ListN.{length}
-use Rattle.slots.specs.Words.{null, parent, left, right, prev, next}
+use lib.ListN.{length, getD}
+use Rattle.slots.specs.Words.{null, parent, left, right, prev, next, nameOf, hashPart, keyPart}
 use Rattle.slots.specs.Answers.{some, given, nothing, refused}
 use Rattle.tree_rules.specs.Find.{here, on, decided, slotsOf, found, Follows, Lost, Here, Missed}
 use Rattle.tree_rules.specs.Looks.{LooksAt}
@@ -13,6 +13,8 @@ use Rattle.tree_rules.specs.Check.{test, firstFailing, passed, failed, s
 use Rattle.tree_rules.specs.Tree.{Tree, slots, times, Rooted, Rising, Coloured, Level, Shaped, height}
 use Rattle.tree_rules.specs.Rules.{reached, rises, coloured, level, obeyed, treeSize}
 use Rattle.tree_rules.specs.Chain.{Chain, chained}
+use Rattle.tree_rules.specs.Sizes.{sizeWord, SizedBy, Adds}
+use Rattle.tree_rules.specs.Ranks.{kthFrom, rankFrom}
 
 -- "Find is find_tree_node": what a look at a slot says, clause by clause. `at` and `own` are the slot's hash and key, l and r its children.
 pub record Looks (at own l r hash key : ℕ) : Type 0 where
@@ -92,6 +94,15 @@ pub record Shallow (names cells : List ℕ) (root hash key : ℕ) (t : Tree) : T
   pub height-most : Coloured t → Level t → 2 ^ height t ≤ (length (slots t) + 1) * (length (slots t) + 1)
   pub looks-most : Rooted (slotsOf names) cells root t → length (found names cells root hash key .looks) ≤ height t
 
+-- The stored sizes of a tree over n slots.
+pub record Weighs (n : ℕ) (names cells sizes : List ℕ) (few : n ≤ null) (long : length sizes ≡ n) (root : ℕ) (t : Tree) : Type 0 where
+  -- what one compare a slot finds out: each slot of the tree has one more than its two children together, and every other slot has 0
+  pub found : Rooted n cells root t → SizedBy sizes t ↔ (Adds sizes t × ((k : ℕ) → times k (slots t) ≡ 0 → sizeWord sizes k ≡ 0))
+  -- the way down to a position finds the k-th of the slots in order, and the way down to its pair finds k
+  pub kth : Rooted n cells root t → SizedBy sizes t → (k : ℕ) → k < length (slots t) → kthFrom n cells sizes root k ≡ getD (slots t) k null
+  pub rank : Rooted n cells root t → SizedBy sizes t → Rising names (slots t) → (k : ℕ) → k < length (slots t)
+      → rankFrom n names cells sizes root (nameOf names (getD (slots t) k null) hashPart) (nameOf names (getD (slots t) k null) keyPart) 0 ≡ some k
+
 pub record Claims : Type 0 where
   pub looks : (at own l r hash key : ℕ) → Looks at own l r hash key
   pub finds : (names cells : List ℕ) (root hash key : ℕ) → Finds names cells root hash key
@@ -100,3 +111,4 @@ pub record Claims : Type 0 where
   pub rules : (names cells : List ℕ) (few : slotsOf names ≤ null) (ends : length cells ≤ 7 * null) (root : ℕ) → Rules names cells few ends root
   pub chains : (n : ℕ) (cells : List ℕ) (few : n ≤ null) (first : ℕ) → Chains n cells few first
   pub shallow : (names cells : List ℕ) (root hash key : ℕ) (t : Tree) → Shallow names cells root hash key t
+  pub weighs : (n : ℕ) (names cells sizes : List ℕ) (few : n ≤ null) (long : length sizes ≡ n) (root : ℕ) (t : Tree) → Weighs n names cells sizes few long root t

@@ -4,4 +4,6 @@ pub mod Tree
 pub mod Looks
 pub mod Rules
 pub mod Chain
+pub mod Sizes
+pub mod Ranks
 pub mod Claims

@@ -54,7 +54,7 @@ module _ (a b : List ℕ) where
       unfolding sameWords
       same-on e = rw (from a k h, from b k (omega arith), eq-eqb _ _ e)
 
--- The four slices one after another.
+-- The five slices one after another.
 module _ (a b : Index) where
   yes-index : sameIndex a b ≡ true → a ≡ b
   unfolding sameIndex
@@ -62,17 +62,19 @@ module _ (a b : Index) where
       let t = both (sameWords (a .live .names) (b .live .names)) _ e in
       let u = both (sameWords (a .live .cells) (b .live .cells)) _ (t .1) in
       let v = both (sameWords (a .live .head) (b .live .head)) _ (u .1) in
+      let w = both (sameWords (a .live .sizes) (b .live .sizes)) _ (v .1) in
       let n = yes-same (a .live .names) (b .live .names) (t .0) in
       let c = yes-same (a .live .cells) (b .live .cells) (u .0) in
       let h = yes-same (a .live .head) (b .live .head) (v .0) in
-      let l = yes-same (a .lines) (b .lines) (v .1) in
-      let all : lent (a .live .names) (a .live .cells) (a .live .head) (a .lines) ≡ lent (b .live .names) (b .live .cells) (b .live .head) (b .lines) =
-      rw (n, c, h, l) in
+      let s = yes-same (a .live .sizes) (b .live .sizes) (w .0) in
+      let l = yes-same (a .lines) (b .lines) (w .1) in
+      let all : lent (a .live .names) (a .live .cells) (a .live .head) (a .live .sizes) (a .lines) ≡ lent (b .live .names) (b .live .cells) (b .live .head) (b .live .sizes) (b .lines) =
+      rw (n, c, h, s, l) in
       all
 
 index-self : (a : Index) → sameIndex a a ≡ true
 unfolding sameIndex
-index-self a = rw (same-self (a .live .names), same-self (a .live .cells), same-self (a .live .head)) (same-self (a .lines))
+index-self a = rw (same-self (a .live .names), same-self (a .live .cells), same-self (a .live .head), same-self (a .live .sizes)) (same-self (a .lines))
 
 pub same-indexes : (a b : Index) → (sameIndex a b ≡ true) ↔ (a ≡ b)
 same-indexes a b = (yes-index a b, λ e. ap (sameIndex a) (sym e) ∙ index-self a)

@@ -15,4 +15,4 @@ sameWords (x ∷ a) (y ∷ b) = eqb x y and sameWords a b
 unfoldable pub sameIndex : Index → Index → Bool
 sameIndex a b =
     sameWords (a .live .names) (b .live .names) and sameWords (a .live .cells) (b .live .cells)
-    and sameWords (a .live .head) (b .live .head) and sameWords (a .lines) (b .lines)
+    and sameWords (a .live .head) (b .live .head) and sameWords (a .live .sizes) (b .live .sizes) and sameWords (a .lines) (b .lines)

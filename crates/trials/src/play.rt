@@ -45,18 +45,21 @@ fn feed_first(
     names: &mut [u64],
     cells: &mut [u32],
     head: &mut [u32],
+    sizes: &mut [u32],
     lines: &mut [u64],
     out: &mut [u8],
 ) -> Fed
-    ensures { λ r. ⌜ fedOf r (lent (now (names .exit)) (now (cells .exit)) (now (head .exit)) (now (lines .exit))) (now (out .exit))
+    ensures { λ r. ⌜ fedOf r
+        (lent (now (names .exit)) (now (cells .exit)) (now (head .exit)) (now (sizes .exit)) (now (lines .exit))) (now (out .exit))
         ≡ feeds (take cut (now (rest .entry)))
-        (lentDesk (lineOf line) (now (names .entry)) (now (cells .entry)) (now (head .entry)) (now (lines .entry)) (now (out .entry)) 0) ⌝ }
+        (lentDesk (lineOf line) (now (names .entry)) (now (cells .entry)) (now (head .entry)) (now (sizes .entry))
+        (now (lines .entry)) (now (out .entry)) 0) ⌝ }
     ensures bounds { λ r. ⌜ (r .written ≤ length (now (out .exit))) × (r .taken ≤ length (now (rest .entry))) ⌝ }
 {
     if rest.len() <= cut {
-        return feed(line, rest, names, cells, head, lines, out);
+        return feed(line, rest, names, cells, head, sizes, lines, out);
     }
-    feed(line, &rest[..cut], names, cells, head, lines, out)
+    feed(line, &rest[..cut], names, cells, head, sizes, lines, out)
 }
 
 // The whole input, in pieces of so many bytes, up to the first answer that is not as expected.
@@ -67,18 +70,31 @@ pub fn play(
     names: &mut [u64],
     cells: &mut [u32],
     head: &mut [u32],
+    sizes: &mut [u32],
     lines: &mut [u64],
     out: &mut [u8],
 ) -> Met
-    ensures { λ r. ⌜ played r (lent (now (names .exit)) (now (cells .exit)) (now (head .exit)) (now (lines .exit))) (now (out .exit))
+    ensures { λ r. ⌜ played r
+        (lent (now (names .exit)) (now (cells .exit)) (now (head .exit)) (now (sizes .exit)) (now (lines .exit))) (now (out .exit))
         ≡ playing cut (now (expected .entry)) (now (input .entry))
-        (lent (now (names .entry)) (now (cells .entry)) (now (head .entry)) (now (lines .entry))) (now (out .entry)) ⌝ }
+        (lent (now (names .entry)) (now (cells .entry)) (now (head .entry)) (now (sizes .entry)) (now (lines .entry)))
+        (now (out .entry)) ⌝ }
 {
     let mut kept = blank();
     let mut at = 0;
     let mut said = 0;
     while at < input.len() {
-        let fed = feed_first(kept, &input[at..], cut, names, cells, head, lines, out);
+        let fed = feed_first(
+            kept,
+            &input[at..],
+            cut,
+            names,
+            cells,
+            head,
+            sizes,
+            lines,
+            out,
+        );
         let taken = fed.taken;
         let written = fed.written;
         let met = agrees(expected, said, &out[..written]);
@@ -96,7 +112,7 @@ pub fn play(
         said = met.at;
         at += taken;
     }
-    let last = finish(kept, names, cells, head, lines, out);
+    let last = finish(kept, names, cells, head, sizes, lines, out);
     let written = last.written;
     agrees(expected, said, &out[..written])
 }

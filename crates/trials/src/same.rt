@@ -20,7 +20,7 @@ pub fn same_names(a: &[u64], b: &[u64]) -> bool
     true
 }
 
-// The cells of two trees, or their headers.
+// The cells of two trees, their headers, or their sizes.
 fn same_cells(a: &[u32], b: &[u32]) -> bool
     ensures { λ r. ⌜ r ≡ sameWords (now (a .entry)) (now (b .entry)) ⌝ }
 {
@@ -42,17 +42,21 @@ pub fn same_index(
     names: &[u64],
     cells: &[u32],
     head: &[u32],
+    sizes: &[u32],
     lines: &[u64],
     oldnames: &[u64],
     oldcells: &[u32],
     oldhead: &[u32],
+    oldsizes: &[u32],
     oldlines: &[u64],
 ) -> bool
-    ensures { λ r. ⌜ r ≡ sameIndex (lent (now (names .entry)) (now (cells .entry)) (now (head .entry)) (now (lines .entry)))
-        (lent (now (oldnames .entry)) (now (oldcells .entry)) (now (oldhead .entry)) (now (oldlines .entry))) ⌝ }
+    ensures { λ r. ⌜ r
+        ≡ sameIndex (lent (now (names .entry)) (now (cells .entry)) (now (head .entry)) (now (sizes .entry)) (now (lines .entry)))
+        (lent (now (oldnames .entry)) (now (oldcells .entry)) (now (oldhead .entry)) (now (oldsizes .entry)) (now (oldlines .entry))) ⌝ }
 {
     same_names(names, oldnames)
         && same_cells(cells, oldcells)
         && same_cells(head, oldhead)
+        && same_cells(sizes, oldsizes)
         && same_names(lines, oldlines)
 }

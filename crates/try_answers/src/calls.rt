@@ -39,6 +39,7 @@ fn try_insert(
     names: &mut [u64],
     cells: &mut [u32],
     head: &mut [u32],
+    sizes: &mut [u32],
     slots: u32,
 ) -> Held {
     let hash = number(text, at);
@@ -49,6 +50,7 @@ fn try_insert(
         names,
         cells,
         head,
+        sizes,
         &mut lines,
         hash.value as u64,
         key.value as u64,
@@ -63,6 +65,7 @@ fn try_remove(
     names: &mut [u64],
     cells: &mut [u32],
     head: &mut [u32],
+    sizes: &mut [u32],
     slots: u32,
 ) -> Held {
     let hash = number(text, at);
@@ -72,6 +75,7 @@ fn try_remove(
         names,
         cells,
         head,
+        sizes,
         &mut lines,
         hash.value as u64,
         key.value as u64,
@@ -148,13 +152,14 @@ pub fn line(
     names: &mut [u64],
     cells: &mut [u32],
     head: &mut [u32; 3],
+    sizes: &mut [u32],
     slots: u32,
 ) -> Held {
     if kind == 1 {
-        return try_insert(text, at, names, cells, head, slots);
+        return try_insert(text, at, names, cells, head, sizes, slots);
     }
     if kind == 2 {
-        return try_remove(text, at, names, cells, head, slots);
+        return try_remove(text, at, names, cells, head, sizes, slots);
     }
     if kind == 3 {
         return try_find(text, at, names, cells, head, slots);

@@ -18,10 +18,17 @@ struct Seen {
 }
 
 // The lines of a tree of so many slots. No tree of the list has as many lines as turns.
-fn lines(text: &[u8], from: usize, names: &mut [u64], cells: &mut [u32], slots: u32) -> Seen {
+fn lines(
+    text: &[u8],
+    from: usize,
+    names: &mut [u64],
+    cells: &mut [u32],
+    sizes: &mut [u32],
+    slots: u32,
+) -> Seen {
     let mut head = [0u32; 3];
     let mut journal = [0u64; 1];
-    fresh(names, cells, &mut head, &mut journal);
+    fresh(names, cells, &mut head, sizes, &mut journal);
     let mut at = from;
     let mut count: u32 = 0;
     let mut wrong: u32 = 0;
@@ -43,7 +50,16 @@ fn lines(text: &[u8], from: usize, names: &mut [u64], cells: &mut [u32], slots: 
                 wrong,
             };
         }
-        let held = line(text, kind.value, kind.at, names, cells, &mut head, slots);
+        let held = line(
+            text,
+            kind.value,
+            kind.at,
+            names,
+            cells,
+            &mut head,
+            sizes,
+            slots,
+        );
         at = held.at;
         count = std::num::wrapping_add_u32(count, 1);
         wrong = std::num::wrapping_add_u32(wrong, one_if(held.wrong != 0));
@@ -56,7 +72,14 @@ fn lines(text: &[u8], from: usize, names: &mut [u64], cells: &mut [u32], slots: 
 }
 
 // The words of so many slots, out of those at hand, and the lines of their tree.
-fn cut(text: &[u8], at: usize, names: &mut [u64], cells: &mut [u32], slots: u32) -> Seen {
+fn cut(
+    text: &[u8],
+    at: usize,
+    names: &mut [u64],
+    cells: &mut [u32],
+    sizes: &mut [u32],
+    slots: u32,
+) -> Seen {
     let n = slots as usize;
     if names.len() < 2 * n {
         return Seen {
@@ -72,16 +95,38 @@ fn cut(text: &[u8], at: usize, names: &mut [u64], cells: &mut [u32], slots: u32)
             wrong: 1,
         };
     }
-    lines(text, at, &mut names[..2 * n], &mut cells[..7 * n], slots)
+    if sizes.len() < n {
+        return Seen {
+            at: text.len(),
+            lines: 1,
+            wrong: 1,
+        };
+    }
+    lines(
+        text,
+        at,
+        &mut names[..2 * n],
+        &mut cells[..7 * n],
+        &mut sizes[..n],
+        slots,
+    )
 }
 
 // A tree: the number of its slots, at most 16, then its lines.
 fn tree(text: &[u8], from: usize) -> Seen {
     let mut names = [0u64; 32];
     let mut cells = [0u32; 112];
+    let mut sizes = [0u32; 16];
     let kind = number(text, from);
     let read = number(text, kind.at);
-    cut(text, read.at, &mut names, &mut cells, read.value)
+    cut(
+        text,
+        read.at,
+        &mut names,
+        &mut cells,
+        &mut sizes,
+        read.value,
+    )
 }
 
 // Every tree of the list. It has fewer trees than turns.

@@ -88,20 +88,42 @@ fn join(cells: &mut [u32], p: u32) {
     }
 }
 
+// 1 if there is a slot at position q and it is p or comes below it, 0 if not: on either side as far as twice the children's distance.
+fn covers(p: u32, q: u32) -> u32 {
+    let far = std::num::wrapping_add_u32(reach(p), reach(p));
+    let near = q < std::num::wrapping_add_u32(p, far) && p < std::num::wrapping_add_u32(q, far);
+    if stands(q) && (q == p || near) {
+        return 1;
+    }
+    0
+}
+
+// How many slots are at p and below it.
+fn covered(p: u32) -> u32 {
+    let mut count: u32 = 0;
+    let mut q: u32 = 0;
+    while q < 64 {
+        count = std::num::wrapping_add_u32(count, covers(p, q));
+        q += 1;
+    }
+    count
+}
+
 // The slot of p, with its place in the tree if there is one at p.
-fn stand(names: &mut [u64], cells: &mut [u32], p: u32) {
+fn stand(names: &mut [u64], cells: &mut [u32], sizes: &mut [u32], p: u32) {
     if stands(p) {
         baptize(names, p);
         fill(cells, p);
         join(cells, p);
+        put(sizes, 0, slot_of(p), covered(p));
     }
 }
 
 // The tree, in an empty index.
-pub fn grow(names: &mut [u64], cells: &mut [u32]) {
+pub fn grow(names: &mut [u64], cells: &mut [u32], sizes: &mut [u32]) {
     let mut p: u32 = 0;
     while p < 64 {
-        stand(names, cells, p);
+        stand(names, cells, sizes, p);
         p += 1;
     }
 }

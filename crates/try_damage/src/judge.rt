@@ -1,4 +1,4 @@
-// A second judge of a tree of 64 slots, written from T1 to T7 and from nothing of the library but its reads of a word.
+// A second judge of a tree of 64 slots, written from T1 to T8 and from nothing of the library but its reads of a word.
 // It marks what it reaches, looks at every slot for every question, and climbs by parent links.
 use slots::BLACK;
 use slots::FREE;
@@ -36,6 +36,8 @@ const ORDERED: u32 = 4;
 const CALM: u32 = 5;
 
 const CHAINED: u32 = 7;
+
+const COUNTED: u32 = 8;
 
 // Word k of some words.
 fn word(words: &[u32], k: u32) -> u32 {
@@ -312,14 +314,56 @@ fn is_chained(cells: &[u32], counts: &[u32], i: u32) -> bool {
     word(counts, i) == used(cells, i) && (next == NULL || get(cells, next, PREV) == i)
 }
 
-// One question of slot i. The marks are those of T3 or the counts of T7; the other questions have none.
+// 1 if slot i is on the way from slot j up to the root, both counted, 0 if not.
+fn is_above(cells: &[u32], i: u32, j: u32) -> u32 {
+    let mut at = j;
+    let mut steps: u32 = 0;
+    while steps < SLOTS {
+        if at == i {
+            return 1;
+        }
+        if at == NULL {
+            return 0;
+        }
+        at = get(cells, at, PARENT);
+        steps += 1;
+    }
+    0
+}
+
+// 1 if slot j is used and at or below slot i, 0 if not.
+fn is_under(cells: &[u32], i: u32, j: u32) -> u32 {
+    if used(cells, j) == 0 {
+        return 0;
+    }
+    is_above(cells, i, j)
+}
+
+// How many used slots are at or below slot i.
+fn slots_under(cells: &[u32], i: u32) -> u32 {
+    let mut count: u32 = 0;
+    let mut j: u32 = 0;
+    while j < SLOTS {
+        count = sum(count, is_under(cells, i, j));
+        j += 1;
+    }
+    count
+}
+
+// T8 of slot i.
+fn is_counted(cells: &[u32], sizes: &[u32], i: u32) -> bool {
+    word(sizes, i) == slots_under(cells, i)
+}
+
+// One question of slot i. The marks are those of T3, the counts of T7 or the sizes of T8; the other questions have none.
 fn obeys(rule: u32, names: &[u64], cells: &[u32], root: u32, marks: &[u32], i: u32) -> bool {
     match rule {
         FINE => slot_fine(names, cells, i),
         REACHED => is_reached(cells, root, marks, i),
         ORDERED => ordered(names, cells, i),
         CALM => calm(cells, i),
-        _ => is_chained(cells, marks, i),
+        CHAINED => is_chained(cells, marks, i),
+        _ => is_counted(cells, marks, i),
     }
 }
 
@@ -362,9 +406,10 @@ fn is_chain(names: &[u64], cells: &[u32], first: u32) -> bool {
 
 // Whether the tree is sound. Each rule is asked only where those before it hold: T4 to T6 speak of every used slot, which by
 // T3 is every reached slot.
-pub fn judge(names: &[u64], cells: &[u32], head: &[u32]) -> bool {
+pub fn judge(names: &[u64], cells: &[u32], head: &[u32], sizes: &[u32]) -> bool {
     words_fine(names, cells, head)
         && is_tree(names, cells, word(head, ROOT))
         && is_balanced(names, cells, word(head, ROOT))
         && is_chain(names, cells, word(head, FIRST))
+        && all(COUNTED, names, cells, NULL, sizes)
 }

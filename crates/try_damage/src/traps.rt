@@ -18,13 +18,14 @@ use trials::print::answer;
 use trials::print::say;
 use trials::print::verdict;
 
-// Asks both checks of a tree whose root is slot 0, at the front of the chain, and whose four slots are used.
+// Asks both checks of a tree whose root is slot 0, at the front of the chain, and whose four slots are used and have 4, 2, 1 and 1
+// pairs in their subtrees.
 fn ask(label: &[u8], names: &[u64], cells: &[u32]) {
     let head = [0u32, 0, 4];
     say(label);
     let checked = check(names, cells, &head);
     answer(b": check ", b"passes", checked.answer());
-    let soundness = sound(names, cells, &head);
+    let soundness = sound(names, cells, &head, &[4u32, 2, 1, 1]);
     verdict(b", sound ", b"no ", soundness.answer());
     say(b"\n");
 }

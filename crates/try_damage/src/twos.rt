@@ -143,6 +143,7 @@ fn try_two(
     names: [u64; 128],
     cells: [u32; 448],
     head: [u32; 3],
+    sizes: [u32; 64],
     i: u32,
     j: u32,
     way: u32,
@@ -154,11 +155,17 @@ fn try_two(
     let mut cells_then = cells;
     let mut head_then = head;
     twist(&mut names_then, &mut cells_then, &mut head_then, i, j, way);
-    compare(t, &names_then, &cells_then, &head_then)
+    compare(t, &names_then, &cells_then, &head_then, &sizes)
 }
 
 // Every two slots, in both orders, damaged in a way.
-fn try_twos(names: [u64; 128], cells: [u32; 448], head: [u32; 3], way: u32) -> Tally {
+fn try_twos(
+    names: [u64; 128],
+    cells: [u32; 448],
+    head: [u32; 3],
+    sizes: [u32; 64],
+    way: u32,
+) -> Tally {
     let mut t = Tally {
         tried: 0,
         yes: 0,
@@ -168,7 +175,7 @@ fn try_twos(names: [u64; 128], cells: [u32; 448], head: [u32; 3], way: u32) -> T
     };
     let mut trial: u32 = 0;
     while trial < 4096 {
-        t = try_two(t, names, cells, head, trial / 64, trial % 64, way);
+        t = try_two(t, names, cells, head, sizes, trial / 64, trial % 64, way);
         trial += 1;
     }
     t
@@ -189,26 +196,30 @@ pub fn run() {
     let mut names = [0u64; 128];
     let mut cells = [0u32; 448];
     let mut head = [0u32; 3];
+    let mut sizes = [0u32; 64];
     let mut lines = [0u64; 1];
-    fresh(&mut names, &mut cells, &mut head, &mut lines);
-    grow(&mut names, &mut cells);
+    fresh(&mut names, &mut cells, &mut head, &mut sizes, &mut lines);
+    grow(&mut names, &mut cells, &mut sizes);
     let ends = chain(&mut cells);
     head = [slot_of(MIDDLE), ends.first, 47];
-    report(b"two pairs exchanged", try_twos(names, cells, head, PAIRS));
+    report(
+        b"two pairs exchanged",
+        try_twos(names, cells, head, sizes, PAIRS),
+    );
     report(
         b"two states exchanged",
-        try_twos(names, cells, head, STATES),
+        try_twos(names, cells, head, sizes, STATES),
     );
     report(
         b"two colours changed",
-        try_twos(names, cells, head, COLOURS),
+        try_twos(names, cells, head, sizes, COLOURS),
     );
     report(
         b"a slot moved in the chain",
-        try_twos(names, cells, head, CHAIN),
+        try_twos(names, cells, head, sizes, CHAIN),
     );
     report(
         b"a slot hung elsewhere with all below it",
-        try_twos(names, cells, head, SUBTREE),
+        try_twos(names, cells, head, sizes, SUBTREE),
     );
 }

@@ -8,7 +8,6 @@ use index::insert::insert;
 use index::remove::Removed;
 use index::remove::remove;
 use index::replace::replace;
-use index::rollback::RolledBack;
 use index::rollback::rollback;
 use index::sound::Soundness;
 use index::sound::sound;
@@ -32,21 +31,9 @@ fn print(label: &[u8], word: &[u8], told: Answer) {
     say(b"\n");
 }
 
-fn print_inserted(label: &[u8], inserted: Inserted) {
-    print(label, b"slot ", inserted.answer());
-}
-
-fn print_removed(label: &[u8], removed: Removed) {
-    print(label, b"gone ", removed.answer());
-}
-
-fn print_rolled(label: &[u8], rolled: RolledBack) {
-    print(label, b"back ", rolled.answer());
-}
-
 // Whether the tree is sound, and its count, since the answers alone do not say what is left.
-fn print_tree(label: &[u8], names: &[u64], cells: &[u32], head: &[u32]) {
-    match sound(names, cells, head) {
+fn print_tree(label: &[u8], names: &[u64], cells: &[u32], head: &[u32], sizes: &[u32]) {
+    match sound(names, cells, head, sizes) {
         Soundness::Yes => {
             line(label, b": sound, count ", get(head, 0, 2));
         }
@@ -56,17 +43,61 @@ fn print_tree(label: &[u8], names: &[u64], cells: &[u32], head: &[u32]) {
     }
 }
 
+// An insert of pair (0, key), and its answer.
+fn try_insert(
+    label: &[u8],
+    names: &mut [u64],
+    cells: &mut [u32],
+    head: &mut [u32],
+    sizes: &mut [u32],
+    lines: &mut [u64],
+    key: u64,
+    place: u32,
+) {
+    let inserted = insert(names, cells, head, sizes, lines, 0, key, place);
+    print(label, b"slot ", inserted.answer());
+}
+
+// A removal of pair (0, key), and its answer.
+fn try_remove(
+    label: &[u8],
+    names: &mut [u64],
+    cells: &mut [u32],
+    head: &mut [u32],
+    sizes: &mut [u32],
+    lines: &mut [u64],
+    key: u64,
+) {
+    let removed = remove(names, cells, head, sizes, lines, 0, key);
+    print(label, b"gone ", removed.answer());
+}
+
 // A replace of pair (0, key), and its answer.
 fn try_replace(
     label: &[u8],
     names: &mut [u64],
     cells: &mut [u32],
     head: &mut [u32],
+    sizes: &mut [u32],
     lines: &mut [u64],
     key: u64,
 ) {
-    let replaced = replace(names, cells, head, lines, 0, key, 1);
+    let replaced = replace(names, cells, head, sizes, lines, 0, key, 1);
     print(label, b"slot ", replaced.answer());
+}
+
+// A rollback, and its answer.
+fn try_rollback(
+    label: &[u8],
+    names: &mut [u64],
+    cells: &mut [u32],
+    head: &mut [u32],
+    sizes: &mut [u32],
+    lines: &mut [u64],
+    mark: u32,
+) {
+    let rolled = rollback(names, cells, head, sizes, lines, mark);
+    print(label, b"back ", rolled.answer());
 }
 
 // Ends a line with the journal's length and what a tree of one slot holds.
@@ -82,12 +113,13 @@ fn move_pair(
     names: &[u64],
     cells: &mut [u32],
     head: &[u32],
+    sizes: &[u32],
     lines: &mut [u64],
     key: u64,
     place: u32,
 ) {
     say(label);
-    let replaced = replace(names, cells, head, lines, 0, key, place);
+    let replaced = replace(names, cells, head, sizes, lines, 0, key, place);
     answer(b": ", b"slot ", replaced.answer());
     show(names, cells, head, lines);
 }
@@ -98,24 +130,41 @@ fn move_back(
     names: &mut [u64],
     cells: &mut [u32],
     head: &mut [u32],
+    sizes: &mut [u32],
     lines: &mut [u64],
     mark: u32,
 ) {
     say(label);
-    let rolled = rollback(names, cells, head, lines, mark);
+    let rolled = rollback(names, cells, head, sizes, lines, mark);
     answer(b": ", b"back ", rolled.answer());
     show(names, cells, head, lines);
 }
 
 // A pair that is not there, then there and with another place.
-fn move_in(names: &mut [u64], cells: &mut [u32], head: &mut [u32], lines: &mut [u64]) {
-    move_pair(b"capacity 1, replace 1", names, cells, head, lines, 1, 11);
-    insert(names, cells, head, lines, 0, 1, 10);
+fn move_in(
+    names: &mut [u64],
+    cells: &mut [u32],
+    head: &mut [u32],
+    sizes: &mut [u32],
+    lines: &mut [u64],
+) {
+    move_pair(
+        b"capacity 1, replace 1",
+        names,
+        cells,
+        head,
+        sizes,
+        lines,
+        1,
+        11,
+    );
+    insert(names, cells, head, sizes, lines, 0, 1, 10);
     move_pair(
         b"with 1 at place 10, replace 1",
         names,
         cells,
         head,
+        sizes,
         lines,
         1,
         NULL,
@@ -123,102 +172,158 @@ fn move_in(names: &mut [u64], cells: &mut [u32], head: &mut [u32], lines: &mut [
 }
 
 // The same place once more, and another.
-fn move_on(names: &[u64], cells: &mut [u32], head: &[u32], lines: &mut [u64]) {
-    move_pair(b"by the same place", names, cells, head, lines, 1, NULL);
-    move_pair(b"by place 0", names, cells, head, lines, 1, 0);
+fn move_on(names: &[u64], cells: &mut [u32], head: &[u32], sizes: &[u32], lines: &mut [u64]) {
+    move_pair(
+        b"by the same place",
+        names,
+        cells,
+        head,
+        sizes,
+        lines,
+        1,
+        NULL,
+    );
+    move_pair(b"by place 0", names, cells, head, sizes, lines, 1, 0);
 }
 
 // A pair that is there and one that is not, where no line is left.
-fn move_no_more(names: &[u64], cells: &mut [u32], head: &[u32], lines: &mut [u64]) {
-    move_pair(b"no line left, replace 1", names, cells, head, lines, 1, 7);
-    move_pair(b"no line left, replace 2", names, cells, head, lines, 2, 7);
+fn move_no_more(names: &[u64], cells: &mut [u32], head: &[u32], sizes: &[u32], lines: &mut [u64]) {
+    move_pair(
+        b"no line left, replace 1",
+        names,
+        cells,
+        head,
+        sizes,
+        lines,
+        1,
+        7,
+    );
+    move_pair(
+        b"no line left, replace 2",
+        names,
+        cells,
+        head,
+        sizes,
+        lines,
+        2,
+        7,
+    );
 }
 
 // All three in turn.
-fn move_about(names: &mut [u64], cells: &mut [u32], head: &mut [u32], lines: &mut [u64]) {
-    move_in(names, cells, head, lines);
-    move_on(names, cells, head, lines);
-    move_no_more(names, cells, head, lines);
+fn move_about(
+    names: &mut [u64],
+    cells: &mut [u32],
+    head: &mut [u32],
+    sizes: &mut [u32],
+    lines: &mut [u64],
+) {
+    move_in(names, cells, head, sizes, lines);
+    move_on(names, cells, head, sizes, lines);
+    move_no_more(names, cells, head, sizes, lines);
 }
 
 // The places of the one pair are taken back, the last first.
+fn move_home(
+    names: &mut [u64; 2],
+    cells: &mut [u32; 7],
+    head: &mut [u32; 3],
+    sizes: &mut [u32; 1],
+    lines: &mut [u64; 25],
+) {
+    move_back(b"rollback to 3", names, cells, head, sizes, lines, 3);
+    move_back(b"rollback to 2", names, cells, head, sizes, lines, 2);
+    move_back(b"rollback to 1", names, cells, head, sizes, lines, 1);
+    print_tree(b"the tree", names, cells, head, sizes);
+}
+
+// A journal of four lines: an insert, and three replaces.
 fn one_pair_moved() {
     let mut names = [0u64; 2];
     let mut cells = [0u32; 7];
     let mut head = [0u32; 3];
+    let mut sizes = [0u32; 1];
     let mut lines = [0u64; 25];
-    fresh(&mut names, &mut cells, &mut head, &mut lines);
-    move_about(&mut names, &mut cells, &mut head, &mut lines);
-    move_back(
-        b"rollback to 3",
-        &mut names,
-        &mut cells,
-        &mut head,
-        &mut lines,
-        3,
-    );
-    move_back(
-        b"rollback to 2",
-        &mut names,
-        &mut cells,
-        &mut head,
-        &mut lines,
-        2,
-    );
-    move_back(
-        b"rollback to 1",
-        &mut names,
-        &mut cells,
-        &mut head,
-        &mut lines,
-        1,
-    );
-    print_tree(b"the tree", &names, &cells, &head);
+    fresh(&mut names, &mut cells, &mut head, &mut sizes, &mut lines);
+    move_about(&mut names, &mut cells, &mut head, &mut sizes, &mut lines);
+    move_home(&mut names, &mut cells, &mut head, &mut sizes, &mut lines);
 }
 
-// The least capacity: one pair fills the tree, and a rollback has to free the slot before it can take the old pair back.
+// One pair fills the tree, and no other goes in before it is gone.
+fn fill_one(
+    names: &mut [u64; 2],
+    cells: &mut [u32; 7],
+    head: &mut [u32; 3],
+    sizes: &mut [u32; 1],
+    lines: &mut [u64; 25],
+) {
+    try_insert(
+        b"capacity 1, insert 1",
+        names,
+        cells,
+        head,
+        sizes,
+        lines,
+        1,
+        10,
+    );
+    try_insert(b"insert 1 again", names, cells, head, sizes, lines, 1, 11);
+    try_insert(b"insert 2", names, cells, head, sizes, lines, 2, 20);
+    try_remove(b"remove 2", names, cells, head, sizes, lines, 2);
+    try_remove(b"remove 1", names, cells, head, sizes, lines, 1);
+    try_insert(b"insert 2", names, cells, head, sizes, lines, 2, 20);
+}
+
+// A rollback has to free the slot before it can take the old pair back.
+fn back_to_one(
+    names: &mut [u64; 2],
+    cells: &mut [u32; 7],
+    head: &mut [u32; 3],
+    sizes: &mut [u32; 1],
+    lines: &mut [u64; 25],
+) {
+    try_rollback(b"rollback to 1", names, cells, head, sizes, lines, 1);
+    say(b"the tree");
+    say_entries(names, cells, head, 1);
+    say(b"\n");
+    try_remove(b"remove 2", names, cells, head, sizes, lines, 2);
+    print_tree(b"the tree", names, cells, head, sizes);
+}
+
+// The least capacity.
 fn one_slot() {
     let mut names = [0u64; 2];
     let mut cells = [0u32; 7];
     let mut head = [0u32; 3];
+    let mut sizes = [0u32; 1];
     let mut lines = [0u64; 25];
-    fresh(&mut names, &mut cells, &mut head, &mut lines);
-    print_inserted(
-        b"capacity 1, insert 1",
-        insert(&mut names, &mut cells, &mut head, &mut lines, 0, 1, 10),
+    fresh(&mut names, &mut cells, &mut head, &mut sizes, &mut lines);
+    fill_one(&mut names, &mut cells, &mut head, &mut sizes, &mut lines);
+    back_to_one(&mut names, &mut cells, &mut head, &mut sizes, &mut lines);
+}
+
+// Every call where there is no line to write.
+fn write_none(
+    names: &mut [u64; 2],
+    cells: &mut [u32; 7],
+    head: &mut [u32; 3],
+    sizes: &mut [u32; 1],
+    lines: &mut [u64; 1],
+) {
+    try_insert(
+        b"journal 0, insert 1",
+        names,
+        cells,
+        head,
+        sizes,
+        lines,
+        1,
+        10,
     );
-    print_inserted(
-        b"insert 1 again",
-        insert(&mut names, &mut cells, &mut head, &mut lines, 0, 1, 11),
-    );
-    print_inserted(
-        b"insert 2",
-        insert(&mut names, &mut cells, &mut head, &mut lines, 0, 2, 20),
-    );
-    print_removed(
-        b"remove 2",
-        remove(&mut names, &mut cells, &mut head, &mut lines, 0, 2),
-    );
-    print_removed(
-        b"remove 1",
-        remove(&mut names, &mut cells, &mut head, &mut lines, 0, 1),
-    );
-    print_inserted(
-        b"insert 2",
-        insert(&mut names, &mut cells, &mut head, &mut lines, 0, 2, 20),
-    );
-    print_rolled(
-        b"rollback to 1",
-        rollback(&mut names, &mut cells, &mut head, &mut lines, 1),
-    );
-    say(b"the tree");
-    say_entries(&names, &cells, &head, 1);
-    say(b"\n");
-    print_removed(
-        b"remove 2",
-        remove(&mut names, &mut cells, &mut head, &mut lines, 0, 2),
-    );
-    print_tree(b"the tree", &names, &cells, &head);
+    try_remove(b"remove 1", names, cells, head, sizes, lines, 1);
+    try_replace(b"replace 1", names, cells, head, sizes, lines, 1);
+    try_rollback(b"rollback to 0", names, cells, head, sizes, lines, 0);
+    try_rollback(b"rollback to 1", names, cells, head, sizes, lines, 1);
 }
 
 // The least journal: it is full from the start, and only a rollback to 0 is accepted.
@@ -226,32 +331,10 @@ fn no_line() {
     let mut names = [0u64; 2];
     let mut cells = [0u32; 7];
     let mut head = [0u32; 3];
+    let mut sizes = [0u32; 1];
     let mut lines = [0u64; 1];
-    fresh(&mut names, &mut cells, &mut head, &mut lines);
-    print_inserted(
-        b"journal 0, insert 1",
-        insert(&mut names, &mut cells, &mut head, &mut lines, 0, 1, 10),
-    );
-    print_removed(
-        b"remove 1",
-        remove(&mut names, &mut cells, &mut head, &mut lines, 0, 1),
-    );
-    try_replace(
-        b"replace 1",
-        &mut names,
-        &mut cells,
-        &mut head,
-        &mut lines,
-        1,
-    );
-    print_rolled(
-        b"rollback to 0",
-        rollback(&mut names, &mut cells, &mut head, &mut lines, 0),
-    );
-    print_rolled(
-        b"rollback to 1",
-        rollback(&mut names, &mut cells, &mut head, &mut lines, 1),
-    );
+    fresh(&mut names, &mut cells, &mut head, &mut sizes, &mut lines);
+    write_none(&mut names, &mut cells, &mut head, &mut sizes, &mut lines);
 }
 
 // The pair with number k: four keys to a hash.
@@ -267,9 +350,16 @@ fn reset(lines: &mut [u64]) {
 }
 
 // 1 if the insert of pair k was accepted, 0 if not.
-fn take(names: &mut [u64], cells: &mut [u32], head: &mut [u32], lines: &mut [u64], k: u32) -> u32 {
+fn take(
+    names: &mut [u64],
+    cells: &mut [u32],
+    head: &mut [u32],
+    sizes: &mut [u32],
+    lines: &mut [u64],
+    k: u32,
+) -> u32 {
     reset(lines);
-    match insert(names, cells, head, lines, hash_of(k), k as u64, k) {
+    match insert(names, cells, head, sizes, lines, hash_of(k), k as u64, k) {
         Inserted::At(_) => 1,
         _ => 0,
     }
@@ -280,22 +370,30 @@ fn drop_pair(
     names: &mut [u64],
     cells: &mut [u32],
     head: &mut [u32],
+    sizes: &mut [u32],
     lines: &mut [u64],
     k: u32,
 ) -> u32 {
     reset(lines);
-    match remove(names, cells, head, lines, hash_of(k), k as u64) {
+    match remove(names, cells, head, sizes, lines, hash_of(k), k as u64) {
         Removed::At(_) => 1,
         _ => 0,
     }
 }
 
 // Inserts the pairs, in steps of 1,103: how many were accepted.
-fn fill(names: &mut [u64], cells: &mut [u32], head: &mut [u32], lines: &mut [u64], n: u32) -> u32 {
+fn fill(
+    names: &mut [u64],
+    cells: &mut [u32],
+    head: &mut [u32],
+    sizes: &mut [u32],
+    lines: &mut [u64],
+    n: u32,
+) -> u32 {
     let mut count: u32 = 0;
     let mut i: u32 = 0;
     while i < n {
-        let one = take(names, cells, head, lines, i % 4096 * 1103 % 4096);
+        let one = take(names, cells, head, sizes, lines, i % 4096 * 1103 % 4096);
         count = std::num::wrapping_add_u32(count, one);
         i += 1;
     }
@@ -303,11 +401,18 @@ fn fill(names: &mut [u64], cells: &mut [u32], head: &mut [u32], lines: &mut [u64
 }
 
 // Removes the pairs, in steps of 2,731: how many were accepted.
-fn drain(names: &mut [u64], cells: &mut [u32], head: &mut [u32], lines: &mut [u64], n: u32) -> u32 {
+fn drain(
+    names: &mut [u64],
+    cells: &mut [u32],
+    head: &mut [u32],
+    sizes: &mut [u32],
+    lines: &mut [u64],
+    n: u32,
+) -> u32 {
     let mut count: u32 = 0;
     let mut i: u32 = 0;
     while i < n {
-        let one = drop_pair(names, cells, head, lines, i % 4096 * 2731 % 4096);
+        let one = drop_pair(names, cells, head, sizes, lines, i % 4096 * 2731 % 4096);
         count = std::num::wrapping_add_u32(count, one);
         i += 1;
     }
@@ -376,69 +481,74 @@ fn listed_pairs(names: &[u64], cells: &[u32], head: &[u32]) -> u32 {
     count
 }
 
+// The journal is filled up and emptied by a rollback.
+fn all_lines(
+    names: &mut [u64; 8192],
+    cells: &mut [u32; 28672],
+    head: &mut [u32; 3],
+    sizes: &mut [u32; 4096],
+    lines: &mut [u64; 6145],
+) {
+    let first = fill(names, cells, head, sizes, lines, 1024);
+    line(b"capacity 4096, journal 1024", b": accepted ", first);
+    try_insert(b"insert 5000", names, cells, head, sizes, lines, 5000, 1);
+    try_remove(b"remove 0", names, cells, head, sizes, lines, 0);
+    try_replace(b"replace 0", names, cells, head, sizes, lines, 0);
+    try_replace(b"replace 5000", names, cells, head, sizes, lines, 5000);
+    try_rollback(b"rollback to 0", names, cells, head, sizes, lines, 0);
+    print_tree(b"the tree", names, cells, head, sizes);
+}
+
+// The tree is filled up and emptied by removals.
+fn fill_and_drain(
+    names: &mut [u64; 8192],
+    cells: &mut [u32; 28672],
+    head: &mut [u32; 3],
+    sizes: &mut [u32; 4096],
+    lines: &mut [u64; 6145],
+) {
+    let filled = fill(names, cells, head, sizes, lines, 4096);
+    line(b"filled", b": accepted ", filled);
+    print_tree(b"the tree", names, cells, head, sizes);
+    try_insert(b"insert 5000", names, cells, head, sizes, lines, 5000, 1);
+    let drained = drain(names, cells, head, sizes, lines, 4096);
+    line(b"emptied in another order", b": accepted ", drained);
+    print_tree(b"the tree", names, cells, head, sizes);
+}
+
+// The last 1,024 removals are undone.
+fn undo_last(
+    names: &mut [u64; 8192],
+    cells: &mut [u32; 28672],
+    head: &mut [u32; 3],
+    sizes: &mut [u32; 4096],
+    lines: &mut [u64; 6145],
+) {
+    try_rollback(b"rollback to 0", names, cells, head, sizes, lines, 0);
+    print_tree(b"the tree", names, cells, head, sizes);
+    line(
+        b"pairs as at the mark",
+        b": ",
+        right_pairs(names, cells, head),
+    );
+    line(
+        b"neighbours listed as at the mark",
+        b": ",
+        listed_pairs(names, cells, head),
+    );
+}
+
 // The largest capacity and the largest journal, each filled up and emptied.
 fn all_slots() {
     let mut names = [0u64; 8192];
     let mut cells = [0u32; 28672];
     let mut head = [0u32; 3];
+    let mut sizes = [0u32; 4096];
     let mut lines = [0u64; 6145];
-    fresh(&mut names, &mut cells, &mut head, &mut lines);
-    let first = fill(&mut names, &mut cells, &mut head, &mut lines, 1024);
-    line(b"capacity 4096, journal 1024", b": accepted ", first);
-    print_inserted(
-        b"insert 5000",
-        insert(&mut names, &mut cells, &mut head, &mut lines, 0, 5000, 1),
-    );
-    print_removed(
-        b"remove 0",
-        remove(&mut names, &mut cells, &mut head, &mut lines, 0, 0),
-    );
-    try_replace(
-        b"replace 0",
-        &mut names,
-        &mut cells,
-        &mut head,
-        &mut lines,
-        0,
-    );
-    try_replace(
-        b"replace 5000",
-        &mut names,
-        &mut cells,
-        &mut head,
-        &mut lines,
-        5000,
-    );
-    print_rolled(
-        b"rollback to 0",
-        rollback(&mut names, &mut cells, &mut head, &mut lines, 0),
-    );
-    print_tree(b"the tree", &names, &cells, &head);
-    let filled = fill(&mut names, &mut cells, &mut head, &mut lines, 4096);
-    line(b"filled", b": accepted ", filled);
-    print_tree(b"the tree", &names, &cells, &head);
-    print_inserted(
-        b"insert 5000",
-        insert(&mut names, &mut cells, &mut head, &mut lines, 0, 5000, 1),
-    );
-    let drained = drain(&mut names, &mut cells, &mut head, &mut lines, 4096);
-    line(b"emptied in another order", b": accepted ", drained);
-    print_tree(b"the tree", &names, &cells, &head);
-    print_rolled(
-        b"rollback to 0",
-        rollback(&mut names, &mut cells, &mut head, &mut lines, 0),
-    );
-    print_tree(b"the tree", &names, &cells, &head);
-    line(
-        b"pairs as at the mark",
-        b": ",
-        right_pairs(&names, &cells, &head),
-    );
-    line(
-        b"neighbours listed as at the mark",
-        b": ",
-        listed_pairs(&names, &cells, &head),
-    );
+    fresh(&mut names, &mut cells, &mut head, &mut sizes, &mut lines);
+    all_lines(&mut names, &mut cells, &mut head, &mut sizes, &mut lines);
+    fill_and_drain(&mut names, &mut cells, &mut head, &mut sizes, &mut lines);
+    undo_last(&mut names, &mut cells, &mut head, &mut sizes, &mut lines);
 }
 
 // From the least limits to the largest.

@@ -63,67 +63,184 @@ fn set_root(head: &mut [u32], root: u32) {
     }
 }
 
-// Three slots and three lines. 1 and 2 are inserted and 1 is removed; then word f of line k is set to value, the root to root where
-// that is not null, and the lines are rolled back to mark.
-fn ask(label: &[u8], k: u32, f: u32, value: u64, root: u32, mark: u32) {
+// Word f of line k.
+fn set_line(lines: &mut [u64], k: u32, f: u32, value: u64) {
+    put_name(lines, 0, 6 * (k % 4) + f % 6 + 1, value);
+}
+
+// Pair (0, key) goes in.
+fn enter(
+    names: &mut [u64],
+    cells: &mut [u32],
+    head: &mut [u32],
+    sizes: &mut [u32],
+    lines: &mut [u64],
+    key: u64,
+    place: u32,
+) {
+    insert(names, cells, head, sizes, lines, 0, key, place);
+}
+
+// Pair (0, key) goes.
+fn leave(
+    names: &mut [u64],
+    cells: &mut [u32],
+    head: &mut [u32],
+    sizes: &mut [u32],
+    lines: &mut [u64],
+    key: u64,
+) {
+    remove(names, cells, head, sizes, lines, 0, key);
+}
+
+// Pair (0, key) has another place.
+fn shift(
+    names: &[u64],
+    cells: &mut [u32],
+    head: &[u32],
+    sizes: &[u32],
+    lines: &mut [u64],
+    key: u64,
+    place: u32,
+) {
+    replace(names, cells, head, sizes, lines, 0, key, place);
+}
+
+// An empty index in which 1 is inserted, and then 2.
+fn two_pairs(
+    names: &mut [u64],
+    cells: &mut [u32],
+    head: &mut [u32],
+    sizes: &mut [u32],
+    lines: &mut [u64],
+) {
+    fresh(names, cells, head, sizes, lines);
+    enter(names, cells, head, sizes, lines, 1, 10);
+    enter(names, cells, head, sizes, lines, 2, 20);
+}
+
+// An index is rolled back to mark: what is answered, whether it is then what it was, and where it is not what its n slots hold.
+fn roll(
+    label: &[u8],
+    n: u32,
+    mark: u32,
+    names: &mut [u64],
+    cells: &mut [u32],
+    head: &mut [u32],
+    sizes: &mut [u32],
+    lines: &mut [u64],
+    oldnames: &[u64],
+    oldcells: &[u32],
+    oldhead: &[u32],
+    oldsizes: &[u32],
+    oldlines: &[u64],
+) {
+    let rolled = rollback(names, cells, head, sizes, lines, mark);
+    let unchanged = same_index(
+        names,
+        cells,
+        head,
+        sizes,
+        lines,
+        oldnames,
+        oldcells,
+        oldhead,
+        oldsizes,
+        oldlines,
+    );
+    print(label, rolled, unchanged);
+    end(names, cells, head, n, unchanged);
+}
+
+// 1 and 2 are inserted, and then 1 is removed, or its place is changed from 10 to 11.
+fn three_lines(
+    replaced: bool,
+    names: &mut [u64],
+    cells: &mut [u32],
+    head: &mut [u32],
+    sizes: &mut [u32],
+    lines: &mut [u64],
+) {
+    two_pairs(names, cells, head, sizes, lines);
+    if replaced {
+        shift(names, cells, head, sizes, lines, 1, 11);
+    } else {
+        leave(names, cells, head, sizes, lines, 1);
+    }
+}
+
+// Three slots and those three lines; then word f of line k is set to value, the root to root where that is not null, and the lines are
+// rolled back to mark.
+fn ask_three(label: &[u8], replaced: bool, k: u32, f: u32, value: u64, root: u32, mark: u32) {
     let mut names = [0u64; 6];
     let mut cells = [0u32; 21];
     let mut head = [0u32; 3];
+    let mut sizes = [0u32; 3];
     let mut lines = [0u64; JOURNAL_WORDS];
-    fresh(&mut names, &mut cells, &mut head, &mut lines);
-    insert(&mut names, &mut cells, &mut head, &mut lines, 0, 1, 10);
-    insert(&mut names, &mut cells, &mut head, &mut lines, 0, 2, 20);
-    remove(&mut names, &mut cells, &mut head, &mut lines, 0, 1);
-    put_name(&mut lines, 0, 6 * (k % 4) + f % 6 + 1, value);
+    three_lines(
+        replaced,
+        &mut names,
+        &mut cells,
+        &mut head,
+        &mut sizes,
+        &mut lines,
+    );
+    set_line(&mut lines, k, f, value);
     set_root(&mut head, root);
     let names_before = names;
     let cells_before = cells;
     let head_before = head;
+    let sizes_before = sizes;
     let lines_before = lines;
-    let rolled = rollback(&mut names, &mut cells, &mut head, &mut lines, mark);
-    let unchanged = same_index(
-        &names,
-        &cells,
-        &head,
-        &lines,
+    roll(
+        label,
+        3,
+        mark,
+        &mut names,
+        &mut cells,
+        &mut head,
+        &mut sizes,
+        &mut lines,
         &names_before,
         &cells_before,
         &head_before,
+        &sizes_before,
         &lines_before,
     );
-    print(label, rolled, unchanged);
-    end(&names, &cells, &head, 3, unchanged);
 }
 
-// Three slots and three lines. 1 and 2 are inserted, and the place of 1 is changed from 10 to 11; then word f of line k is set to value,
-// and the lines are rolled back to mark.
+// Of the three lines that end in a removal.
+fn ask(label: &[u8], k: u32, f: u32, value: u64, root: u32, mark: u32) {
+    ask_three(label, false, k, f, value, root, mark);
+}
+
+// Of the three lines that end in a replace line.
 fn ask_replaced(label: &[u8], k: u32, f: u32, value: u64, mark: u32) {
-    let mut names = [0u64; 6];
-    let mut cells = [0u32; 21];
-    let mut head = [0u32; 3];
-    let mut lines = [0u64; JOURNAL_WORDS];
-    fresh(&mut names, &mut cells, &mut head, &mut lines);
-    insert(&mut names, &mut cells, &mut head, &mut lines, 0, 1, 10);
-    insert(&mut names, &mut cells, &mut head, &mut lines, 0, 2, 20);
-    replace(&names, &mut cells, &head, &mut lines, 0, 1, 11);
-    put_name(&mut lines, 0, 6 * (k % 4) + f % 6 + 1, value);
-    let names_before = names;
-    let cells_before = cells;
-    let head_before = head;
-    let lines_before = lines;
-    let rolled = rollback(&mut names, &mut cells, &mut head, &mut lines, mark);
-    let unchanged = same_index(
-        &names,
-        &cells,
-        &head,
-        &lines,
-        &names_before,
-        &cells_before,
-        &head_before,
-        &lines_before,
-    );
-    print(label, rolled, unchanged);
-    end(&names, &cells, &head, 3, unchanged);
+    ask_three(label, true, k, f, value, NULL, mark);
+}
+
+// A replace of 2, with its place then set to the old one again.
+fn shift_and_mend(
+    names: &[u64],
+    cells: &mut [u32],
+    head: &[u32],
+    sizes: &[u32],
+    lines: &mut [u64],
+) {
+    shift(names, cells, head, sizes, lines, 2, 21);
+    put(cells, 1, PLACE, 20);
+}
+
+// A replace of 2 that is rolled back.
+fn shift_and_back(
+    names: &mut [u64],
+    cells: &mut [u32],
+    head: &mut [u32],
+    sizes: &mut [u32],
+    lines: &mut [u64],
+) {
+    shift(names, cells, head, sizes, lines, 2, 21);
+    rollback(names, cells, head, sizes, lines, 2);
 }
 
 // A replace, with its place then set to the old one again: whether no other word of the tree is another.
@@ -131,23 +248,24 @@ fn ask_only_place(label: &[u8]) {
     let mut names = [0u64; 6];
     let mut cells = [0u32; 21];
     let mut head = [0u32; 3];
+    let mut sizes = [0u32; 3];
     let mut lines = [0u64; JOURNAL_WORDS];
-    fresh(&mut names, &mut cells, &mut head, &mut lines);
-    insert(&mut names, &mut cells, &mut head, &mut lines, 0, 1, 10);
-    insert(&mut names, &mut cells, &mut head, &mut lines, 0, 2, 20);
+    two_pairs(&mut names, &mut cells, &mut head, &mut sizes, &mut lines);
     let names_before = names;
     let cells_before = cells;
     let head_before = head;
-    replace(&names, &mut cells, &head, &mut lines, 0, 2, 21);
-    put(&mut cells, 1, PLACE, 20);
+    let sizes_before = sizes;
+    shift_and_mend(&names, &mut cells, &head, &sizes, &mut lines);
     let same = same_index(
         &names,
         &cells,
         &head,
+        &sizes,
         &lines,
         &names_before,
         &cells_before,
         &head_before,
+        &sizes_before,
         &lines,
     );
     say_same(label, same);
@@ -158,27 +276,42 @@ fn ask_back(label: &[u8]) {
     let mut names = [0u64; 6];
     let mut cells = [0u32; 21];
     let mut head = [0u32; 3];
+    let mut sizes = [0u32; 3];
     let mut lines = [0u64; JOURNAL_WORDS];
-    fresh(&mut names, &mut cells, &mut head, &mut lines);
-    insert(&mut names, &mut cells, &mut head, &mut lines, 0, 1, 10);
-    insert(&mut names, &mut cells, &mut head, &mut lines, 0, 2, 20);
+    two_pairs(&mut names, &mut cells, &mut head, &mut sizes, &mut lines);
     let names_before = names;
     let cells_before = cells;
     let head_before = head;
+    let sizes_before = sizes;
     let lines_before = lines;
-    replace(&names, &mut cells, &head, &mut lines, 0, 2, 21);
-    rollback(&mut names, &mut cells, &mut head, &mut lines, 2);
+    shift_and_back(&mut names, &mut cells, &mut head, &mut sizes, &mut lines);
     let same = same_index(
         &names,
         &cells,
         &head,
+        &sizes,
         &lines,
         &names_before,
         &cells_before,
         &head_before,
+        &sizes_before,
         &lines_before,
     );
     say_same(label, same);
+}
+
+// One pair in an empty index, and its line made one that says that pair (0, 9) was removed.
+fn one_pair(
+    names: &mut [u64],
+    cells: &mut [u32],
+    head: &mut [u32],
+    sizes: &mut [u32],
+    lines: &mut [u64],
+) {
+    fresh(names, cells, head, sizes, lines);
+    enter(names, cells, head, sizes, lines, 1, 10);
+    put_name(lines, 0, 1, 2);
+    put_name(lines, 0, 3, 9);
 }
 
 // One slot, in use, and a line that says that a pair was removed.
@@ -186,60 +319,73 @@ fn ask_full(label: &[u8]) {
     let mut names = [0u64; 2];
     let mut cells = [0u32; 7];
     let mut head = [0u32; 3];
+    let mut sizes = [0u32; 1];
     let mut lines = [0u64; 7];
-    fresh(&mut names, &mut cells, &mut head, &mut lines);
-    insert(&mut names, &mut cells, &mut head, &mut lines, 0, 1, 10);
-    put_name(&mut lines, 0, 1, 2);
-    put_name(&mut lines, 0, 3, 9);
+    one_pair(&mut names, &mut cells, &mut head, &mut sizes, &mut lines);
     let names_before = names;
     let cells_before = cells;
     let head_before = head;
+    let sizes_before = sizes;
     let lines_before = lines;
-    let rolled = rollback(&mut names, &mut cells, &mut head, &mut lines, 0);
-    let unchanged = same_index(
-        &names,
-        &cells,
-        &head,
-        &lines,
+    roll(
+        label,
+        1,
+        0,
+        &mut names,
+        &mut cells,
+        &mut head,
+        &mut sizes,
+        &mut lines,
         &names_before,
         &cells_before,
         &head_before,
+        &sizes_before,
         &lines_before,
     );
-    print(label, rolled, unchanged);
-    end(&names, &cells, &head, 1, unchanged);
 }
 
-// Four slots and four lines. 1, 2 and 3 are inserted and 2, which then has 3 before it and 1 behind it in the chain, is removed; then
-// word f of line k is set to value, and the lines are rolled back to mark.
+// 1, 2 and 3 are inserted and 2, which then has 3 before it and 1 behind it in the chain, is removed.
+fn four_lines(
+    names: &mut [u64],
+    cells: &mut [u32],
+    head: &mut [u32],
+    sizes: &mut [u32],
+    lines: &mut [u64],
+) {
+    two_pairs(names, cells, head, sizes, lines);
+    enter(names, cells, head, sizes, lines, 3, 30);
+    leave(names, cells, head, sizes, lines, 2);
+}
+
+// Four slots and those four lines; then word f of line k is set to value, and the lines are rolled back to mark.
 fn ask_noted(label: &[u8], k: u32, f: u32, value: u64, mark: u32) {
     let mut names = [0u64; 8];
     let mut cells = [0u32; 28];
     let mut head = [0u32; 3];
+    let mut sizes = [0u32; 4];
     let mut lines = [0u64; 25];
-    fresh(&mut names, &mut cells, &mut head, &mut lines);
-    insert(&mut names, &mut cells, &mut head, &mut lines, 0, 1, 10);
-    insert(&mut names, &mut cells, &mut head, &mut lines, 0, 2, 20);
-    insert(&mut names, &mut cells, &mut head, &mut lines, 0, 3, 30);
-    remove(&mut names, &mut cells, &mut head, &mut lines, 0, 2);
-    put_name(&mut lines, 0, 6 * (k % 4) + f % 6 + 1, value);
+    four_lines(&mut names, &mut cells, &mut head, &mut sizes, &mut lines);
+    set_line(&mut lines, k, f, value);
     let names_before = names;
     let cells_before = cells;
     let head_before = head;
+    let sizes_before = sizes;
     let lines_before = lines;
-    let rolled = rollback(&mut names, &mut cells, &mut head, &mut lines, mark);
-    let unchanged = same_index(
-        &names,
-        &cells,
-        &head,
-        &lines,
+    roll(
+        label,
+        4,
+        mark,
+        &mut names,
+        &mut cells,
+        &mut head,
+        &mut sizes,
+        &mut lines,
         &names_before,
         &cells_before,
         &head_before,
+        &sizes_before,
         &lines_before,
     );
-    print(label, rolled, unchanged);
-    end(&names, &cells, &head, 4, unchanged);
 }
 
 // The same of the pair that a remove line notes: it has to be there at that point, and the pair comes back right behind it, at the front

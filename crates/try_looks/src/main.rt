@@ -6,6 +6,7 @@ use index::insert::Inserted;
 use index::insert::insert;
 use slots::MOST_CELLS;
 use slots::MOST_NAMES;
+use slots::MOST_SLOTS;
 use slots::put_wide;
 use trials::print::number;
 use trials::print::say;
@@ -79,9 +80,16 @@ fn deepest(names: &[u64], cells: &[u32], head: &[u32], n: u32) -> u32 {
 }
 
 // Inserts pair i with an empty journal: 1 if it was accepted.
-fn take(names: &mut [u64], cells: &mut [u32], head: &mut [u32], lines: &mut [u64], i: u32) -> u32 {
+fn take(
+    names: &mut [u64],
+    cells: &mut [u32],
+    head: &mut [u32],
+    sizes: &mut [u32],
+    lines: &mut [u64],
+    i: u32,
+) -> u32 {
     put_wide(lines, 0, 0);
-    match insert(names, cells, head, lines, hash_of(i), key_of(i), i) {
+    match insert(names, cells, head, sizes, lines, hash_of(i), key_of(i), i) {
         Inserted::At(_) => 1,
         _ => 0,
     }
@@ -101,17 +109,21 @@ fn grow(
     names: &mut [u64],
     cells: &mut [u32],
     head: &mut [u32],
+    sizes: &mut [u32],
     lines: &mut [u64],
     order: u32,
     label: &[u8],
 ) {
-    fresh(names, cells, head, lines);
+    fresh(names, cells, head, sizes, lines);
     let mut pairs: u32 = 0;
     let mut most: u32 = 0;
     let mut past: u32 = 0;
     let mut n: u32 = 0;
     while n < 300 {
-        pairs = std::num::wrapping_add_u32(pairs, take(names, cells, head, lines, nth(order, n)));
+        pairs = std::num::wrapping_add_u32(
+            pairs,
+            take(names, cells, head, sizes, lines, nth(order, n)),
+        );
         n += 1;
         let seen = deepest(names, cells, head, 300);
         most = larger(most, seen);
@@ -141,11 +153,17 @@ fn row(names: &[u64], cells: &[u32], head: &[u32], n: u32) {
 
 // Pairs in rising order, which makes the deepest trees that inserts alone make: at the sizes of the table the limit, and the most looks
 // of any search.
-fn table(names: &mut [u64], cells: &mut [u32], head: &mut [u32], lines: &mut [u64]) {
-    fresh(names, cells, head, lines);
+fn table(
+    names: &mut [u64],
+    cells: &mut [u32],
+    head: &mut [u32],
+    sizes: &mut [u32],
+    lines: &mut [u64],
+) {
+    fresh(names, cells, head, sizes, lines);
     let mut n: u32 = 0;
     while n < 4096 {
-        take(names, cells, head, lines, n);
+        take(names, cells, head, sizes, lines, n);
         n += 1;
         if is_listed(n) {
             row(names, cells, head, n);
@@ -157,9 +175,34 @@ fn main() {
     let mut names = [0u64; MOST_NAMES];
     let mut cells = [0u32; MOST_CELLS];
     let mut head = [0u32; 3];
+    let mut sizes = [0u32; MOST_SLOTS];
     let mut lines = [0u64; 7];
-    grow(&mut names, &mut cells, &mut head, &mut lines, 0, b"rising");
-    grow(&mut names, &mut cells, &mut head, &mut lines, 1, b"falling");
-    grow(&mut names, &mut cells, &mut head, &mut lines, 2, b"drawn");
-    table(&mut names, &mut cells, &mut head, &mut lines);
+    grow(
+        &mut names,
+        &mut cells,
+        &mut head,
+        &mut sizes,
+        &mut lines,
+        0,
+        b"rising",
+    );
+    grow(
+        &mut names,
+        &mut cells,
+        &mut head,
+        &mut sizes,
+        &mut lines,
+        1,
+        b"falling",
+    );
+    grow(
+        &mut names,
+        &mut cells,
+        &mut head,
+        &mut sizes,
+        &mut lines,
+        2,
+        b"drawn",
+    );
+    table(&mut names, &mut cells, &mut head, &mut sizes, &mut lines);
 }

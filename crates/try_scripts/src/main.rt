@@ -16,8 +16,9 @@ fn runs(input: &[u8], expected: &[u8], cut: usize, out: &mut [u8]) -> bool {
     let mut names = [0u64; 1024];
     let mut cells = [0u32; 3584];
     let mut head = [0u32; 3];
+    let mut sizes = [0u32; 512];
     let mut lines = [0u64; JOURNAL_WORDS];
-    fresh(&mut names, &mut cells, &mut head, &mut lines);
+    fresh(&mut names, &mut cells, &mut head, &mut sizes, &mut lines);
     let met = play(
         input,
         cut,
@@ -25,6 +26,7 @@ fn runs(input: &[u8], expected: &[u8], cut: usize, out: &mut [u8]) -> bool {
         &mut names,
         &mut cells,
         &mut head,
+        &mut sizes,
         &mut lines,
         out,
     );

@@ -11,17 +11,18 @@ use Rattle.script.proofs.answer.Statement.{statement}
 use Rattle.script.proofs.answer.Tie as tie
 
 abbrev Inv-loop : tie.InvT-loop
-Inv-loop chunk names₀ cells₀ head₀ lines₀ out₀ kept₀ at₀ names cells head lines out kept at =
+Inv-loop chunk names₀ cells₀ head₀ sizes₀ lines₀ out₀ kept₀ at₀ names cells head sizes lines out kept at =
     (at ≤ length chunk)
     × (length chunk < 2 ^ 64)
     × (length names ≡ length names₀)
     × (length cells ≡ length cells₀)
     × (length head ≡ length head₀)
+    × (length sizes ≡ length sizes₀)
     × (length lines ≡ length lines₀)
     × (length out ≡ length out₀)
 
 abbrev μ-loop : tie.MeasureT-loop
-μ-loop chunk names₀ cells₀ head₀ lines₀ out₀ kept₀ at₀ names cells head lines out kept at = length chunk - at
+μ-loop chunk names₀ cells₀ head₀ sizes₀ lines₀ out₀ kept₀ at₀ names cells head sizes lines out kept at = length chunk - at
 
 loop-holds : tie.Need-loop-holds Inv-loop μ-loop
 loop-holds c = search needs
@@ -42,7 +43,7 @@ slice-reshare-prefix-write-all : tie.Need-slice-reshare-prefix-write-all Inv-loo
 slice-reshare-prefix-write-all c = search needs
 
 slice-aggregate-write-all : tie.Need-slice-aggregate-write-all Inv-loop μ-loop
-slice-aggregate-write-all c = simp length-take (omega (arith, c .before .before .before .before .before .before .before .before .before .before .before .feed .ensures .1 .0))
+slice-aggregate-write-all c = simp length-take (omega (arith, c .before .before .before .before .before .before .before .before .before .before .before .before .before .feed .ensures .1 .0))
 
 write-all-requires : tie.Need-write-all-requires Inv-loop μ-loop
 write-all-requires c κs = search needs
@@ -62,6 +63,9 @@ same-length-4 c = search needs
 same-length-5 : tie.Need-same-length-5 Inv-loop μ-loop
 same-length-5 c = search needs
 
+same-length-6 : tie.Need-same-length-6 Inv-loop μ-loop
+same-length-6 c = search needs
+
 returns : tie.Need-returns Inv-loop μ-loop
 returns c = search needs
 
@@ -73,9 +77,9 @@ part-bound l at n t h g =
 
 add-at : tie.Need-add-at Inv-loop μ-loop
 add-at c =
-    let c8 = c .before .before .before .before .before .before .before .before .before .before .before .before .before .before in
-    let at-loop = c8 .before .before .before .before .before .before .before .before in
-    let a = at-loop .before .before .before .before .before .before .before .args in
+    let c8 = c .before .before .before .before .before .before .before .before .before .before .before .before .before .before .before .before in
+    let at-loop = c8 .before .before .before .before .before .before .before .before .before in
+    let a = at-loop .before .before .before .before .before .before .before .before .args in
     omega (
       arith,
       at-loop .loop .inv .1,
@@ -88,9 +92,6 @@ loop-less c = search needs
 loop-again : tie.Need-loop-again Inv-loop μ-loop
 loop-again c = search needs
 
-same-length-6 : tie.Need-same-length-6 Inv-loop μ-loop
-same-length-6 c = search needs
-
 same-length-7 : tie.Need-same-length-7 Inv-loop μ-loop
 same-length-7 c = search needs
 
@@ -102,6 +103,12 @@ same-length-9 c = search needs
 
 same-length-10 : tie.Need-same-length-10 Inv-loop μ-loop
 same-length-10 c = search needs
+
+same-length-11 : tie.Need-same-length-11 Inv-loop μ-loop
+same-length-11 c = search needs
+
+same-length-12 : tie.Need-same-length-12 Inv-loop μ-loop
+same-length-12 c = search needs
 
 returns-2 : tie.Need-returns-2 Inv-loop μ-loop
 returns-2 c = search needs
@@ -125,13 +132,15 @@ answer-spec =
     same-length-3
     same-length-4
     same-length-5
+    same-length-6
     returns
     add-at
     loop-less
     loop-again
-    same-length-6
     same-length-7
     same-length-8
     same-length-9
     same-length-10
+    same-length-11
+    same-length-12
     returns-2)

@@ -13,7 +13,7 @@ slice-reshare-prefix-write-all c = search needs
 
 slice-aggregate-write-all : tie.Need-slice-aggregate-write-all
 slice-aggregate-write-all c =
-    simp length-take (omega (arith, c .before .before .before .before .before .before .before .before .before .before .before .finish .ensures .1))
+    simp length-take (omega (arith, c .before .before .before .before .before .before .before .before .before .before .before .before .before .finish .ensures .1))
 
 write-all-requires : tie.Need-write-all-requires
 write-all-requires c κs = search needs
@@ -33,6 +33,9 @@ same-length-4 c = search needs
 same-length-5 : tie.Need-same-length-5
 same-length-5 c = search needs
 
+same-length-6 : tie.Need-same-length-6
+same-length-6 c = search needs
+
 returns : tie.Need-returns
 returns c = search needs
 
@@ -49,4 +52,5 @@ close-spec =
     same-length-3
     same-length-4
     same-length-5
+    same-length-6
     returns)

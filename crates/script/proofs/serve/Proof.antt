@@ -6,16 +6,17 @@ use Rattle.script.proofs.serve.Statement.{statement}
 use Rattle.script.proofs.serve.Tie as tie
 
 abbrev Inv-loop : tie.InvT-loop
-Inv-loop chunk₀ names₀ cells₀ head₀ lines₀ out₀ kept₀ turns₀ chunk names cells head lines out kept turns =
+Inv-loop chunk₀ names₀ cells₀ head₀ sizes₀ lines₀ out₀ kept₀ turns₀ chunk names cells head sizes lines out kept turns =
     (length chunk ≡ length chunk₀)
     × (length names ≡ length names₀)
     × (length cells ≡ length cells₀)
     × (length head ≡ length head₀)
+    × (length sizes ≡ length sizes₀)
     × (length lines ≡ length lines₀)
     × (length out ≡ length out₀)
 
 abbrev μ-loop : tie.MeasureT-loop
-μ-loop chunk₀ names₀ cells₀ head₀ lines₀ out₀ kept₀ turns₀ chunk names cells head lines out kept turns = turns
+μ-loop chunk₀ names₀ cells₀ head₀ sizes₀ lines₀ out₀ kept₀ turns₀ chunk names cells head sizes lines out kept turns = turns
 
 blank-requires : tie.Need-blank-requires Inv-loop μ-loop
 blank-requires c κs = search needs
@@ -47,6 +48,9 @@ same-length-5 c = search needs
 same-length-6 : tie.Need-same-length-6 Inv-loop μ-loop
 same-length-6 c = search needs
 
+same-length-7 : tie.Need-same-length-7 Inv-loop μ-loop
+same-length-7 c = search needs
+
 returns : tie.Need-returns Inv-loop μ-loop
 returns c = search needs
 
@@ -68,9 +72,6 @@ loop-less c = search needs
 loop-again : tie.Need-loop-again Inv-loop μ-loop
 loop-again c = search needs
 
-same-length-7 : tie.Need-same-length-7 Inv-loop μ-loop
-same-length-7 c = search needs
-
 same-length-8 : tie.Need-same-length-8 Inv-loop μ-loop
 same-length-8 c = search needs
 
@@ -85,6 +86,12 @@ same-length-11 c = search needs
 
 same-length-12 : tie.Need-same-length-12 Inv-loop μ-loop
 same-length-12 c = search needs
+
+same-length-13 : tie.Need-same-length-13 Inv-loop μ-loop
+same-length-13 c = search needs
+
+same-length-14 : tie.Need-same-length-14 Inv-loop μ-loop
+same-length-14 c = search needs
 
 returns-2 : tie.Need-returns-2 Inv-loop μ-loop
 returns-2 c = search needs
@@ -105,6 +112,7 @@ serve-spec =
     same-length-4
     same-length-5
     same-length-6
+    same-length-7
     returns
     slice-reshare-prefix-answer
     slice-aggregate-answer
@@ -112,10 +120,11 @@ serve-spec =
     sub-turns
     loop-less
     loop-again
-    same-length-7
     same-length-8
     same-length-9
     same-length-10
     same-length-11
     same-length-12
+    same-length-13
+    same-length-14
     returns-2)

@@ -17,6 +17,9 @@ mul-if2 c = search needs
 returns-2 : tie.Need-returns-2
 returns-2 c = search needs
 
+returns-3 : tie.Need-returns-3
+returns-3 c = search needs
+
 mul-lines : tie.Need-mul-lines
 mul-lines c = search needs
 
@@ -35,6 +38,12 @@ slice-relend-prefix-lines-2 c = search needs
 slice-aggregate-lines-2 : tie.Need-slice-aggregate-lines-2
 slice-aggregate-lines-2 c = simp length-take (omega arith)
 
+slice-relend-prefix-lines-3 : tie.Need-slice-relend-prefix-lines-3
+slice-relend-prefix-lines-3 c = search needs
+
+slice-aggregate-lines-3 : tie.Need-slice-aggregate-lines-3
+slice-aggregate-lines-3 c = simp length-take (omega arith)
+
 lines-requires : tie.Need-lines-requires
 lines-requires c κs = search needs
 
@@ -44,8 +53,11 @@ same-length c = search needs
 same-length-2 : tie.Need-same-length-2
 same-length-2 c = search needs
 
-returns-3 : tie.Need-returns-3
-returns-3 c = search needs
+same-length-3 : tie.Need-same-length-3
+same-length-3 c = search needs
+
+returns-4 : tie.Need-returns-4
+returns-4 c = search needs
 
 pub cut-spec : {M : Type 1} → statement M
 cut-spec =
@@ -55,13 +67,17 @@ cut-spec =
     returns
     mul-if2
     returns-2
+    returns-3
     mul-lines
     slice-relend-prefix-lines
     slice-aggregate-lines
     mul-lines-2
     slice-relend-prefix-lines-2
     slice-aggregate-lines-2
+    slice-relend-prefix-lines-3
+    slice-aggregate-lines-3
     lines-requires
     same-length
     same-length-2
-    returns-3)
+    same-length-3
+    returns-4)

@@ -7,10 +7,10 @@ use Rattle.try_looks.proofs.grow.Statement.{statement}
 use Rattle.try_looks.proofs.grow.Tie as tie
 
 abbrev Inv-loop : tie.InvT-loop
-Inv-loop names₀ cells₀ head₀ lines₀ order label pairs₀ most₀ past₀ n₀ t12 t13 t14 t15 names cells head lines pairs most past n = (n ≤ 300) × (pairs < 2 ^ 32) × (most < 2 ^ 32) × (past < 2 ^ 32) × (length names ≡ length names₀) × (length cells ≡ length cells₀) × (length head ≡ length head₀) × (length lines ≡ length lines₀)
+Inv-loop names₀ cells₀ head₀ sizes₀ lines₀ order label pairs₀ most₀ past₀ n₀ t12 t13 t14 t15 names cells head sizes lines pairs most past n = (n ≤ 300) × (pairs < 2 ^ 32) × (most < 2 ^ 32) × (past < 2 ^ 32) × (length names ≡ length names₀) × (length cells ≡ length cells₀) × (length head ≡ length head₀) × (length sizes ≡ length sizes₀) × (length lines ≡ length lines₀)
 
 abbrev μ-loop : tie.MeasureT-loop
-μ-loop names₀ cells₀ head₀ lines₀ order label pairs₀ most₀ past₀ n₀ t12 t13 t14 t15 names cells head lines pairs most past n = 300 - n
+μ-loop names₀ cells₀ head₀ sizes₀ lines₀ order label pairs₀ most₀ past₀ n₀ t12 t13 t14 t15 names cells head sizes lines pairs most past n = 300 - n
 
 fresh-requires : tie.Need-fresh-requires Inv-loop μ-loop
 fresh-requires c κs = search needs
@@ -90,6 +90,9 @@ same-length-3 c = search needs
 same-length-4 : tie.Need-same-length-4 Inv-loop μ-loop
 same-length-4 c = search needs
 
+same-length-5 : tie.Need-same-length-5 Inv-loop μ-loop
+same-length-5 c = search needs
+
 returns : tie.Need-returns Inv-loop μ-loop
 returns c = search needs
 
@@ -125,4 +128,5 @@ grow-spec =
     same-length-2
     same-length-3
     same-length-4
+    same-length-5
     returns)

@@ -7,10 +7,10 @@ use Rattle.try_looks.proofs.table.Statement.{statement}
 use Rattle.try_looks.proofs.table.Tie as tie
 
 abbrev Inv-loop : tie.InvT-loop
-Inv-loop names₀ cells₀ head₀ lines₀ n₀ names cells head lines n = (n ≤ 4096) × (length names ≡ length names₀) × (length cells ≡ length cells₀) × (length head ≡ length head₀) × (length lines ≡ length lines₀)
+Inv-loop names₀ cells₀ head₀ sizes₀ lines₀ n₀ names cells head sizes lines n = (n ≤ 4096) × (length names ≡ length names₀) × (length cells ≡ length cells₀) × (length head ≡ length head₀) × (length sizes ≡ length sizes₀) × (length lines ≡ length lines₀)
 
 abbrev μ-loop : tie.MeasureT-loop
-μ-loop names₀ cells₀ head₀ lines₀ n₀ names cells head lines n = 4096 - n
+μ-loop names₀ cells₀ head₀ sizes₀ lines₀ n₀ names cells head sizes lines n = 4096 - n
 
 fresh-requires : tie.Need-fresh-requires Inv-loop μ-loop
 fresh-requires c κs = search needs
@@ -54,6 +54,9 @@ same-length-3 c = search needs
 same-length-4 : tie.Need-same-length-4 Inv-loop μ-loop
 same-length-4 c = search needs
 
+same-length-5 : tie.Need-same-length-5 Inv-loop μ-loop
+same-length-5 c = search needs
+
 returns : tie.Need-returns Inv-loop μ-loop
 returns c = search needs
 
@@ -77,4 +80,5 @@ table-spec =
     same-length-2
     same-length-3
     same-length-4
+    same-length-5
     returns)

@@ -9,11 +9,11 @@ use Rattle.console.proofs.answer.obey_remove.Tie as tie
 remove-requires : tie.Need-remove-requires
 remove-requires c κs = search needs
 
-answer-requires : tie.Need-answer-requires
-answer-requires c κs = search needs
-
 slice-aggregate-tell-answer : tie.Need-slice-aggregate-tell-answer
 slice-aggregate-tell-answer c = search needs
+
+answer-requires : tie.Need-answer-requires
+answer-requires c κs = search needs
 
 tell-answer-requires : tie.Need-tell-answer-requires
 tell-answer-requires c κs = search needs
@@ -33,13 +33,16 @@ same-length-4 c = search needs
 same-length-5 : tie.Need-same-length-5
 same-length-5 c = search needs
 
+same-length-6 : tie.Need-same-length-6
+same-length-6 c = search needs
+
 returns : tie.Need-returns
 unfolding obeyed
 returns c =
-    let c2 = c .before .before in
-    let c3 = c2 .before in
-    let c8 = c3 .before .before .before .before .before .before .before .before .before .before .before in
-    said goneText _ _ (c8 .remove .ensures) (c3 .answer .ensures) (c2 .tell-answer .ensures)
+    let c1 = c .before .before in
+    let c2 = c1 .before in
+    let c3 = c2 .before .before .before .before .before .before .before .before .before .before .before .before .before in
+    said goneText _ _ (c3 .remove .ensures) (c2 .answer .ensures) (c1 .tell-answer .ensures)
 
 pub obey-remove-spec : {M : Type 1} → statement M
 obey-remove-spec =
@@ -54,4 +57,5 @@ obey-remove-spec =
     same-length-3
     same-length-4
     same-length-5
+    same-length-6
     returns)

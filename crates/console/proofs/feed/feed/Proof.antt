@@ -1,38 +1,31 @@
 -- The loop's invariant: the rest of the chunk, fed from here, comes to what the whole of it comes to.
 use mathlib.Core.Path.{_≡_, _∙_}
-use mathlib.Core.List.{List}
 use denote.Ref.{now}
-use Prim.Native.Nat.{ℕ, _-_, _^_, _<_, _≤_}
+use Prim.Native.Nat.{_-_, _^_, _<_, _≤_}
 use lib.ListN.{length, drop}
-use Rattle.script_rules.specs.Feeding.{Desk, feeding}
+use native.Mathlib.Omega.{arith}
+use Rattle.script_rules.specs.Feeding.{lentDesk, feeding}
 use Rattle.script_rules.proofs.Feeding.{feeding-over, feeding-full, feeding-on, feeds-short, feeds-long, kept-within}
 use Rattle.console.specs.Meanings.{lineOf}
-use Rattle.console.specs.declared.feed.Line.{Line}
 use borrow.Author.Needs.{needs}
 use Rattle.console.proofs.feed.feed.Statement.{statement}
 use Rattle.console.proofs.feed.feed.Tie as tie
 
-abbrev desk : Line → List ℕ → List ℕ → List ℕ → List ℕ → List ℕ → ℕ → Desk
-desk l names cells head lines out at = record {
-  line = lineOf l;
-  index = record { live = record { names = names; cells = cells; head = head }; lines = lines };
-  paper = record { bytes = out; at = at };
-}
-
 abbrev Inv-loop : tie.InvT-loop
-Inv-loop chunk names₀ cells₀ head₀ lines₀ out₀ kept₀ written₀ i₀ names cells head lines out kept written i =
-    (feeding (drop i chunk) i (desk kept names cells head lines out written) ≡ feeding chunk 0 (desk kept₀ names₀ cells₀ head₀ lines₀ out₀ 0))
+Inv-loop chunk names₀ cells₀ head₀ sizes₀ lines₀ out₀ kept₀ written₀ i₀ names cells head sizes lines out kept written i =
+    (feeding (drop i chunk) i (lentDesk (lineOf kept) names cells head sizes lines out written) ≡ feeding chunk 0 (lentDesk (lineOf kept₀) names₀ cells₀ head₀ sizes₀ lines₀ out₀ 0))
     × (written ≤ length out)
     × (i ≤ length chunk)
     × (length names ≡ length names₀)
     × (length cells ≡ length cells₀)
     × (length head ≡ length head₀)
+    × (length sizes ≡ length sizes₀)
     × (length lines ≡ length lines₀)
     × (length out ≡ length out₀)
     × (written < 2 ^ 64)
 
 abbrev μ-loop : tie.MeasureT-loop
-μ-loop chunk names₀ cells₀ head₀ lines₀ out₀ kept₀ written₀ i₀ names cells head lines out kept written i =
+μ-loop chunk names₀ cells₀ head₀ sizes₀ lines₀ out₀ kept₀ written₀ i₀ names cells head sizes lines out kept written i =
     length chunk - i
 
 returns : tie.Need-returns Inv-loop μ-loop
@@ -59,11 +52,16 @@ same-length-4 c = search needs
 same-length-5 : tie.Need-same-length-5 Inv-loop μ-loop
 same-length-5 c = search needs
 
+same-length-6 : tie.Need-same-length-6 Inv-loop μ-loop
+same-length-6 c = search needs
+
 returns-2 : tie.Need-returns-2 Inv-loop μ-loop
 returns-2 c =
-    let at-loop = c .before .before in
-    let a = at-loop .before .before .before .before .before .before .before .before .args in
-    (feeding-full (now (a .chunk)) (at-loop .loop .i) _ (c .before .loop-test .taken) (c .if2 .taken) ∙ at-loop .loop .inv .0 ∙ feeds-long (now (a .chunk)) _ (at-loop .before .if1 .left), search needs)
+    let c1 = c .before in
+    let at-loop = c1 .before in
+    let c2 = at-loop .before in
+    let a = c2 .before .before .before .before .before .before .before .before .args in
+    (feeding-full (now (a .chunk)) (at-loop .loop .i) _ (c1 .loop-test .taken) (c .if2 .taken) ∙ at-loop .loop .inv .0 ∙ feeds-long (now (a .chunk)) _ (c2 .if1 .left), search needs)
 
 shared-slice-read-take-byte : tie.Need-shared-slice-read-take-byte Inv-loop μ-loop
 shared-slice-read-take-byte c = search needs
@@ -72,31 +70,33 @@ take-byte-requires : tie.Need-take-byte-requires Inv-loop μ-loop
 take-byte-requires c κs = search needs
 
 add-i : tie.Need-add-i Inv-loop μ-loop
-add-i c = search needs
+add-i c =
+    let c1 = c .before .before .before .before .before .before .before .before .before .before .before .before .before .before .before .before .before .before .before .before .before .before in
+    let c2 = c1 .before .before .before .before .before .before .before .before .before .before in
+    omega (arith, c1 .loop-test .taken, c2 .good .1 .0)
 
 loop-less : tie.Need-loop-less Inv-loop μ-loop
 loop-less c = search needs
 
 loop-again : tie.Need-loop-again Inv-loop μ-loop
 loop-again c =
-    let c6 = c .before .before .before .before .before .before .before .before .before .before .before in
-    let c7 = c6 .before .before .before .before .before .before .before in
-    let at-loop = c7 .before .before in
-    let a = at-loop .before .before .before .before .before .before .before .before .args in
-    let here = desk (at-loop .loop .kept) (at-loop .loop .names) (at-loop .loop .cells) (at-loop .loop .head) (at-loop .loop .lines) (at-loop .loop .out) (at-loop .loop .written) in (
-      feeding-on (now (a .chunk)) (at-loop .loop .i) here (c7 .before .loop-test .taken) (c7 .if2 .left) (c6 .take-byte .ensures) ∙ at-loop .loop .inv .0,
-      kept-within here _ (c6 .take-byte .ensures) (at-loop .loop .inv .1),
+    let c1 = c .before .before .before .before .before .before .before .before .before .before .before .before .before in
+    let c2 = c1 .before .before .before .before .before .before .before .before in
+    let c3 = c2 .before in
+    let at-loop = c3 .before in
+    let a = at-loop .before .before .before .before .before .before .before .before .before .args in
+    let here = lentDesk (lineOf (at-loop .loop .kept)) (at-loop .loop .names) (at-loop .loop .cells) (at-loop .loop .head) (at-loop .loop .sizes) (at-loop .loop .lines) (at-loop .loop .out) (at-loop .loop .written) in (
+      feeding-on (now (a .chunk)) (at-loop .loop .i) here (c3 .loop-test .taken) (c2 .if2 .left) (c1 .take-byte .ensures) ∙ at-loop .loop .inv .0,
+      kept-within here _ (c1 .take-byte .ensures) (at-loop .loop .inv .1),
       search needs,
       search needs,
       search needs,
       search needs,
+      c1 .take-byte .kept .1 .1 .1 .1 .1 .0 ∙ at-loop .loop .inv .6,
       search needs,
       search needs,
       search needs,
     )
-
-same-length-6 : tie.Need-same-length-6 Inv-loop μ-loop
-same-length-6 c = search needs
 
 same-length-7 : tie.Need-same-length-7 Inv-loop μ-loop
 same-length-7 c = search needs
@@ -110,11 +110,18 @@ same-length-9 c = search needs
 same-length-10 : tie.Need-same-length-10 Inv-loop μ-loop
 same-length-10 c = search needs
 
+same-length-11 : tie.Need-same-length-11 Inv-loop μ-loop
+same-length-11 c = search needs
+
+same-length-12 : tie.Need-same-length-12 Inv-loop μ-loop
+same-length-12 c = search needs
+
 returns-3 : tie.Need-returns-3 Inv-loop μ-loop
 returns-3 c =
     let at-loop = c .before in
-    let a = at-loop .before .before .before .before .before .before .before .before .args in
-    (feeding-over (now (a .chunk)) (at-loop .loop .i) _ (c .loop-test .left) ∙ at-loop .loop .inv .0 ∙ feeds-long (now (a .chunk)) _ (at-loop .before .if1 .left), search needs)
+    let c1 = at-loop .before in
+    let a = c1 .before .before .before .before .before .before .before .before .args in
+    (feeding-over (now (a .chunk)) (at-loop .loop .i) _ (c .loop-test .left) ∙ at-loop .loop .inv .0 ∙ feeds-long (now (a .chunk)) _ (c1 .if1 .left), search needs)
 
 pub feed-spec : {M : Type 1} → statement M
 feed-spec =
@@ -130,15 +137,17 @@ feed-spec =
     same-length-3
     same-length-4
     same-length-5
+    same-length-6
     returns-2
     shared-slice-read-take-byte
     take-byte-requires
     add-i
     loop-less
     loop-again
-    same-length-6
     same-length-7
     same-length-8
     same-length-9
     same-length-10
+    same-length-11
+    same-length-12
     returns-3)

@@ -33,11 +33,15 @@ same-length-4 c = search needs
 same-length-5 : tie.Need-same-length-5
 same-length-5 c = search needs
 
+same-length-6 : tie.Need-same-length-6
+same-length-6 c = search needs
+
 returns-3 : tie.Need-returns-3
 returns-3 c =
-    let c6 = c .before .before .before .before .before .before .before .before .before .before .before in
-    let c7 = c6 .before .before .before .before .before .before in
-    (ends-line _ (c7 .before .if1 .left) (c7 .if2 .left) (c6 .reply-kept .ensures) (c .blank .ensures), turn-within _ _ _ (c6 .reply-kept .ensures) (omega arith))
+    let c1 = c .before .before .before .before .before .before .before .before .before .before .before .before .before in
+    let c2 = c1 .before .before .before .before .before .before .before in
+    let c3 = c2 .before in
+    (ends-line _ (c3 .if1 .left) (c2 .if2 .left) (c1 .reply-kept .ensures) (c .blank .ensures), turn-within _ _ _ (c1 .reply-kept .ensures) (omega arith))
 
 pub finish-spec : {M : Type 1} → statement M
 finish-spec =
@@ -52,4 +56,5 @@ finish-spec =
     same-length-3
     same-length-4
     same-length-5
+    same-length-6
     returns-3)

@@ -26,11 +26,14 @@ same-length-4 c = search needs
 same-length-5 : tie.Need-same-length-5
 same-length-5 c = search needs
 
+same-length-6 : tie.Need-same-length-6
+same-length-6 c = search needs
+
 returns : tie.Need-returns
 returns c =
-    let c6 = c .before .before .before .before .before .before .before .before .before .before in
-    let c7 = c6 .before .before .before .before .before .before in
-    turn-of _ _ (c6 .obey .ensures) (sym (c7 .meaning .ensures))
+    let c1 = c .before .before .before .before .before .before .before .before .before .before .before .before in
+    let c2 = c1 .before .before .before .before .before .before .before in
+    turn-of _ _ (c1 .obey .ensures) (sym (c2 .meaning .ensures))
 
 pub reply-spec : {M : Type 1} → statement M
 reply-spec =
@@ -43,4 +46,5 @@ reply-spec =
     same-length-3
     same-length-4
     same-length-5
+    same-length-6
     returns)

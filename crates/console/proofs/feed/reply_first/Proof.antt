@@ -28,21 +28,21 @@ same-length-4 c = search needs
 same-length-5 : tie.Need-same-length-5
 same-length-5 c = search needs
 
+same-length-6 : tie.Need-same-length-6
+same-length-6 c = search needs
+
 returns : tie.Need-returns
 returns c =
-    let c6 = c .before .before .before .before .before .before .before .before .before .before in
-    let c7 = c6 .before .before .before .before .before .before in
-    let a = c7 .before .before .before .before .before .before .before .args in
-    turn-of _ _ (c6 .reply .ensures) (ap spoken (take-all (a .count) (now (a .bytes)) (c7 .if1 .taken)))
+    let c1 = c .before .before .before .before .before .before .before .before .before .before .before .before in
+    let c2 = c1 .before .before .before .before .before .before .before in
+    let a = c2 .before .before .before .before .before .before .before .before .args in
+    turn-of _ _ (c1 .reply .ensures) (ap spoken (take-all (a .count) (now (a .bytes)) (c2 .if1 .taken)))
 
 slice-aggregate-reply : tie.Need-slice-aggregate-reply
 slice-aggregate-reply c = simp length-take (omega arith)
 
 reply-requires-2 : tie.Need-reply-requires-2
 reply-requires-2 c κs = search needs
-
-same-length-6 : tie.Need-same-length-6
-same-length-6 c = search needs
 
 same-length-7 : tie.Need-same-length-7
 same-length-7 c = search needs
@@ -55,6 +55,12 @@ same-length-9 c = search needs
 
 same-length-10 : tie.Need-same-length-10
 same-length-10 c = search needs
+
+same-length-11 : tie.Need-same-length-11
+same-length-11 c = search needs
+
+same-length-12 : tie.Need-same-length-12
+same-length-12 c = search needs
 
 returns-2 : tie.Need-returns-2
 returns-2 c = search needs
@@ -69,12 +75,14 @@ reply-first-spec =
     same-length-3
     same-length-4
     same-length-5
+    same-length-6
     returns
     slice-aggregate-reply
     reply-requires-2
-    same-length-6
     same-length-7
     same-length-8
     same-length-9
     same-length-10
+    same-length-11
+    same-length-12
     returns-2)

@@ -25,11 +25,14 @@ same-length-4 c = search needs
 same-length-5 : tie.Need-same-length-5
 same-length-5 c = search needs
 
+same-length-6 : tie.Need-same-length-6
+same-length-6 c = search needs
+
 returns : tie.Need-returns
 returns c =
-    let c6 = c .before .before .before .before .before .before .before .before .before .before .before in
-    let c7 = c6 .before .before .before .before .before .before in
-    byte-newline _ _ (c7 .if1 .taken) (c6 .reply-kept .ensures) (c .blank .ensures)
+    let c1 = c .before .before .before .before .before .before .before .before .before .before .before .before .before in
+    let c2 = c1 .before .before .before .before .before .before .before in
+    byte-newline _ _ (c2 .if1 .taken) (c1 .reply-kept .ensures) (c .blank .ensures)
 
 note-requires : tie.Need-note-requires
 note-requires c κs = search needs
@@ -48,6 +51,7 @@ take-byte-spec =
     same-length-3
     same-length-4
     same-length-5
+    same-length-6
     returns
     note-requires
     returns-2)

@@ -7,15 +7,16 @@ use Rattle.drill.proofs.calls.again.Statement.{statement}
 use Rattle.drill.proofs.calls.again.Tie as tie
 
 abbrev Inv-loop : tie.InvT-loop
-Inv-loop calls n words names₀ cells₀ head₀ lines₀ k₀ names cells head lines k =
+Inv-loop calls n words names₀ cells₀ head₀ sizes₀ lines₀ k₀ names cells head sizes lines k =
     (k ≤ n)
     × (length names ≡ length names₀)
     × (length cells ≡ length cells₀)
     × (length head ≡ length head₀)
+    × (length sizes ≡ length sizes₀)
     × (length lines ≡ length lines₀)
 
 abbrev μ-loop : tie.MeasureT-loop
-μ-loop calls n words names₀ cells₀ head₀ lines₀ k₀ names cells head lines k = n - k
+μ-loop calls n words names₀ cells₀ head₀ sizes₀ lines₀ k₀ names cells head sizes lines k = n - k
 
 loop-holds : tie.Need-loop-holds Inv-loop μ-loop
 loop-holds c = search needs
@@ -38,6 +39,9 @@ same-length-3 c = search needs
 same-length-4 : tie.Need-same-length-4 Inv-loop μ-loop
 same-length-4 c = search needs
 
+same-length-5 : tie.Need-same-length-5 Inv-loop μ-loop
+same-length-5 c = search needs
+
 returns : tie.Need-returns Inv-loop μ-loop
 returns c = search needs
 
@@ -50,9 +54,6 @@ loop-less c = search needs
 loop-again : tie.Need-loop-again Inv-loop μ-loop
 loop-again c = search needs
 
-same-length-5 : tie.Need-same-length-5 Inv-loop μ-loop
-same-length-5 c = search needs
-
 same-length-6 : tie.Need-same-length-6 Inv-loop μ-loop
 same-length-6 c = search needs
 
@@ -61,6 +62,12 @@ same-length-7 c = search needs
 
 same-length-8 : tie.Need-same-length-8 Inv-loop μ-loop
 same-length-8 c = search needs
+
+same-length-9 : tie.Need-same-length-9 Inv-loop μ-loop
+same-length-9 c = search needs
+
+same-length-10 : tie.Need-same-length-10 Inv-loop μ-loop
+same-length-10 c = search needs
 
 returns-2 : tie.Need-returns-2 Inv-loop μ-loop
 returns-2 c = search needs
@@ -78,12 +85,14 @@ again-spec =
     same-length-2
     same-length-3
     same-length-4
+    same-length-5
     returns
     add-k
     loop-less
     loop-again
-    same-length-5
     same-length-6
     same-length-7
     same-length-8
+    same-length-9
+    same-length-10
     returns-2)

@@ -7,15 +7,16 @@ use Rattle.drill.proofs.calls.make_kept.Statement.{statement}
 use Rattle.drill.proofs.calls.make_kept.Tie as tie
 
 abbrev Inv-loop : tie.InvT-loop
-Inv-loop calls made m names₀ cells₀ head₀ lines₀ k₀ names cells head lines k =
+Inv-loop calls made m names₀ cells₀ head₀ sizes₀ lines₀ k₀ names cells head sizes lines k =
     (k ≤ m)
     × (length names ≡ length names₀)
     × (length cells ≡ length cells₀)
     × (length head ≡ length head₀)
+    × (length sizes ≡ length sizes₀)
     × (length lines ≡ length lines₀)
 
 abbrev μ-loop : tie.MeasureT-loop
-μ-loop calls made m names₀ cells₀ head₀ lines₀ k₀ names cells head lines k = m - k
+μ-loop calls made m names₀ cells₀ head₀ sizes₀ lines₀ k₀ names cells head sizes lines k = m - k
 
 loop-holds : tie.Need-loop-holds Inv-loop μ-loop
 loop-holds c = search needs
@@ -47,6 +48,9 @@ same-length-3 c = search needs
 same-length-4 : tie.Need-same-length-4 Inv-loop μ-loop
 same-length-4 c = search needs
 
+same-length-5 : tie.Need-same-length-5 Inv-loop μ-loop
+same-length-5 c = search needs
+
 returns : tie.Need-returns Inv-loop μ-loop
 returns c = search needs
 
@@ -66,4 +70,5 @@ make-kept-spec =
     same-length-2
     same-length-3
     same-length-4
+    same-length-5
     returns)

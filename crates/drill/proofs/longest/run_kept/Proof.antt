@@ -7,16 +7,17 @@ use Rattle.drill.proofs.longest.run_kept.Statement.{statement}
 use Rattle.drill.proofs.longest.run_kept.Tie as tie
 
 abbrev Inv-loop : tie.InvT-loop
-Inv-loop script made m names₀ cells₀ head₀ lines₀ out₀ k₀ names cells head lines out k =
+Inv-loop script made m names₀ cells₀ head₀ sizes₀ lines₀ out₀ k₀ names cells head sizes lines out k =
     (k ≤ m)
     × (length names ≡ length names₀)
     × (length cells ≡ length cells₀)
     × (length head ≡ length head₀)
+    × (length sizes ≡ length sizes₀)
     × (length lines ≡ length lines₀)
     × (length out ≡ length out₀)
 
 abbrev μ-loop : tie.MeasureT-loop
-μ-loop script made m names₀ cells₀ head₀ lines₀ out₀ k₀ names cells head lines out k = m - k
+μ-loop script made m names₀ cells₀ head₀ sizes₀ lines₀ out₀ k₀ names cells head sizes lines out k = m - k
 
 loop-holds : tie.Need-loop-holds Inv-loop μ-loop
 loop-holds c = search needs
@@ -54,6 +55,9 @@ same-length-4 c = search needs
 same-length-5 : tie.Need-same-length-5 Inv-loop μ-loop
 same-length-5 c = search needs
 
+same-length-6 : tie.Need-same-length-6 Inv-loop μ-loop
+same-length-6 c = search needs
+
 returns : tie.Need-returns Inv-loop μ-loop
 returns c = search needs
 
@@ -75,4 +79,5 @@ run-kept-spec =
     same-length-3
     same-length-4
     same-length-5
+    same-length-6
     returns)

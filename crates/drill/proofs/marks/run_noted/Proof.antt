@@ -7,17 +7,18 @@ use Rattle.drill.proofs.marks.run_noted.Statement.{statement}
 use Rattle.drill.proofs.marks.run_noted.Tie as tie
 
 abbrev Inv-loop : tie.InvT-loop
-Inv-loop part names₀ cells₀ head₀ lines₀ rows₀ out₀ at₀ names cells head lines rows out at =
+Inv-loop part names₀ cells₀ head₀ sizes₀ lines₀ rows₀ out₀ at₀ names cells head sizes lines rows out at =
     (at ≤ length part)
     × (length names ≡ length names₀)
     × (length cells ≡ length cells₀)
     × (length head ≡ length head₀)
+    × (length sizes ≡ length sizes₀)
     × (length lines ≡ length lines₀)
     × (length rows ≡ length rows₀)
     × (length out ≡ length out₀)
 
 abbrev μ-loop : tie.MeasureT-loop
-μ-loop part names₀ cells₀ head₀ lines₀ rows₀ out₀ at₀ names cells head lines rows out at = length part - at
+μ-loop part names₀ cells₀ head₀ sizes₀ lines₀ rows₀ out₀ at₀ names cells head sizes lines rows out at = length part - at
 
 note-requires : tie.Need-note-requires Inv-loop μ-loop
 note-requires c κs = search needs
@@ -64,6 +65,9 @@ same-length-5 c = search needs
 same-length-6 : tie.Need-same-length-6 Inv-loop μ-loop
 same-length-6 c = search needs
 
+same-length-7 : tie.Need-same-length-7 Inv-loop μ-loop
+same-length-7 c = search needs
+
 returns : tie.Need-returns Inv-loop μ-loop
 returns c = search needs
 
@@ -88,4 +92,5 @@ run-noted-spec =
     same-length-4
     same-length-5
     same-length-6
+    same-length-7
     returns)

@@ -7,7 +7,11 @@ use Rattle.drill.proofs.marks.try_marks.Statement.{statement}
 use Rattle.drill.proofs.marks.try_marks.Tie as tie
 
 abbrev Inv-loop : tie.InvT-loop
-Inv-loop part rows₀ out₀ marks after₀ m₀ rows out after m = (m ≤ marks) × (marks < 2 ^ 32) × (length rows ≡ length rows₀) × (length out ≡ length out₀)
+Inv-loop part rows₀ out₀ marks after₀ m₀ rows out after m =
+    (m ≤ marks)
+    × (marks < 2 ^ 32)
+    × (length rows ≡ length rows₀)
+    × (length out ≡ length out₀)
 
 abbrev μ-loop : tie.MeasureT-loop
 μ-loop part rows₀ out₀ marks after₀ m₀ rows out after m = marks - m

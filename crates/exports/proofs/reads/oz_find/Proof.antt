@@ -4,7 +4,7 @@ use Prim.Native.Nat.{_<_}
 use native.Mathlib.Omega.{arith}
 use denote.Ref.{now}
 use Rattle.tree_rules.specs.Find.{Counted}
-use Rattle.index_rules.specs.Live.{lentTree}
+use Rattle.index_rules.specs.Live.{unsized}
 use Rattle.exports.specs.Words.{answerWord, searchWord}
 use Rattle.exports.proofs.Answering.{finds-plain, finds-looks, answer-below}
 use borrow.Author.Needs.{needs}
@@ -21,7 +21,7 @@ search-word-requires : tie.Need-search-word-requires
 search-word-requires c κs =
     let is = c .counted .ensures ∙ c .before .find .ensures in
     let a = c .before .before .before .before .before .args in
-    let t = lentTree (now (a .names)) (now (a .cells)) (now (a .head)) in (
+    let t = unsized (now (a .names)) (now (a .cells)) (now (a .head)) in (
       subst (λ (x : Counted). answerWord (x .answer) < 281474976710656) (sym is) (answer-below (finds-plain t (a .hash) (a .key))),
       subst (λ (x : Counted). x .looks < 65536) (sym is) (omega (arith, finds-looks t (a .hash) (a .key))),
     )

@@ -27,10 +27,25 @@ same-length-3 c = search needs
 same-length-4 : tie.Need-same-length-4
 same-length-4 c = search needs
 
+same-length-5 : tie.Need-same-length-5
+same-length-5 c = search needs
+
 returns : tie.Need-returns
 returns c =
     let c1 = c .before in
-    tells (c .word .ensures ∙ ap answerWord (c1 .answer .ensures)) (c1 .before .before .before .before .before .before .before .before .before .rollback .ensures)
+    let c2 = c1 .before .before .before .before .before .before .before .before .before .before .before in
+    tells (c .word .ensures ∙ ap answerWord (c1 .answer .ensures)) (c2 .rollback .ensures)
 
 pub oz-rollback-spec : {M : Type 1} → statement M
-oz-rollback-spec = tie.close (tie.spec rollback-requires answer-requires word-requires same-length same-length-2 same-length-3 same-length-4 returns)
+oz-rollback-spec =
+    tie.close
+    (tie.spec
+    rollback-requires
+    answer-requires
+    word-requires
+    same-length
+    same-length-2
+    same-length-3
+    same-length-4
+    same-length-5
+    returns)

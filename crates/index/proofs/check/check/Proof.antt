@@ -7,13 +7,13 @@ use borrow.Author.Needs.{needs}
 use Rattle.index.proofs.check.check.Statement.{statement}
 use Rattle.index.proofs.check.check.Tie as tie
 
-fit-requires : tie.Need-fit-requires
-fit-requires c κs = search needs
+fit-unsized-requires : tie.Need-fit-unsized-requires
+fit-unsized-requires c κs = search needs
 
 returns : tie.Need-returns
 returns c =
     let at-fit = c .before in
-    check-unfit _ (at-fit .fit .ensures) (not-true (at-fit .fit .result) (c .if1 .taken))
+    check-unfit _ (at-fit .fit-unsized .ensures) (not-true (at-fit .fit-unsized .result) (c .if1 .taken))
 
 word-requires : tie.Need-word-requires
 word-requires c κs = search needs
@@ -38,8 +38,8 @@ returns-2 c =
     let at-fit = at-test .before in
     check-fit
     _
-    (at-fit .fit .ensures)
-    (not-false (at-fit .fit .result) (at-test .if1 .left))
+    (at-fit .fit-unsized .ensures)
+    (not-false (at-fit .fit-unsized .result) (at-test .if1 .left))
     (at-word .word .ensures)
     (ap checkedOf (sym (c .enum-told .given .1)) ∙ at-walk .check-invariants .ensures)
 
@@ -51,8 +51,8 @@ returns-3 c =
     let at-fit = at-test .before in
     check-fit
     _
-    (at-fit .fit .ensures)
-    (not-false (at-fit .fit .result) (at-test .if1 .left))
+    (at-fit .fit-unsized .ensures)
+    (not-false (at-fit .fit-unsized .result) (at-test .if1 .left))
     (at-word .word .ensures)
     (ap checkedOf (sym (c .before .walked .given .1)) ∙ at-walk .check-invariants .ensures)
 
@@ -64,8 +64,8 @@ returns-4 c =
     let at-fit = at-test .before in
     check-fit
     _
-    (at-fit .fit .ensures)
-    (not-false (at-fit .fit .result) (at-test .if1 .left))
+    (at-fit .fit-unsized .ensures)
+    (not-false (at-fit .fit-unsized .result) (at-test .if1 .left))
     (at-word .word .ensures)
     (ap checkedOf (sym (c .enum-told2 .given .1)) ∙ at-walk .check-invariants .ensures)
 
@@ -73,7 +73,7 @@ pub check-spec : {M : Type 1} → statement M
 check-spec =
     tie.close
     (tie.spec
-    fit-requires
+    fit-unsized-requires
     returns
     word-requires
     check-invariants-requires

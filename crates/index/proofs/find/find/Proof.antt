@@ -8,13 +8,13 @@ use Rattle.index.proofs.Gate.{find-unfit, find-fit, looks-word}
 use Rattle.index.proofs.find.find.Statement.{statement}
 use Rattle.index.proofs.find.find.Tie as tie
 
-fit-requires : tie.Need-fit-requires
-fit-requires c κs = search needs
+fit-unsized-requires : tie.Need-fit-unsized-requires
+fit-unsized-requires c κs = search needs
 
 returns : tie.Need-returns
 returns c =
     let at-fit = c .before in
-    find-unfit _ (at-fit .fit .ensures) _ _ (not-true (at-fit .fit .result) (c .if1 .taken))
+    find-unfit _ (at-fit .fit-unsized .ensures) _ _ (not-true (at-fit .fit-unsized .result) (c .if1 .taken))
 
 word-requires : tie.Need-word-requires
 word-requires c κs = search needs
@@ -32,7 +32,7 @@ cast-count c =
     let at-fit = at-test .before in
     omega (
       arith,
-      looks-word _ (at-fit .fit .ensures) (not-false (at-fit .fit .result) (at-test .if1 .left)) _ _ _
+      looks-word _ (at-fit .fit-unsized .ensures) (not-false (at-fit .fit-unsized .result) (at-test .if1 .left)) _ _ _
           (ap searchedOf (sym (c .before .found .given .1)) ∙ at-search .find-tree-node .ensures),
     )
 
@@ -46,7 +46,7 @@ cast-count-2 c =
     let at-fit = at-test .before in
     omega (
       arith,
-      looks-word _ (at-fit .fit .ensures) (not-false (at-fit .fit .result) (at-test .if1 .left)) _ _ _
+      looks-word _ (at-fit .fit-unsized .ensures) (not-false (at-fit .fit-unsized .result) (at-test .if1 .left)) _ _ _
           (ap searchedOf (sym (c .before .found2 .given .1)) ∙ at-search .find-tree-node .ensures),
     )
 
@@ -60,7 +60,7 @@ cast-count-3 c =
     let at-fit = at-test .before in
     omega (
       arith,
-      looks-word _ (at-fit .fit .ensures) (not-false (at-fit .fit .result) (at-test .if1 .left)) _ _ _
+      looks-word _ (at-fit .fit-unsized .ensures) (not-false (at-fit .fit-unsized .result) (at-test .if1 .left)) _ _ _
           (ap searchedOf (sym (c .before .found3 .given .1)) ∙ at-search .find-tree-node .ensures),
     )
 
@@ -72,10 +72,10 @@ returns-2 c =
     let at-fit = at-test .before in
     find-fit
     _
-    (at-fit .fit .ensures)
+    (at-fit .fit-unsized .ensures)
     _
     _
-    (not-false (at-fit .fit .result) (at-test .if1 .left))
+    (not-false (at-fit .fit-unsized .result) (at-test .if1 .left))
     (at-word .word .ensures)
     (ap searchedOf (sym (c .before .found .given .1)) ∙ at-search .find-tree-node .ensures)
 
@@ -87,10 +87,10 @@ returns-3 c =
     let at-fit = at-test .before in
     find-fit
     _
-    (at-fit .fit .ensures)
+    (at-fit .fit-unsized .ensures)
     _
     _
-    (not-false (at-fit .fit .result) (at-test .if1 .left))
+    (not-false (at-fit .fit-unsized .result) (at-test .if1 .left))
     (at-word .word .ensures)
     (ap searchedOf (sym (c .before .found2 .given .1)) ∙ at-search .find-tree-node .ensures)
 
@@ -102,10 +102,10 @@ returns-4 c =
     let at-fit = at-test .before in
     find-fit
     _
-    (at-fit .fit .ensures)
+    (at-fit .fit-unsized .ensures)
     _
     _
-    (not-false (at-fit .fit .result) (at-test .if1 .left))
+    (not-false (at-fit .fit-unsized .result) (at-test .if1 .left))
     (at-word .word .ensures)
     (ap searchedOf (sym (c .before .found3 .given .1)) ∙ at-search .find-tree-node .ensures)
 
@@ -113,7 +113,7 @@ pub find-spec : {M : Type 1} → statement M
 find-spec =
     tie.close
     (tie.spec
-    fit-requires
+    fit-unsized-requires
     returns
     word-requires
     find-tree-node-requires

@@ -1,37 +1,19 @@
--- The five tests in a row are the model's.
-use mathlib.Core.Path.{_≡_, refl}
-use denote.Ref.{now}
-use lib.ListN.{length}
-use lib.Dec.{eqb}
-use borrow.Author.Tests.{lt-leb, le-leb}
+-- The test without the sizes comes first, then that there is one to a slot.
 use borrow.Author.Needs.{needs}
-use Rattle.slots.specs.Words.{_and_}
-use Rattle.slots.proofs.Laws.{and-next}
-use Rattle.index_rules.specs.Live.{fits, lentTree}
+use Rattle.index_rules.specs.Live.{fits}
 use Rattle.index.proofs.fit.fit.Statement.{statement}
 use Rattle.index.proofs.fit.fit.Tie as tie
 
-mul-if3 : tie.Need-mul-if3
-mul-if3 c = search needs
-
-mul-if4 : tie.Need-mul-if4
-mul-if4 c = search needs
-
--- What is asked of the slices is what the last `&&` is asked.
-asked : (c : tie.Joined3)
-    → let a = c .before .before .before .args in
-    c .if3 .if4 and eqb (length (now (a .head))) 3 ≡ fits (lentTree (now (a .names)) (now (a .cells)) (now (a .head)))
-unfolding fits
-asked c =
-    and-next _ (c .before .before .if1 .came) (λ w. (le-leb _ _ (w .0 .taken), w .1)) (λ w. (lt-leb _ _ (w .0 .left), w .1))
-    (and-next _ (c .before .if2 .came) (λ w. (w .0 .taken, w .1)) (λ w. (w .0 .left, w .1))
-    (and-next _ (c .if3 .came) (λ w. (w .0 .taken, w .1)) (λ w. (w .0 .left, w .1)) refl))
+fit-unsized-requires : tie.Need-fit-unsized-requires
+fit-unsized-requires c κs = search needs
 
 returns : tie.Need-returns
-returns c = rw (← asked (c .before), c .if4 .taken)
+unfolding fits
+returns c = rw (← c .before .fit-unsized .ensures, c .if1 .taken)
 
 returns-2 : tie.Need-returns-2
-returns-2 c = rw (← asked (c .before), c .if4 .left)
+unfolding fits
+returns-2 c = rw (← c .before .fit-unsized .ensures, c .if1 .left)
 
 pub fit-spec : {M : Type 1} → statement M
-fit-spec = tie.close (tie.spec mul-if3 mul-if4 returns returns-2)
+fit-spec = tie.close (tie.spec fit-unsized-requires returns returns-2)

@@ -14,14 +14,15 @@ use Rattle.index.proofs.fresh.bare.Reads as reads
 use Rattle.index.proofs.fresh.bare.Lts as lts
 
 abbrev Inv-loop : tie.InvT-loop
-Inv-loop names₀ cells₀ head n k₀ names cells k =
-    (bared k (lentTree names cells head) ≡ bared n (lentTree names₀ cells₀ head))
+Inv-loop names₀ cells₀ head sizes₀ n k₀ names cells sizes k =
+    (bared k (lentTree names cells head sizes) ≡ bared n (lentTree names₀ cells₀ head sizes₀))
     × (k ≤ n)
     × (length names ≡ length names₀)
     × (length cells ≡ length cells₀)
+    × (length sizes ≡ length sizes₀)
 
 abbrev μ-loop : tie.MeasureT-loop
-μ-loop names₀ cells₀ head n k₀ names cells k = k
+μ-loop names₀ cells₀ head sizes₀ n k₀ names cells sizes k = k
 
 loop-holds : tie.Need-loop-holds Inv-loop μ-loop
 loop-holds c = search needs
@@ -35,20 +36,28 @@ put-pair-requires c κs = search needs
 wipe-requires : tie.Need-wipe-requires Inv-loop μ-loop
 wipe-requires c κs = search needs
 
+cast-put-word : tie.Need-cast-put-word Inv-loop μ-loop
+cast-put-word c = search needs
+
+put-word-requires : tie.Need-put-word-requires Inv-loop μ-loop
+put-word-requires c κs = search needs
+
 loop-less : tie.Need-loop-less Inv-loop μ-loop
 loop-less c = search needs
 
 loop-again : tie.Need-loop-again Inv-loop μ-loop
 loop-again c =
-    let c2 = c .before .before in
-    let c4 = c2 .before .before .before .before in
-    let c5 = c4 .before .before in
-    let c6 = c5 .before in
-    let a = c6 .before .before .before .before .args in (
-      bare-on (c6 .loop .names) (c6 .loop .cells) (now (a .head)) (c6 .loop .k) (c5 .loop-test .taken) (c4 .put-pair .ensures) (c2 .wipe .ensures) ∙ c6 .loop .inv .0,
+    let c1 = c .before .before in
+    let c2 = c1 .before .before .before .before in
+    let c3 = c2 .before .before .before .before in
+    let c4 = c3 .before .before in
+    let c5 = c4 .before in
+    let a = c5 .before .before .before .before .before .args in (
+      bare-on (c5 .loop .names) (c5 .loop .cells) (now (a .head)) (c5 .loop .sizes) (c5 .loop .k) (c4 .loop-test .taken) (c3 .put-pair .ensures) (c2 .wipe .ensures) (c1 .put-word .ensures) ∙ c5 .loop .inv .0,
       omega arith,
-      c4 .put-pair .kept .0 ∙ c6 .loop .inv .2,
-      c2 .wipe .kept .0 ∙ c6 .loop .inv .3,
+      c3 .put-pair .kept .0 ∙ c5 .loop .inv .2,
+      c2 .wipe .kept .0 ∙ c5 .loop .inv .3,
+      c1 .put-word .kept .0 ∙ c5 .loop .inv .4,
     )
 
 same-length : tie.Need-same-length Inv-loop μ-loop
@@ -57,11 +66,30 @@ same-length c = search needs
 same-length-2 : tie.Need-same-length-2 Inv-loop μ-loop
 same-length-2 c = search needs
 
+same-length-3 : tie.Need-same-length-3 Inv-loop μ-loop
+same-length-3 c = search needs
+
 returns : tie.Need-returns Inv-loop μ-loop
 returns c =
     let c1 = c .before in
-    let a = c1 .before .before .before .before .args in
-    bare-end (c1 .loop .names) (c1 .loop .cells) (now (a .head)) (c1 .loop .k) (c .loop-test .left) ∙ c1 .loop .inv .0
+    let a = c1 .before .before .before .before .before .args in
+    bare-end (c1 .loop .names) (c1 .loop .cells) (now (a .head)) (c1 .loop .sizes) (c1 .loop .k) (c .loop-test .left) ∙ c1 .loop .inv .0
 
 pub bare-spec : {M : Type 1} → statement M
-bare-spec = tie.close (tie.spec Inv-loop μ-loop loop-holds sub-k put-pair-requires wipe-requires loop-less loop-again same-length same-length-2 returns)
+bare-spec =
+    tie.close
+    (tie.spec
+    Inv-loop
+    μ-loop
+    loop-holds
+    sub-k
+    put-pair-requires
+    wipe-requires
+    cast-put-word
+    put-word-requires
+    loop-less
+    loop-again
+    same-length
+    same-length-2
+    same-length-3
+    returns)

@@ -24,20 +24,23 @@ same-length-3 c = search needs
 same-length-4 : tie.Need-same-length-4
 same-length-4 c = search needs
 
+same-length-5 : tie.Need-same-length-5
+same-length-5 c = search needs
+
 returns : tie.Need-returns
 returns c =
     let c1 = c .before in
-    let a = c1 .before .before .before .before .before .before .before .before .before .args in
-    fresh-unfit (now (a .names)) (now (a .cells)) (now (a .head)) (now (a .lines)) (c1 .fit-lengths .ensures) (not-true (c1 .fit-lengths .result) (c .if1 .taken))
+    let a = c1 .before .before .before .before .before .before .before .before .before .before .before .args in
+    fresh-unfit (now (a .names)) (now (a .cells)) (now (a .head)) (now (a .sizes)) (now (a .lines)) (c1 .fit-lengths .ensures) (not-true (c1 .fit-lengths .result) (c .if1 .taken))
 
 capacity-of-requires : tie.Need-capacity-of-requires
 capacity-of-requires c κs = search needs
 
 cast-bare : tie.Need-cast-bare
 cast-bare c =
-    let c2 = c .before .before .before .before .before in
-    let c3 = c2 .before in
-    let fit = lengths-fit _ (sym (c3 .fit-lengths .ensures) ∙ not-false (c3 .fit-lengths .result) (c2 .if1 .left)) in
+    let c1 = c .before .before .before .before .before .before in
+    let c2 = c1 .before in
+    let fit = lengths-fit _ (sym (c2 .fit-lengths .ensures) ∙ not-false (c2 .fit-lengths .result) (c1 .if1 .left)) in
     omega (arith, fit .tree .two, fit .tree .most)
 
 bare-requires : tie.Need-bare-requires
@@ -48,17 +51,14 @@ head-put-requires c κs = search needs
 
 cast-cut : tie.Need-cast-cut
 cast-cut c =
-    let c6 = c .before .before .before .before .before .before .before .before .before .before .before .before .before in
-    let c7 = c6 .before .before in
-    let c8 = c7 .before in
-    let fit = lengths-fit _ (sym (c8 .fit-lengths .ensures) ∙ not-false (c8 .fit-lengths .result) (c7 .if1 .left)) in
-    omega (arith, c6 .capacity-of .ensures, fit .words, fit .most)
+    let c1 = c .before .before .before .before .before .before .before .before .before .before .before .before .before .before .before .before in
+    let c2 = c1 .before .before in
+    let c3 = c2 .before in
+    let fit = lengths-fit _ (sym (c3 .fit-lengths .ensures) ∙ not-false (c3 .fit-lengths .result) (c2 .if1 .left)) in
+    omega (arith, c1 .capacity-of .ensures, fit .words, fit .most)
 
 cut-requires : tie.Need-cut-requires
 cut-requires c κs = search needs
-
-same-length-5 : tie.Need-same-length-5
-same-length-5 c = search needs
 
 same-length-6 : tie.Need-same-length-6
 same-length-6 c = search needs
@@ -69,17 +69,23 @@ same-length-7 c = search needs
 same-length-8 : tie.Need-same-length-8
 same-length-8 c = search needs
 
+same-length-9 : tie.Need-same-length-9
+same-length-9 c = search needs
+
+same-length-10 : tie.Need-same-length-10
+same-length-10 c = search needs
+
 returns-2 : tie.Need-returns-2
 returns-2 c =
-    let c2 = c .before .before in
-    let c4 = c2 .before .before .before .before in
-    let c7 = c4 .before .before .before .before .before .before in
-    let c8 = c7 .before .before .before .before in
-    let c9 = c8 .before .before in
-    let c10 = c9 .before in
-    let a = c10 .before .before .before .before .before .before .before .before .before .args in
-    fresh-made (now (a .names)) (now (a .cells)) (now (a .head)) (now (a .lines)) (c10 .fit-lengths .ensures)
-    (not-false (c10 .fit-lengths .result) (c9 .if1 .left)) (c8 .capacity-of .ensures) (c7 .bare .ensures) (c4 .head-put .ensures) (c2 .cut .ensures)
+    let c1 = c .before .before in
+    let c2 = c1 .before .before .before .before in
+    let c3 = c2 .before .before .before .before .before .before .before .before in
+    let c4 = c3 .before .before .before .before .before in
+    let c5 = c4 .before .before in
+    let c6 = c5 .before in
+    let a = c6 .before .before .before .before .before .before .before .before .before .before .before .args in
+    fresh-made (now (a .names)) (now (a .cells)) (now (a .head)) (now (a .sizes)) (now (a .lines)) (c6 .fit-lengths .ensures)
+    (not-false (c6 .fit-lengths .result) (c5 .if1 .left)) (c4 .capacity-of .ensures) (c3 .bare .ensures) (c2 .head-put .ensures) (c1 .cut .ensures)
 
 pub fresh-spec : {M : Type 1} → statement M
 fresh-spec =
@@ -90,6 +96,7 @@ fresh-spec =
     same-length-2
     same-length-3
     same-length-4
+    same-length-5
     returns
     capacity-of-requires
     cast-bare
@@ -97,8 +104,9 @@ fresh-spec =
     head-put-requires
     cast-cut
     cut-requires
-    same-length-5
     same-length-6
     same-length-7
     same-length-8
+    same-length-9
+    same-length-10
     returns-2)

@@ -17,8 +17,8 @@ use Rattle.slots.proofs.word.Reads as word-reads
 
 returns : tie.Need-returns
 returns c =
-    let a = c .before .before .before .before .args in
-    grow-wide (lentTree (now (a .names)) (now (a .cells)) (now (a .head))) (a .x) (a .y) (a .hash) (a .key) (a .place)
+    let a = c .before .before .before .before .before .args in
+    grow-wide (lentTree (now (a .names)) (now (a .cells)) (now (a .head)) (now (a .sizes))) (a .x) (a .y) (a .hash) (a .key) (a .place)
     (c .if1 .taken)
 
 word-requires : tie.Need-word-requires
@@ -31,8 +31,8 @@ returns-2 : tie.Need-returns-2
 returns-2 c =
     let c1 = c .before in
     let c2 = c1 .before .before in
-    let a = c2 .before .before .before .before .args in
-    grow-null (lentTree (now (a .names)) (now (a .cells)) (now (a .head))) (a .x) (a .y) (a .hash) (a .key) (a .place)
+    let a = c2 .before .before .before .before .before .args in
+    grow-null (lentTree (now (a .names)) (now (a .cells)) (now (a .head)) (now (a .sizes))) (a .x) (a .y) (a .hash) (a .key) (a .place)
     (c2 .if1 .left)
     (c1 .word .ensures)
     (c .if2 .taken)
@@ -76,35 +76,38 @@ same-length-3 c = search needs
 same-length-4 : tie.Need-same-length-4
 same-length-4 c = search needs
 
+same-length-5 : tie.Need-same-length-5
+same-length-5 c = search needs
+
 returns-3 : tie.Need-returns-3
 returns-3 c =
-    let c2 = c .before .before in
-    let c4 = c2 .before .before .before .before in
-    let c6 = c4 .before .before .before .before .before in
-    let c8 = c6 .before .before .before .before in
-    let c10 = c8 .before .before .before .before in
+    let c1 = c .before .before in
+    let c2 = c1 .before .before .before .before .before .before in
+    let c3 = c2 .before .before .before .before .before .before in
+    let c4 = c3 .before .before .before .before in
+    let c5 = c4 .before .before .before .before in
+    let c6 = c5 .before .before in
+    let c7 = c6 .before in
+    let c8 = c7 .before in
+    let c9 = c8 .before .before in
+    let c10 = c9 .before .before in
     let c11 = c10 .before .before in
     let c12 = c11 .before in
-    let c13 = c12 .before in
-    let c14 = c13 .before .before in
-    let c15 = c14 .before .before in
-    let c16 = c15 .before .before in
-    let c17 = c16 .before in
-    let c18 = c17 .before .before in
-    let a = c18 .before .before .before .before .args in
-    let t = lentTree (now (a .names)) (now (a .cells)) (now (a .head)) in
+    let c13 = c12 .before .before in
+    let a = c13 .before .before .before .before .before .args in
+    let t = lentTree (now (a .names)) (now (a .cells)) (now (a .head)) (now (a .sizes)) in
     grow t (a .x) (a .y) (a .hash) (a .key) (a .place)
-    (c18 .if1 .left)
-    (c17 .word .ensures)
-    (c16 .if2 .left)
-    (c15 .word2 .ensures)
-    (follower t (a .x) (a .y) (c14 .word3 .ensures) (c12 .if3 .came) (c13 .get .ensures) (λ w. (w .0 .taken, w .1)) (λ w. (w .0 .left, w .1)))
-    (top t (a .x) (a .y) (c14 .word3 .ensures) (c11 .if4 .came) (λ w. (w .0 .taken, w .1)) (λ w. (w .0 .left, w .1)))
-    (c10 .put-pair .ensures)
-    (c8 .put .ensures)
-    (c6 .seat .ensures)
-    (c4 .hang-slot .ensures)
-    (c2 .head-put .ensures)
+    (c13 .if1 .left)
+    (c12 .word .ensures)
+    (c11 .if2 .left)
+    (c10 .word2 .ensures)
+    (follower t (a .x) (a .y) (c9 .word3 .ensures) (c7 .if3 .came) (c8 .get .ensures) (λ w. (w .0 .taken, w .1)) (λ w. (w .0 .left, w .1)))
+    (top t (a .x) (a .y) (c9 .word3 .ensures) (c6 .if4 .came) (λ w. (w .0 .taken, w .1)) (λ w. (w .0 .left, w .1)))
+    (c5 .put-pair .ensures)
+    (c4 .put .ensures)
+    (c3 .seat .ensures)
+    (c2 .hang-slot .ensures)
+    (c1 .head-put .ensures)
 
 pub grow-spec : {M : Type 1} → statement M
 grow-spec =
@@ -127,4 +130,5 @@ grow-spec =
     same-length-2
     same-length-3
     same-length-4
+    same-length-5
     returns-3)

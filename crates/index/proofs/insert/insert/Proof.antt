@@ -26,10 +26,13 @@ same-length-3 c = search needs
 same-length-4 : tie.Need-same-length-4
 same-length-4 c = search needs
 
+same-length-5 : tie.Need-same-length-5
+same-length-5 c = search needs
+
 returns : tie.Need-returns
 returns c =
     let c1 = c .before in
-    let a = c1 .before .before .before .before .before .before .before .before .before .args in
+    let a = c1 .before .before .before .before .before .before .before .before .before .before .before .args in
     kept _ _ _ (settled _ (a .hash) (a .key) (a .place)) _ (not-at (c1 .ask .result) (c .match .keys2)) (c1 .ask .ensures (a .place))
 
 grow-requires : tie.Need-grow-requires
@@ -37,9 +40,6 @@ grow-requires c κs = search needs
 
 append-requires : tie.Need-append-requires
 append-requires c κs = search needs
-
-same-length-5 : tie.Need-same-length-5
-same-length-5 c = search needs
 
 same-length-6 : tie.Need-same-length-6
 same-length-6 c = search needs
@@ -50,17 +50,23 @@ same-length-7 c = search needs
 same-length-8 : tie.Need-same-length-8
 same-length-8 c = search needs
 
+same-length-9 : tie.Need-same-length-9
+same-length-9 c = search needs
+
+same-length-10 : tie.Need-same-length-10
+same-length-10 c = search needs
+
 returns-2 : tie.Need-returns-2
 returns-2 c =
-    let c2 = c .before .before in
-    let c6 = c2 .before .before .before .before .before .before .before .before in
-    let c8 = c6 .before .before .before .before .before in
-    let c10 = c8 .before .before in
-    let a = c10 .before .before .before .before .before .before .before .before .before .args in
-    let d = done _ _ _ (settled _ (a .hash) (a .key) (a .place)) _ (ap insertedOf (sym (c8 .asked .given .1)) ∙ c10 .ask .ensures (a .place)) in
+    let c1 = c .before .before in
+    let c2 = c1 .before .before .before .before .before .before .before .before .before .before in
+    let c3 = c2 .before .before .before .before .before .before in
+    let c4 = c3 .before .before in
+    let a = c4 .before .before .before .before .before .before .before .before .before .before .before .args in
+    let d = done _ _ _ (settled _ (a .hash) (a .key) (a .place)) _ (ap insertedOf (sym (c3 .asked .given .1)) ∙ c4 .ask .ensures (a .place)) in
     joined _ _ _ _
-    (c6 .grow .ensures ∙ grown-is _ (names-most d) _ _ _ _ _ (count-below d))
-    (c2 .append .ensures ∙ appended-is _ _ (lines-most d))
+    (c2 .grow .ensures ∙ grown-is _ (names-most d) _ _ _ _ _ (count-below d))
+    (c1 .append .ensures ∙ appended-is _ _ (lines-most d))
     (d .left)
 
 pub insert-spec : {M : Type 1} → statement M
@@ -73,11 +79,13 @@ insert-spec =
     same-length-2
     same-length-3
     same-length-4
+    same-length-5
     returns
     grow-requires
     append-requires
-    same-length-5
     same-length-6
     same-length-7
     same-length-8
+    same-length-9
+    same-length-10
     returns-2)

@@ -55,19 +55,19 @@ same-length-3 c = search needs
 
 returns-3 : tie.Need-returns-3
 returns-3 c =
-    let c2 = c .before .before in
-    let c3 = c2 .before .before in
-    let c4 = c3 .before in
-    let c6 = c4 .before .before .before in
-    let c8 = c6 .before .before in
-    let c9 = c8 .before .before in
-    let c10 = c9 .before .before .before .before in
+    let c1 = c .before .before in
+    let c2 = c1 .before .before in
+    let c3 = c2 .before in
+    let c4 = c3 .before .before .before in
+    let c5 = c4 .before .before in
+    let c6 = c5 .before .before in
+    let c7 = c6 .before .before .before .before .before in
     place-done _ _ _ _
-    (sought-at _ _ _ (c9 .word .ensures) (c8 .find-tree-node .result) (c8 .find-tree-node .ensures) (c6 .found .given .1))
-    (c4 .get .ensures)
-    (c3 .if1 .left)
-    (omega (arith, c10 .fits .places))
-    (c2 .put .ensures)
+    (sought-at _ _ _ (c6 .word .ensures) (c5 .find-tree-node .result) (c5 .find-tree-node .ensures) (c4 .found .given .1))
+    (c3 .get .ensures)
+    (c2 .if1 .left)
+    (omega (arith, c7 .fits .places))
+    (c1 .put .ensures)
 
 pub place-back-spec : {M : Type 1} → statement M
 place-back-spec =

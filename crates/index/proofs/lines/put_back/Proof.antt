@@ -41,14 +41,14 @@ same-length-3 c = search needs
 
 returns : tie.Need-returns
 returns c kind prehash prekey =
-    let c2 = c .before .before in
-    let c3 = c2 .before .before in
-    let c4 = c3 .before in
-    let c5 = c4 .before .before .before in
-    let a = c5 .before .before .before .before .before .args in
+    let c1 = c .before .before in
+    let c2 = c1 .before .before in
+    let c3 = c2 .before in
+    let c4 = c3 .before .before .before in
+    let a = c4 .before .before .before .before .before .before .args in
     put-full _ (lineMade kind (a .hash) (a .key) (a .place) prehash prekey) (a .y)
-    (sought-not _ _ _ (c5 .word .ensures) (c4 .find-tree-node .result) (c4 .find-tree-node .ensures) (c3 .match .keys2))
-    (ap freeOf (sym (c .enum-told2 .given .1)) ∙ c2 .lowest-free .ensures)
+    (sought-not _ _ _ (c4 .word .ensures) (c3 .find-tree-node .result) (c3 .find-tree-node .ensures) (c2 .match .keys2))
+    (ap freeOf (sym (c .enum-told2 .given .1)) ∙ c1 .lowest-free .ensures)
 
 same-length-4 : tie.Need-same-length-4
 same-length-4 c = search needs
@@ -61,15 +61,15 @@ same-length-6 c = search needs
 
 returns-2 : tie.Need-returns-2
 returns-2 c kind prehash prekey =
-    let c2 = c .before .before in
-    let c4 = c2 .before .before in
-    let c5 = c4 .before .before in
-    let c6 = c5 .before in
-    let c7 = c6 .before .before .before in
-    let a = c7 .before .before .before .before .before .args in
+    let c1 = c .before .before in
+    let c2 = c1 .before .before in
+    let c3 = c2 .before .before in
+    let c4 = c3 .before in
+    let c5 = c4 .before .before .before in
+    let a = c5 .before .before .before .before .before .before .args in
     put-wide _ (lineMade kind (a .hash) (a .key) (a .place) prehash prekey) (a .y)
-    (sought-not _ _ _ (c7 .word .ensures) (c6 .find-tree-node .result) (c6 .find-tree-node .ensures) (c5 .match .keys2))
-    (ap freeOf (sym (c2 .free .given .1)) ∙ c4 .lowest-free .ensures)
+    (sought-not _ _ _ (c5 .word .ensures) (c4 .find-tree-node .result) (c4 .find-tree-node .ensures) (c3 .match .keys2))
+    (ap freeOf (sym (c1 .free .given .1)) ∙ c2 .lowest-free .ensures)
     (c .if1 .taken)
 
 cast-grow : tie.Need-cast-grow
@@ -87,25 +87,25 @@ same-length-8 c = search needs
 same-length-9 : tie.Need-same-length-9
 same-length-9 c = search needs
 
-returns-3 : tie.Need-returns-3
-returns-3 c kind prehash prekey =
-    let c4 = c .before .before .before .before .before .before in
-    let c5 = c4 .before .before .before .before in
-    let c7 = c5 .before .before in
-    let c9 = c7 .before .before in
-    let c10 = c9 .before .before in
-    let c11 = c10 .before in
-    let c12 = c11 .before .before .before in
-    let c13 = c12 .before .before .before .before .before in
-    let a = c13 .args in
-    put-done _ (lineMade kind (a .hash) (a .key) (a .place) prehash prekey) (a .y)
-    (sought-not _ _ _ (c12 .word .ensures) (c11 .find-tree-node .result) (c11 .find-tree-node .ensures) (c10 .match .keys2))
-    (ap freeOf (sym (c7 .free .given .1)) ∙ c9 .lowest-free .ensures)
-    (c5 .if1 .left)
-    (c4 .grow .ensures ∙ grown-is _ (c13 .pre .0) _ _ _ _ _ (c13 .pre .1))
-
 same-length-10 : tie.Need-same-length-10
 same-length-10 c = search needs
+
+returns-3 : tie.Need-returns-3
+returns-3 c kind prehash prekey =
+    let c1 = c .before .before .before .before .before .before .before .before in
+    let c2 = c1 .before .before .before .before .before in
+    let c3 = c2 .before .before in
+    let c4 = c3 .before .before in
+    let c5 = c4 .before .before in
+    let c6 = c5 .before in
+    let c7 = c6 .before .before .before in
+    let c8 = c7 .before .before .before .before .before .before in
+    let a = c8 .args in
+    put-done _ (lineMade kind (a .hash) (a .key) (a .place) prehash prekey) (a .y)
+    (sought-not _ _ _ (c7 .word .ensures) (c6 .find-tree-node .result) (c6 .find-tree-node .ensures) (c5 .match .keys2))
+    (ap freeOf (sym (c3 .free .given .1)) ∙ c4 .lowest-free .ensures)
+    (c2 .if1 .left)
+    (c1 .grow .ensures ∙ grown-is _ (c8 .pre .0) _ _ _ _ _ (c8 .pre .1))
 
 same-length-11 : tie.Need-same-length-11
 same-length-11 c = search needs
@@ -113,13 +113,16 @@ same-length-11 c = search needs
 same-length-12 : tie.Need-same-length-12
 same-length-12 c = search needs
 
+same-length-13 : tie.Need-same-length-13
+same-length-13 c = search needs
+
 returns-4 : tie.Need-returns-4
 returns-4 c kind prehash prekey =
-    let c2 = c .before .before in
-    let c3 = c2 .before .before .before in
-    let a = c3 .before .before .before .before .before .args in
+    let c1 = c .before .before in
+    let c2 = c1 .before .before .before in
+    let a = c2 .before .before .before .before .before .before .args in
     put-there _ (lineMade kind (a .hash) (a .key) (a .place) prehash prekey) (a .y)
-    (sought-at _ _ _ (c3 .word .ensures) (c2 .find-tree-node .result) (c2 .find-tree-node .ensures) (c .enum-told .given .1))
+    (sought-at _ _ _ (c2 .word .ensures) (c1 .find-tree-node .result) (c1 .find-tree-node .ensures) (c .enum-told .given .1))
 
 pub put-back-spec : {M : Type 1} → statement M
 put-back-spec =
@@ -145,8 +148,9 @@ put-back-spec =
     same-length-7
     same-length-8
     same-length-9
-    returns-3
     same-length-10
+    returns-3
     same-length-11
     same-length-12
+    same-length-13
     returns-4)

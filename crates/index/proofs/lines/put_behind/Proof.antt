@@ -46,15 +46,18 @@ same-length-5 c = search needs
 same-length-6 : tie.Need-same-length-6
 same-length-6 c = search needs
 
+same-length-7 : tie.Need-same-length-7
+same-length-7 c = search needs
+
 returns-2 : tie.Need-returns-2
 returns-2 c kind =
-    let c4 = c .before .before .before .before .before .before in
-    let c6 = c4 .before .before .before .before .before in
-    let c8 = c6 .before .before in
-    let c9 = c8 .before .before .before in
-    let a = c9 .before .before .before .before .before .args in
-    behind-some _ _ _ _ _ (sought-at _ _ _ (c9 .word .ensures) (c8 .find-tree-node .result) (c8 .find-tree-node .ensures) (c6 .found .given .1))
-    (c4 .put-back .ensures kind (a .prehash) (a .prekey))
+    let c1 = c .before .before .before .before .before .before .before .before in
+    let c2 = c1 .before .before .before .before .before .before in
+    let c3 = c2 .before .before in
+    let c4 = c3 .before .before .before in
+    let a = c4 .before .before .before .before .before .before .args in
+    behind-some _ _ _ _ _ (sought-at _ _ _ (c4 .word .ensures) (c3 .find-tree-node .result) (c3 .find-tree-node .ensures) (c2 .found .given .1))
+    (c1 .put-back .ensures kind (a .prehash) (a .prekey))
 
 pub put-behind-spec : {M : Type 1} → statement M
 put-behind-spec =
@@ -71,4 +74,5 @@ put-behind-spec =
     same-length-4
     same-length-5
     same-length-6
+    same-length-7
     returns-2)

@@ -69,20 +69,23 @@ same-length-8 c = search needs
 same-length-9 : tie.Need-same-length-9
 same-length-9 c = search needs
 
+same-length-10 : tie.Need-same-length-10
+same-length-10 c = search needs
+
 returns-3 : tie.Need-returns-3
 returns-3 c =
-    let c4 = c .before .before .before .before .before .before in
-    let c5 = c4 .before .before .before .before in
-    let c6 = c5 .before in
-    let c8 = c6 .before .before .before in
-    let c10 = c8 .before .before in
-    let c11 = c10 .before .before .before in
-    let c12 = c11 .before .before .before .before .before in
+    let c1 = c .before .before .before .before .before .before .before .before in
+    let c2 = c1 .before .before .before .before .before in
+    let c3 = c2 .before in
+    let c4 = c3 .before .before .before in
+    let c5 = c4 .before .before in
+    let c6 = c5 .before .before .before in
+    let c7 = c6 .before .before .before .before .before .before in
     back-done _ _ _ _
-    (sought-at _ _ _ (c11 .word .ensures) (c10 .find-tree-node .result) (c10 .find-tree-node .ensures) (c8 .found .given .1))
-    (c6 .get .ensures)
-    (c5 .if1 .left)
-    (c4 .shrink .ensures ∙ shrunk-is _ (c12 .pre) _)
+    (sought-at _ _ _ (c6 .word .ensures) (c5 .find-tree-node .result) (c5 .find-tree-node .ensures) (c4 .found .given .1))
+    (c3 .get .ensures)
+    (c2 .if1 .left)
+    (c1 .shrink .ensures ∙ shrunk-is _ (c7 .pre) _)
 
 pub take-back-spec : {M : Type 1} → statement M
 take-back-spec =
@@ -105,4 +108,5 @@ take-back-spec =
     same-length-7
     same-length-8
     same-length-9
+    same-length-10
     returns-3)

@@ -37,16 +37,19 @@ same-length-2 c = search needs
 same-length-3 : tie.Need-same-length-3
 same-length-3 c = search needs
 
+same-length-4 : tie.Need-same-length-4
+same-length-4 c = search needs
+
 returns : tie.Need-returns
 returns c =
-    let c1 = c .before .before .before .before .before .before in
-    let c2 = c1 .before .before .before .before in
+    let c1 = c .before .before .before .before .before .before .before .before in
+    let c2 = c1 .before .before .before .before .before in
     let c3 = c2 .before in
     let c4 = c3 .before in
     let c5 = c4 .before in
     let c6 = c5 .before in
-    let a = c6 .before .before .before .before .before .args in
-    line-insert (lentTree (now (a .names)) (now (a .cells)) (now (a .head))) (now (a .lines)) (a .k)
+    let a = c6 .before .before .before .before .before .before .args in
+    line-insert (lentTree (now (a .names)) (now (a .cells)) (now (a .head)) (now (a .sizes))) (now (a .lines)) (a .k)
     (c6 .line-word .ensures)
     (c5 .line-word2 .ensures)
     (c4 .line-word3 .ensures)
@@ -57,26 +60,29 @@ returns c =
 put-back-requires : tie.Need-put-back-requires
 put-back-requires c κs = search needs
 
-same-length-4 : tie.Need-same-length-4
-same-length-4 c = search needs
-
 same-length-5 : tie.Need-same-length-5
 same-length-5 c = search needs
 
 same-length-6 : tie.Need-same-length-6
 same-length-6 c = search needs
 
+same-length-7 : tie.Need-same-length-7
+same-length-7 c = search needs
+
+same-length-8 : tie.Need-same-length-8
+same-length-8 c = search needs
+
 returns-2 : tie.Need-returns-2
 returns-2 c =
-    let c1 = c .before .before .before .before .before .before in
-    let c2 = c1 .before .before .before .before in
+    let c1 = c .before .before .before .before .before .before .before .before in
+    let c2 = c1 .before .before .before .before .before in
     let c3 = c2 .before in
     let c4 = c3 .before in
     let c5 = c4 .before in
     let c6 = c5 .before in
     let c7 = c6 .before in
-    let a = c7 .before .before .before .before .before .args in
-    line-remove (lentTree (now (a .names)) (now (a .cells)) (now (a .head))) (now (a .lines)) (a .k)
+    let a = c7 .before .before .before .before .before .before .args in
+    line-remove (lentTree (now (a .names)) (now (a .cells)) (now (a .head)) (now (a .sizes))) (now (a .lines)) (a .k)
     (c7 .line-word .ensures)
     (c6 .line-word2 .ensures)
     (c5 .line-word3 .ensures)
@@ -94,42 +100,8 @@ line-word-requires-6 c κs = search needs
 put-behind-requires : tie.Need-put-behind-requires
 put-behind-requires c κs = search needs
 
-same-length-7 : tie.Need-same-length-7
-same-length-7 c = search needs
-
-same-length-8 : tie.Need-same-length-8
-same-length-8 c = search needs
-
 same-length-9 : tie.Need-same-length-9
 same-length-9 c = search needs
-
-returns-3 : tie.Need-returns-3
-returns-3 c =
-    let c4 = c .before .before .before .before .before .before in
-    let c5 = c4 .before .before .before .before in
-    let c6 = c5 .before in
-    let c7 = c6 .before in
-    let c8 = c7 .before in
-    let c9 = c8 .before in
-    let c10 = c9 .before in
-    let c11 = c10 .before in
-    let c12 = c11 .before in
-    let c13 = c12 .before in
-    let a = c13 .before .before .before .before .before .args in
-    line-noted (lentTree (now (a .names)) (now (a .cells)) (now (a .head))) (now (a .lines)) (a .k)
-    (c13 .line-word .ensures)
-    (c12 .line-word2 .ensures)
-    (c11 .line-word3 .ensures)
-    (c10 .line-word4 .ensures)
-    (c9 .if1 .left)
-    (c8 .if2 .left)
-    (c7 .if3 .taken)
-    (c6 .line-word5 .ensures)
-    (c5 .line-word6 .ensures)
-    (c4 .put-behind .ensures)
-
-place-back-requires : tie.Need-place-back-requires
-place-back-requires c κs = search needs
 
 same-length-10 : tie.Need-same-length-10
 same-length-10 c = search needs
@@ -140,10 +112,10 @@ same-length-11 c = search needs
 same-length-12 : tie.Need-same-length-12
 same-length-12 c = search needs
 
-returns-4 : tie.Need-returns-4
-returns-4 c =
-    let c1 = c .before .before in
-    let c2 = c1 .before .before .before .before in
+returns-3 : tie.Need-returns-3
+returns-3 c =
+    let c1 = c .before .before .before .before .before .before .before .before in
+    let c2 = c1 .before .before .before .before .before in
     let c3 = c2 .before in
     let c4 = c3 .before in
     let c5 = c4 .before in
@@ -151,8 +123,48 @@ returns-4 c =
     let c7 = c6 .before in
     let c8 = c7 .before in
     let c9 = c8 .before in
-    let a = c9 .before .before .before .before .before .args in
-    line-replace (lentTree (now (a .names)) (now (a .cells)) (now (a .head))) (now (a .lines)) (a .k)
+    let c10 = c9 .before in
+    let a = c10 .before .before .before .before .before .before .args in
+    line-noted (lentTree (now (a .names)) (now (a .cells)) (now (a .head)) (now (a .sizes))) (now (a .lines)) (a .k)
+    (c10 .line-word .ensures)
+    (c9 .line-word2 .ensures)
+    (c8 .line-word3 .ensures)
+    (c7 .line-word4 .ensures)
+    (c6 .if1 .left)
+    (c5 .if2 .left)
+    (c4 .if3 .taken)
+    (c3 .line-word5 .ensures)
+    (c2 .line-word6 .ensures)
+    (c1 .put-behind .ensures)
+
+place-back-requires : tie.Need-place-back-requires
+place-back-requires c κs = search needs
+
+same-length-13 : tie.Need-same-length-13
+same-length-13 c = search needs
+
+same-length-14 : tie.Need-same-length-14
+same-length-14 c = search needs
+
+same-length-15 : tie.Need-same-length-15
+same-length-15 c = search needs
+
+same-length-16 : tie.Need-same-length-16
+same-length-16 c = search needs
+
+returns-4 : tie.Need-returns-4
+returns-4 c =
+    let c1 = c .before .before in
+    let c2 = c1 .before .before .before .before .before in
+    let c3 = c2 .before in
+    let c4 = c3 .before in
+    let c5 = c4 .before in
+    let c6 = c5 .before in
+    let c7 = c6 .before in
+    let c8 = c7 .before in
+    let c9 = c8 .before in
+    let a = c9 .before .before .before .before .before .before .args in
+    line-replace (lentTree (now (a .names)) (now (a .cells)) (now (a .head)) (now (a .sizes))) (now (a .lines)) (a .k)
     (c9 .line-word .ensures)
     (c8 .line-word2 .ensures)
     (c7 .line-word3 .ensures)
@@ -172,8 +184,8 @@ returns-5 c =
     let c5 = c4 .before in
     let c6 = c5 .before in
     let c7 = c6 .before in
-    let a = c7 .before .before .before .before .before .args in
-    line-other (lentTree (now (a .names)) (now (a .cells)) (now (a .head))) (now (a .lines)) (a .k)
+    let a = c7 .before .before .before .before .before .before .args in
+    line-other (lentTree (now (a .names)) (now (a .cells)) (now (a .head)) (now (a .sizes))) (now (a .lines)) (a .k)
     (c7 .line-word .ensures)
     (c6 .line-word2 .ensures)
     (c5 .line-word3 .ensures)
@@ -195,22 +207,26 @@ undo-line-spec =
     same-length
     same-length-2
     same-length-3
+    same-length-4
     returns
     put-back-requires
-    same-length-4
     same-length-5
     same-length-6
+    same-length-7
+    same-length-8
     returns-2
     line-word-requires-5
     line-word-requires-6
     put-behind-requires
-    same-length-7
-    same-length-8
     same-length-9
-    returns-3
-    place-back-requires
     same-length-10
     same-length-11
     same-length-12
+    returns-3
+    place-back-requires
+    same-length-13
+    same-length-14
+    same-length-15
+    same-length-16
     returns-4
     returns-5)

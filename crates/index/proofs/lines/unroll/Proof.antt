@@ -1,15 +1,16 @@
 -- The loop's invariant: undoing the lines left undoes them all, and the count has room for them.
 use borrow.Author.Needs.{needs}
+use Rattle.index_rules.specs.Live.{lentTree}
 use Rattle.index.proofs.Undoing.{Turn, turn-on, turn-not, turn-end}
 use Rattle.index.proofs.lines.unroll.Statement.{statement}
 use Rattle.index.proofs.lines.unroll.Tie as tie
 
 abbrev Inv-loop : tie.InvT-loop
-Inv-loop names₀ cells₀ head₀ lines m count c₀ names cells head c =
-    Turn (record { names = names₀; cells = cells₀; head = head₀ }) lines m count (record { names = names; cells = cells; head = head }) c
+Inv-loop names₀ cells₀ head₀ sizes₀ lines m count c₀ names cells head sizes c =
+    Turn (lentTree names₀ cells₀ head₀ sizes₀) lines m count (lentTree names cells head sizes) c
 
 abbrev μ-loop : tie.MeasureT-loop
-μ-loop names₀ cells₀ head₀ lines m count c₀ names cells head c = c
+μ-loop names₀ cells₀ head₀ sizes₀ lines m count c₀ names cells head sizes c = c
 
 loop-holds : tie.Need-loop-holds Inv-loop μ-loop
 loop-holds c = search needs
@@ -34,13 +35,14 @@ loop-less c = search needs
 
 loop-again : tie.Need-loop-again Inv-loop μ-loop
 loop-again c =
-    let c5 = c .before .before .before .before .before .before .before .before in
-    let c6 = c5 .before .before .before .before in
-    let c7 = c6 .before in
-    turn-on (c7 .loop .inv) (c6 .loop-test .taken) (c5 .undo-line .ensures) (c .enum-told .given .1)
-    (c5 .undo-line .kept .0)
-    (c5 .undo-line .kept .1 .0)
-    (c5 .undo-line .kept .1 .1 .0)
+    let c1 = c .before .before .before .before .before .before .before .before .before .before in
+    let c2 = c1 .before .before .before .before .before in
+    let c3 = c2 .before in
+    turn-on (c3 .loop .inv) (c2 .loop-test .taken) (c1 .undo-line .ensures) (c .enum-told .given .1)
+    (c1 .undo-line .kept .0)
+    (c1 .undo-line .kept .1 .0)
+    (c1 .undo-line .kept .1 .1 .0)
+    (c1 .undo-line .kept .1 .1 .1 .0)
 
 enum-told-2 : tie.Need-enum-told-2 Inv-loop μ-loop
 enum-told-2 c = search needs
@@ -54,21 +56,27 @@ same-length-2 c = search needs
 same-length-3 : tie.Need-same-length-3 Inv-loop μ-loop
 same-length-3 c = search needs
 
-returns : tie.Need-returns Inv-loop μ-loop
-returns c =
-    let c5 = c .before .before .before .before .before .before .before .before in
-    let c6 = c5 .before .before .before .before in
-    let c7 = c6 .before in
-    turn-not (c7 .loop .inv) _ (c6 .loop-test .taken) (c5 .undo-line .ensures) (c .enum-told2 .given .1)
-
 same-length-4 : tie.Need-same-length-4 Inv-loop μ-loop
 same-length-4 c = search needs
+
+returns : tie.Need-returns Inv-loop μ-loop
+returns c =
+    let c1 = c .before .before .before .before .before .before .before .before .before .before in
+    let c2 = c1 .before .before .before .before .before in
+    let c3 = c2 .before in
+    turn-not (c3 .loop .inv) _ (c2 .loop-test .taken) (c1 .undo-line .ensures) (c .enum-told2 .given .1)
 
 same-length-5 : tie.Need-same-length-5 Inv-loop μ-loop
 same-length-5 c = search needs
 
 same-length-6 : tie.Need-same-length-6 Inv-loop μ-loop
 same-length-6 c = search needs
+
+same-length-7 : tie.Need-same-length-7 Inv-loop μ-loop
+same-length-7 c = search needs
+
+same-length-8 : tie.Need-same-length-8 Inv-loop μ-loop
+same-length-8 c = search needs
 
 returns-2 : tie.Need-returns-2 Inv-loop μ-loop
 returns-2 c = turn-end (c .before .loop .inv) (c .loop-test .left)
@@ -91,8 +99,10 @@ unroll-spec =
     same-length
     same-length-2
     same-length-3
-    returns
     same-length-4
+    returns
     same-length-5
     same-length-6
+    same-length-7
+    same-length-8
     returns-2)

@@ -33,10 +33,13 @@ same-length-3 c = search needs
 same-length-4 : tie.Need-same-length-4
 same-length-4 c = search needs
 
+same-length-5 : tie.Need-same-length-5
+same-length-5 c = search needs
+
 returns : tie.Need-returns
 returns c =
     let c1 = c .before in
-    let a = c1 .before .before .before .before .before .before .before .before .before .args in
+    let a = c1 .before .before .before .before .before .before .before .before .before .before .before .args in
     kept _ _ _ (settled _ (a .hash) (a .key)) _ (not-at (c1 .ask .result) (c .match .keys2)) (c1 .ask .ensures)
 
 get-requires : tie.Need-get-requires
@@ -63,9 +66,6 @@ append-requires c κs = search needs
 append-requires-2 : tie.Need-append-requires-2
 append-requires-2 c κs = search needs
 
-same-length-5 : tie.Need-same-length-5
-same-length-5 c = search needs
-
 same-length-6 : tie.Need-same-length-6
 same-length-6 c = search needs
 
@@ -75,32 +75,30 @@ same-length-7 c = search needs
 same-length-8 : tie.Need-same-length-8
 same-length-8 c = search needs
 
-returns-2 : tie.Need-returns-2
-returns-2 c =
-    let c2 = c .before .before in
-    let c3 = c2 .before .before in
-    let c7 = c3 .before .before .before .before .before .before .before in
-    let c8 = c7 .before .before .before .before in
-    let c9 = c8 .before .before in
-    let c10 = c9 .before .before in
-    let c11 = c10 .before .before in
-    let c13 = c11 .before .before .before in
-    let c15 = c13 .before .before in
-    let a = c15 .before .before .before .before .before .before .before .before .before .args in
-    let d = done _ _ _ (settled _ (a .hash) (a .key)) _ (ap removedOf (sym (c13 .asked .given .1)) ∙ c15 .ask .ensures) in
-    left-first _ _ _
-    (c11 .get .ensures)
-    (c10 .get2 .ensures)
-    (c7 .shrink .ensures ∙ shrunk-is _ (names-most d) _)
-    (d .left)
-    (c3 .if1 .taken)
-    (c2 .append .ensures ∙ appended-is _ _ (lines-most d))
-
 same-length-9 : tie.Need-same-length-9
 same-length-9 c = search needs
 
 same-length-10 : tie.Need-same-length-10
 same-length-10 c = search needs
+
+returns-2 : tie.Need-returns-2
+returns-2 c =
+    let c1 = c .before .before in
+    let c2 = c1 .before .before in
+    let c3 = c2 .before .before .before .before .before .before .before .before .before in
+    let c4 = c3 .before .before .before .before .before .before .before .before .before in
+    let c5 = c4 .before .before in
+    let c6 = c5 .before .before .before in
+    let c7 = c6 .before .before in
+    let a = c7 .before .before .before .before .before .before .before .before .before .before .before .args in
+    let d = done _ _ _ (settled _ (a .hash) (a .key)) _ (ap removedOf (sym (c6 .asked .given .1)) ∙ c7 .ask .ensures) in
+    left-first _ _ _
+    (c5 .get .ensures)
+    (c4 .get2 .ensures)
+    (c3 .shrink .ensures ∙ shrunk-is _ (names-most d) _)
+    (d .left)
+    (c2 .if1 .taken)
+    (c1 .append .ensures ∙ appended-is _ _ (lines-most d))
 
 same-length-11 : tie.Need-same-length-11
 same-length-11 c = search needs
@@ -108,28 +106,37 @@ same-length-11 c = search needs
 same-length-12 : tie.Need-same-length-12
 same-length-12 c = search needs
 
+same-length-13 : tie.Need-same-length-13
+same-length-13 c = search needs
+
+same-length-14 : tie.Need-same-length-14
+same-length-14 c = search needs
+
+same-length-15 : tie.Need-same-length-15
+same-length-15 c = search needs
+
 returns-3 : tie.Need-returns-3
 returns-3 c =
-    let c2 = c .before .before in
-    let c3 = c2 .before .before in
-    let c7 = c3 .before .before .before .before .before .before .before in
-    let c8 = c7 .before .before .before .before in
+    let c1 = c .before .before in
+    let c2 = c1 .before .before in
+    let c3 = c2 .before .before .before .before .before .before .before .before .before in
+    let c4 = c3 .before .before .before .before .before in
+    let c5 = c4 .before .before in
+    let c6 = c5 .before .before in
+    let c7 = c6 .before .before in
+    let c8 = c7 .before .before .before in
     let c9 = c8 .before .before in
-    let c10 = c9 .before .before in
-    let c11 = c10 .before .before in
-    let c13 = c11 .before .before .before in
-    let c15 = c13 .before .before in
-    let a = c15 .before .before .before .before .before .before .before .before .before .args in
-    let d = done _ _ _ (settled _ (a .hash) (a .key)) _ (ap removedOf (sym (c13 .asked .given .1)) ∙ c15 .ask .ensures) in
+    let a = c9 .before .before .before .before .before .before .before .before .before .before .before .args in
+    let d = done _ _ _ (settled _ (a .hash) (a .key)) _ (ap removedOf (sym (c8 .asked .given .1)) ∙ c9 .ask .ensures) in
     left-noted _ _ _
-    (c11 .get .ensures)
-    (c10 .get2 .ensures)
-    (c7 .shrink .ensures ∙ shrunk-is _ (names-most d) _)
+    (c7 .get .ensures)
+    (c6 .get2 .ensures)
+    (c3 .shrink .ensures ∙ shrunk-is _ (names-most d) _)
     (d .left)
-    (c9 .name .ensures)
-    (c8 .name2 .ensures)
-    (c3 .if1 .left)
-    (c2 .append2 .ensures ∙ appended-is _ _ (lines-most d))
+    (c5 .name .ensures)
+    (c4 .name2 .ensures)
+    (c2 .if1 .left)
+    (c1 .append2 .ensures ∙ appended-is _ _ (lines-most d))
 
 pub remove-spec : {M : Type 1} → statement M
 remove-spec =
@@ -141,6 +148,7 @@ remove-spec =
     same-length-2
     same-length-3
     same-length-4
+    same-length-5
     returns
     get-requires
     cast-place
@@ -150,13 +158,15 @@ remove-spec =
     shrink-requires
     append-requires
     append-requires-2
-    same-length-5
     same-length-6
     same-length-7
     same-length-8
-    returns-2
     same-length-9
     same-length-10
+    returns-2
     same-length-11
     same-length-12
+    same-length-13
+    same-length-14
+    same-length-15
     returns-3)

@@ -23,7 +23,7 @@ same-length-2 c = search needs
 returns : tie.Need-returns
 returns c =
     let c1 = c .before in
-    let a = c1 .before .before .before .before .before .before .before .args in
+    let a = c1 .before .before .before .before .before .before .before .before .args in
     kept _ _ _ (settled _ (a .hash) (a .key) (a .place)) _ (not-at (c1 .ask .result) (c .match .keys2)) (c1 .ask .ensures (a .place))
 
 get-requires : tie.Need-get-requires
@@ -46,19 +46,19 @@ same-length-4 c = search needs
 
 returns-2 : tie.Need-returns-2
 returns-2 c =
-    let c2 = c .before .before in
-    let c3 = c2 .before in
-    let c5 = c3 .before .before .before .before in
+    let c1 = c .before .before in
+    let c2 = c1 .before in
+    let c3 = c2 .before .before .before .before in
+    let c4 = c3 .before .before in
+    let c5 = c4 .before .before .before in
     let c6 = c5 .before .before in
-    let c8 = c6 .before .before .before in
-    let c10 = c8 .before .before in
-    let a = c10 .before .before .before .before .before .before .before .args in
-    let d = done _ _ _ (settled _ (a .hash) (a .key) (a .place)) _ (ap replacedOf (sym (c8 .asked .given .1)) ∙ c10 .ask .ensures (a .place)) in
+    let a = c6 .before .before .before .before .before .before .before .before .args in
+    let d = done _ _ _ (settled _ (a .hash) (a .key) (a .place)) _ (ap replacedOf (sym (c5 .asked .given .1)) ∙ c6 .ask .ensures (a .place)) in
     moved _ _ _ _
-    (c6 .get .ensures)
-    (c5 .put .ensures)
-    (c3 .both-places .ensures)
-    (c2 .append .ensures ∙ appended-is _ _ (lines-most d))
+    (c4 .get .ensures)
+    (c3 .put .ensures)
+    (c2 .both-places .ensures)
+    (c1 .append .ensures ∙ appended-is _ _ (lines-most d))
     (d .left)
 
 pub replace-spec : {M : Type 1} → statement M

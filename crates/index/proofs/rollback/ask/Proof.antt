@@ -51,11 +51,11 @@ returns-3 c =
     (c1 .length-of .ensures)
     (c .if1 .taken)
 
-sub-t11 : tie.Need-sub-t11
-sub-t11 c = search needs
+sub-t12 : tie.Need-sub-t12
+sub-t12 c = search needs
 
-cast-t12 : tie.Need-cast-t12
-cast-t12 c =
+cast-t13 : tie.Need-cast-t13
+cast-t13 c =
     let c1 = c .before in
     let c5 = c1 .before .before .before .before in
     let c6 = c5 .before .before in
@@ -88,6 +88,6 @@ ask-spec =
     returns-2
     length-of-requires
     returns-3
-    sub-t11
-    cast-t12
+    sub-t12
+    cast-t13
     returns-4)

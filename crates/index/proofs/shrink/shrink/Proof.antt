@@ -1,14 +1,15 @@
 -- What is read is read before a write, and the writes are those of `shrunk`, in order.
 use Rattle.index.proofs.Shrinking.{shrink-wide, shrink}
 use denote.Ref.{now}
+use Rattle.index_rules.specs.Live.{lentTree}
 use borrow.Author.Needs.{needs}
 use Rattle.index.proofs.shrink.shrink.Statement.{statement}
 use Rattle.index.proofs.shrink.shrink.Tie as tie
 
 returns : tie.Need-returns
 returns c =
-    let a = c .before .before .before .before .args in
-    shrink-wide (record { names = now (a .names); cells = now (a .cells); head = now (a .head) }) (a .x)
+    let a = c .before .before .before .before .before .args in
+    shrink-wide (lentTree (now (a .names)) (now (a .cells)) (now (a .head)) (now (a .sizes))) (a .x)
     (c .if1 .taken)
 
 cast-n : tie.Need-cast-n
@@ -53,12 +54,15 @@ same-length-2 c = search needs
 same-length-3 : tie.Need-same-length-3
 same-length-3 c = search needs
 
+same-length-4 : tie.Need-same-length-4
+same-length-4 c = search needs
+
 returns-2 : tie.Need-returns-2
 returns-2 c =
     let c1 = c .before .before in
     let c2 = c1 .before .before .before .before in
-    let c3 = c2 .before .before .before .before in
-    let c4 = c3 .before .before .before .before in
+    let c3 = c2 .before .before .before .before .before .before in
+    let c4 = c3 .before .before .before .before .before in
     let c5 = c4 .before .before .before .before in
     let c6 = c5 .before .before in
     let c7 = c6 .before in
@@ -66,8 +70,8 @@ returns-2 c =
     let c9 = c8 .before in
     let c10 = c9 .before .before .before in
     let c11 = c10 .before .before in
-    let a = c11 .before .before .before .before .args in
-    shrink (record { names = now (a .names); cells = now (a .cells); head = now (a .head) }) (a .x)
+    let a = c11 .before .before .before .before .before .args in
+    shrink (lentTree (now (a .names)) (now (a .cells)) (now (a .head)) (now (a .sizes))) (a .x)
     (c11 .if1 .left)
     (c10 .word .ensures)
     (c9 .word2 .ensures)
@@ -99,4 +103,5 @@ shrink-spec =
     same-length
     same-length-2
     same-length-3
+    same-length-4
     returns-2)

@@ -1,4 +1,4 @@
--- The four tests in a row are the model's; what T1 asks of a slot does not read the header.
+-- The four tests in a row are the model's; what T1 asks of a slot reads neither the header nor the sizes.
 use mathlib.Core.Path.{_≡_, ap, _∙_}
 use mathlib.Core.Bool.{Bool}
 use mathlib.Core.List.{[]}
@@ -54,18 +54,18 @@ asked c x e =
 
 returns : tie.Need-returns
 unfolding rule1
-returns c =
+returns c sizes =
     let c1 = c .before in
     let c2 = c1 .before in
     let c3 = c2 .before in
-    rw (any-head _ _ _ [], ← c3 .before .before .slots-fine .ensures, ← c1 .word3 .ensures, ← c .used-slots .ensures)
+    rw (any-head _ _ _ [] sizes [], ← c3 .before .before .slots-fine .ensures, ← c1 .word3 .ensures, ← c .used-slots .ensures)
     (asked c3 _ (rw (c2 .if3 .taken)))
 
 returns-2 : tie.Need-returns-2
 unfolding rule1
-returns-2 c =
+returns-2 c sizes =
     let c1 = c .before in
-    rw (any-head _ _ _ [], ← c1 .before .before .slots-fine .ensures) (asked c1 _ (rw (c .if3 .left)))
+    rw (any-head _ _ _ [] sizes [], ← c1 .before .before .slots-fine .ensures) (asked c1 _ (rw (c .if3 .left)))
 
 pub rule1-spec : {M : Type 1} → statement M
 rule1-spec =

@@ -20,7 +20,7 @@ not-free-requires c κs = search needs
 
 returns : tie.Need-returns
 unfolding rule7
-returns c =
+returns c sizes =
     let c1 = c .before in
     let c2 = c1 .before in
     rw (← c2 .word .ensures, ← c1 .not-free .ensures, not-true (c1 .not-free .result) (c .if1 .taken))
@@ -36,7 +36,7 @@ enum-told c = search needs
 
 returns-2 : tie.Need-returns-2
 unfolding rule7
-returns-2 c =
+returns-2 c sizes =
     let c1 = c .before in
     let c2 = c1 .before in
     let c3 = c2 .before in
@@ -68,7 +68,7 @@ cast-result c = search needs
 
 returns-3 : tie.Need-returns-3
 unfolding rule7
-returns-3 c =
+returns-3 c sizes =
     let c2 = c .before .before in
     let c4 = c2 .before .before in
     let c5 = c4 .before in

@@ -1,6 +1,7 @@
 -- The size of the tree, or that there is none, against the count.
 use mathlib.Core.Path.{sym, ap, _∙_}
 use denote.Ref.{now}
+use Rattle.index_rules.specs.Live.{lentTree}
 use Rattle.tree.specs.Rules.{sizeOf}
 use Rattle.index.proofs.Walked.{no-size, by-count}
 use borrow.Author.Needs.{needs}
@@ -20,11 +21,11 @@ enum-told : tie.Need-enum-told
 enum-told c = search needs
 
 returns : tie.Need-returns
-returns c =
+returns c sizes =
     let at-size = c .before .before in
     let at-root = at-size .before in
     let a = at-root .before .before .before .before .args in
-    no-size (record { names = now (a .names); cells = now (a .cells); head = now (a .head) }) (at-root .word .ensures) (ap sizeOf (sym (c .enum-told .given .1)) ∙ at-size .tree-size .ensures)
+    no-size (lentTree (now (a .names)) (now (a .cells)) (now (a .head)) sizes) (at-root .word .ensures) (ap sizeOf (sym (c .enum-told .given .1)) ∙ at-size .tree-size .ensures)
 
 word-requires-2 : tie.Need-word-requires-2
 word-requires-2 c κs = search needs
@@ -33,12 +34,12 @@ cast-result : tie.Need-cast-result
 cast-result c = search needs
 
 returns-2 : tie.Need-returns-2
-returns-2 c =
+returns-2 c sizes =
     let at-told = c .before .before in
     let at-size = at-told .before .before in
     let at-root = at-size .before in
     let a = at-root .before .before .before .before .args in
-    by-count (record { names = now (a .names); cells = now (a .cells); head = now (a .head) })
+    by-count (lentTree (now (a .names)) (now (a .cells)) (now (a .head)) sizes)
     (at-root .word .ensures)
     (ap sizeOf (sym (at-told .size .given .1)) ∙ at-size .tree-size .ensures)
     (c .word2 .ensures)

@@ -5,6 +5,7 @@ use denote.Ref.{now}
 use Prim.Native.Nat.{_≤_}
 use borrow.Author.Needs.{needs}
 use borrow.Author.Tests.{not-true, not-false}
+use Rattle.index_rules.specs.Live.{lentTree}
 use Rattle.index_rules.specs.Sound.{slotsFine}
 use Rattle.index.proofs.Slots.{fine-none, fine-not, fine-on}
 use Rattle.index.proofs.sound.slots_fine.Statement.{statement}
@@ -12,7 +13,7 @@ use Rattle.index.proofs.sound.slots_fine.Tie as tie
 
 abbrev Inv-loop : tie.InvT-loop
 Inv-loop names cells n k₀ k =
-    (slotsFine k n (record { names = names; cells = cells; head = [] }) ≡ slotsFine n n (record { names = names; cells = cells; head = [] })) × (k ≤ n)
+    (slotsFine k n (lentTree names cells [] []) ≡ slotsFine n n (lentTree names cells [] [])) × (k ≤ n)
 
 abbrev μ-loop : tie.MeasureT-loop
 μ-loop names cells n k₀ k = k
@@ -33,7 +34,7 @@ returns c =
     let a = at-loop .before .before .before .args in
     fine-not
     (a .n)
-    (record { names = now (a .names); cells = now (a .cells); head = [] })
+    (lentTree (now (a .names)) (now (a .cells)) [] [])
     (at-loop .loop .k)
     (at-fine .before .loop-test .taken)
     (at-fine .slot-fine .ensures)
@@ -50,7 +51,7 @@ loop-again c =
     let a = at-loop .before .before .before .args in (
       fine-on
           (a .n)
-          (record { names = now (a .names); cells = now (a .cells); head = [] })
+          (lentTree (now (a .names)) (now (a .cells)) [] [])
           (at-loop .loop .k)
           (at-fine .before .loop-test .taken)
           (at-fine .slot-fine .ensures)
@@ -63,7 +64,7 @@ returns-2 : tie.Need-returns-2 Inv-loop μ-loop
 returns-2 c =
     let at-loop = c .before in
     let a = at-loop .before .before .before .args in
-    fine-none (a .n) (record { names = now (a .names); cells = now (a .cells); head = [] }) (at-loop .loop .k) (c .loop-test .left)
+    fine-none (a .n) (lentTree (now (a .names)) (now (a .cells)) [] []) (at-loop .loop .k) (c .loop-test .left)
     ∙ at-loop .loop .inv .0
 
 pub slots-fine-spec : {M : Type 1} → statement M

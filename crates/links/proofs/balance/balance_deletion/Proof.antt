@@ -4,20 +4,21 @@ use Prim.Native.Nat.{_<_, _^_}
 use lib.ListN.{length}
 use borrow.Author.Needs.{needs}
 use Rattle.redblack.specs.Deletion.{balancedDeletion}
-use Rattle.links.specs.Turns.{links}
+use Rattle.redblack.specs.Links.{lentLinks}
 use Rattle.links.proofs.Balancing.{deletion, over, ends, goes-on}
 use Rattle.links.proofs.balance.balance_deletion.Statement.{statement}
 use Rattle.links.proofs.balance.balance_deletion.Tie as tie
 
 abbrev Inv-loop : tie.InvT-loop
-Inv-loop cells₀ root x budget top₀ at₀ turns₀ cells top at turns =
-    (balancedDeletion turns (links cells top) at ≡ balancedDeletion budget (links cells₀ root) x)
+Inv-loop cells₀ sizes₀ root x budget top₀ at₀ turns₀ cells sizes top at turns =
+    (balancedDeletion turns (lentLinks cells top sizes) at ≡ balancedDeletion budget (lentLinks cells₀ root sizes₀) x)
     × (top < 2 ^ 32)
     × (at < 2 ^ 32)
     × (length cells ≡ length cells₀)
+    × (length sizes ≡ length sizes₀)
 
 abbrev μ-loop : tie.MeasureT-loop
-μ-loop cells₀ root x budget top₀ at₀ turns₀ cells top at turns = turns
+μ-loop cells₀ sizes₀ root x budget top₀ at₀ turns₀ cells sizes top at turns = turns
 
 loop-holds : tie.Need-loop-holds Inv-loop μ-loop
 loop-holds c = search needs
@@ -31,12 +32,16 @@ enum-known-step c = search needs
 same-length : tie.Need-same-length Inv-loop μ-loop
 same-length c = search needs
 
+same-length-2 : tie.Need-same-length-2 Inv-loop μ-loop
+same-length-2 c = search needs
+
 returns : tie.Need-returns Inv-loop μ-loop
 returns c =
     let c1 = c .before in
-    let c2 = c1 .before .before .before .before in
-    let c3 = c2 .before .before in
-    ends deletion (c3 .before .loop .inv .0) (c3 .loop-test .taken) (c2 .deletion-turn .ensures) (c1 .step .given .1)
+    let c2 = c1 .before .before .before .before .before .before in
+    let c3 = c2 .before .before .before in
+    let c4 = c3 .before in
+    ends deletion (c4 .loop .inv .0) (c3 .loop-test .taken) (c2 .deletion-turn .ensures) (c1 .step .given .1)
 
 enum-known-step-2 : tie.Need-enum-known-step-2 Inv-loop μ-loop
 enum-known-step-2 c = search needs
@@ -50,16 +55,21 @@ loop-less c = search needs
 loop-again : tie.Need-loop-again Inv-loop μ-loop
 loop-again c =
     let c1 = c .before in
-    let c2 = c1 .before .before .before .before in
-    let c3 = c2 .before .before in (
-      goes-on deletion (c3 .before .loop .inv .0) (c3 .loop-test .taken) (c2 .deletion-turn .ensures) (c1 .step2 .given .1),
+    let c2 = c1 .before .before .before .before .before .before in
+    let c3 = c2 .before .before .before in
+    let c4 = c3 .before in (
+      goes-on deletion (c4 .loop .inv .0) (c3 .loop-test .taken) (c2 .deletion-turn .ensures) (c1 .step2 .given .1),
+      search needs,
       search needs,
       search needs,
       search needs,
     )
 
-same-length-2 : tie.Need-same-length-2 Inv-loop μ-loop
-same-length-2 c = search needs
+same-length-3 : tie.Need-same-length-3 Inv-loop μ-loop
+same-length-3 c = search needs
+
+same-length-4 : tie.Need-same-length-4 Inv-loop μ-loop
+same-length-4 c = search needs
 
 returns-2 : tie.Need-returns-2 Inv-loop μ-loop
 returns-2 c = over deletion (c .before .loop .inv .0) (c .loop-test .left)
@@ -74,10 +84,12 @@ balance-deletion-spec =
     deletion-turn-requires
     enum-known-step
     same-length
+    same-length-2
     returns
     enum-known-step-2
     sub-turns
     loop-less
     loop-again
-    same-length-2
+    same-length-3
+    same-length-4
     returns-2)

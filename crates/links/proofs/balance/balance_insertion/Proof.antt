@@ -1,6 +1,6 @@
 -- The slot is painted red, and the rest is the loop's.
 use denote.Ref.{now}
-use Rattle.links.specs.Turns.{links}
+use Rattle.redblack.specs.Links.{lentLinks}
 use Rattle.links.proofs.Balancing.{started}
 use borrow.Author.Needs.{needs}
 use Rattle.links.proofs.balance.balance_insertion.Statement.{statement}
@@ -15,15 +15,18 @@ insertion-turns-requires c κs = search needs
 same-length : tie.Need-same-length
 same-length c = search needs
 
+same-length-2 : tie.Need-same-length-2
+same-length-2 c = search needs
+
 returns : tie.Need-returns
 returns c =
-    let c1 = c .before .before in
-    let c2 = c1 .before .before .before .before in
-    let a = c2 .before .before .before .args in
-    started (a .budget) (links (now (a .cells)) (a .root)) (a .x)
+    let c1 = c .before .before .before .before in
+    let c2 = c1 .before .before .before .before .before in
+    let a = c2 .before .before .before .before .args in
+    started (a .budget) (lentLinks (now (a .cells)) (a .root) (now (a .sizes))) (a .x)
     (c2 .paint .ensures)
     (c1 .insertion-turns .ensures)
 
 pub balance-insertion-spec : {M : Type 1} → statement M
 balance-insertion-spec =
-    tie.close (tie.spec paint-requires insertion-turns-requires same-length returns)
+    tie.close (tie.spec paint-requires insertion-turns-requires same-length same-length-2 returns)

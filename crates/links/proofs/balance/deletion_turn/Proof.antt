@@ -1,6 +1,6 @@
 -- `deletion_turn` goes as `deletionTurn` does: one law for each of its six ways out.
 use denote.Ref.{now}
-use Rattle.links.specs.Turns.{links}
+use Rattle.redblack.specs.Links.{lentLinks}
 use Rattle.links.proofs.Balancing.{nowhere, at-root, rootless, red-slot, from-left, from-right}
 use borrow.Author.Needs.{needs}
 use Rattle.links.proofs.balance.deletion_turn.Statement.{statement}
@@ -8,15 +8,15 @@ use Rattle.links.proofs.balance.deletion_turn.Tie as tie
 
 returns : tie.Need-returns
 returns c =
-    let a = c .before .before .args in
-    nowhere (links (now (a .cells)) (a .root)) (a .x)
+    let a = c .before .before .before .args in
+    nowhere (lentLinks (now (a .cells)) (a .root) (now (a .sizes))) (a .x)
     (c .if1 .taken)
 
 returns-2 : tie.Need-returns-2
 returns-2 c =
     let c1 = c .before in
-    let a = c1 .before .before .args in
-    at-root (links (now (a .cells)) (a .root)) (a .x)
+    let a = c1 .before .before .before .args in
+    at-root (lentLinks (now (a .cells)) (a .root) (now (a .sizes))) (a .x)
     (c1 .if1 .left)
     (c .if2 .taken)
 
@@ -36,8 +36,8 @@ returns-3 c =
     let c3 = c2 .before in
     let c4 = c3 .before .before in
     let c5 = c4 .before in
-    let a = c5 .before .before .args in
-    rootless (links (now (a .cells)) (a .root)) (a .x)
+    let a = c5 .before .before .before .args in
+    rootless (lentLinks (now (a .cells)) (a .root) (now (a .sizes))) (a .x)
     (c5 .if1 .left)
     (c4 .if2 .left)
     (c3 .get .ensures)
@@ -62,8 +62,8 @@ returns-4 c =
     let c5 = c4 .before in
     let c6 = c5 .before .before in
     let c7 = c6 .before in
-    let a = c7 .before .before .args in
-    red-slot (links (now (a .cells)) (a .root)) (a .x)
+    let a = c7 .before .before .before .args in
+    red-slot (lentLinks (now (a .cells)) (a .root) (now (a .sizes))) (a .x)
     (c7 .if1 .left)
     (c6 .if2 .left)
     (c5 .get .ensures)
@@ -81,10 +81,13 @@ sink-requires c κs = search needs
 same-length-3 : tie.Need-same-length-3
 same-length-3 c = search needs
 
+same-length-4 : tie.Need-same-length-4
+same-length-4 c = search needs
+
 returns-5 : tie.Need-returns-5
 returns-5 c =
-    let c1 = c .before .before in
-    let c2 = c1 .before .before in
+    let c1 = c .before .before .before .before in
+    let c2 = c1 .before .before .before in
     let c3 = c2 .before in
     let c4 = c3 .before .before in
     let c5 = c4 .before in
@@ -92,8 +95,8 @@ returns-5 c =
     let c7 = c6 .before in
     let c8 = c7 .before .before in
     let c9 = c8 .before in
-    let a = c9 .before .before .args in
-    from-left (links (now (a .cells)) (a .root)) (a .x)
+    let a = c9 .before .before .before .args in
+    from-left (lentLinks (now (a .cells)) (a .root) (now (a .sizes))) (a .x)
     (c9 .if1 .left)
     (c8 .if2 .left)
     (c7 .get .ensures)
@@ -107,13 +110,16 @@ returns-5 c =
 sink-requires-2 : tie.Need-sink-requires-2
 sink-requires-2 c κs = search needs
 
-same-length-4 : tie.Need-same-length-4
-same-length-4 c = search needs
+same-length-5 : tie.Need-same-length-5
+same-length-5 c = search needs
+
+same-length-6 : tie.Need-same-length-6
+same-length-6 c = search needs
 
 returns-6 : tie.Need-returns-6
 returns-6 c =
-    let c1 = c .before .before in
-    let c2 = c1 .before .before in
+    let c1 = c .before .before .before .before in
+    let c2 = c1 .before .before .before in
     let c3 = c2 .before in
     let c4 = c3 .before .before in
     let c5 = c4 .before in
@@ -121,8 +127,8 @@ returns-6 c =
     let c7 = c6 .before in
     let c8 = c7 .before .before in
     let c9 = c8 .before in
-    let a = c9 .before .before .args in
-    from-right (links (now (a .cells)) (a .root)) (a .x)
+    let a = c9 .before .before .before .args in
+    from-right (lentLinks (now (a .cells)) (a .root) (now (a .sizes))) (a .x)
     (c9 .if1 .left)
     (c8 .if2 .left)
     (c7 .get .ensures)
@@ -150,7 +156,9 @@ deletion-turn-spec =
     get-requires-2
     sink-requires
     same-length-3
+    same-length-4
     returns-5
     sink-requires-2
-    same-length-4
+    same-length-5
+    same-length-6
     returns-6)

@@ -1,6 +1,6 @@
 -- `ease` goes as `eased` does: one law for each way through its two tests.
 use denote.Ref.{now}
-use Rattle.links.specs.Turns.{links}
+use Rattle.redblack.specs.Links.{lentLinks}
 use Rattle.links.proofs.Balancing.{outer-red, inner-red, none-red}
 use borrow.Author.Needs.{needs}
 use Rattle.links.proofs.balance.ease.Statement.{statement}
@@ -18,14 +18,17 @@ settle-requires c κs = search needs
 same-length : tie.Need-same-length
 same-length c = search needs
 
+same-length-2 : tie.Need-same-length-2
+same-length-2 c = search needs
+
 returns : tie.Need-returns
 returns c =
-    let c1 = c .before .before in
-    let c2 = c1 .before .before in
+    let c1 = c .before .before .before .before in
+    let c2 = c1 .before .before .before in
     let c3 = c2 .before in
     let c4 = c3 .before .before in
-    let a = c4 .before .before .before .args in
-    outer-red (a .near) (a .far) (links (now (a .cells)) (a .root)) (a .x) (a .xp) (a .y)
+    let a = c4 .before .before .before .before .args in
+    outer-red (a .near) (a .far) (lentLinks (now (a .cells)) (a .root) (now (a .sizes))) (a .x) (a .xp) (a .y)
     (c4 .get .ensures)
     (c3 .is-red .ensures)
     (c2 .if1 .taken)
@@ -49,23 +52,26 @@ get-requires-4 c κs = search needs
 settle-requires-2 : tie.Need-settle-requires-2
 settle-requires-2 c κs = search needs
 
-same-length-2 : tie.Need-same-length-2
-same-length-2 c = search needs
+same-length-3 : tie.Need-same-length-3
+same-length-3 c = search needs
+
+same-length-4 : tie.Need-same-length-4
+same-length-4 c = search needs
 
 returns-2 : tie.Need-returns-2
 returns-2 c =
-    let c1 = c .before .before in
-    let c2 = c1 .before .before in
+    let c1 = c .before .before .before .before in
+    let c2 = c1 .before .before .before in
     let c3 = c2 .before .before in
-    let c4 = c3 .before .before .before .before in
-    let c5 = c4 .before .before in
+    let c4 = c3 .before .before .before .before .before .before in
+    let c5 = c4 .before .before .before in
     let c6 = c5 .before in
     let c7 = c6 .before .before in
     let c8 = c7 .before .before in
     let c9 = c8 .before in
     let c10 = c9 .before .before in
-    let a = c10 .before .before .before .args in
-    inner-red (a .near) (a .far) (links (now (a .cells)) (a .root)) (a .x) (a .xp) (a .y)
+    let a = c10 .before .before .before .before .args in
+    inner-red (a .near) (a .far) (lentLinks (now (a .cells)) (a .root) (now (a .sizes))) (a .x) (a .xp) (a .y)
     (c10 .get .ensures)
     (c9 .is-red .ensures)
     (c8 .if1 .left)
@@ -80,8 +86,8 @@ returns-2 c =
 paint-requires : tie.Need-paint-requires
 paint-requires c κs = search needs
 
-same-length-3 : tie.Need-same-length-3
-same-length-3 c = search needs
+same-length-5 : tie.Need-same-length-5
+same-length-5 c = search needs
 
 returns-3 : tie.Need-returns-3
 returns-3 c =
@@ -92,8 +98,8 @@ returns-3 c =
     let c5 = c4 .before .before in
     let c6 = c5 .before in
     let c7 = c6 .before .before in
-    let a = c7 .before .before .before .args in
-    none-red (a .near) (a .far) (links (now (a .cells)) (a .root)) (a .x) (a .xp) (a .y)
+    let a = c7 .before .before .before .before .args in
+    none-red (a .near) (a .far) (lentLinks (now (a .cells)) (a .root) (now (a .sizes))) (a .x) (a .xp) (a .y)
     (c7 .get .ensures)
     (c6 .is-red .ensures)
     (c5 .if1 .left)
@@ -110,6 +116,7 @@ ease-spec =
     is-red-requires
     settle-requires
     same-length
+    same-length-2
     returns
     get-requires-2
     is-red-requires-2
@@ -117,8 +124,9 @@ ease-spec =
     get-requires-3
     get-requires-4
     settle-requires-2
-    same-length-2
+    same-length-3
+    same-length-4
     returns-2
     paint-requires
-    same-length-3
+    same-length-5
     returns-3)

@@ -1,6 +1,6 @@
 -- `insertion_turn` goes as `insertionTurn` does: one law for each of its five ways out.
 use denote.Ref.{now}
-use Rattle.links.specs.Turns.{links}
+use Rattle.redblack.specs.Links.{lentLinks}
 use Rattle.links.proofs.Balancing.{orphan, parent-black, parent-root, parent-left, parent-right}
 use borrow.Author.Needs.{needs}
 use Rattle.links.proofs.balance.insertion_turn.Statement.{statement}
@@ -20,8 +20,8 @@ returns c =
     let c1 = c .before .before in
     let c2 = c1 .before .before in
     let c3 = c2 .before in
-    let a = c3 .before .before .before .args in
-    orphan (links (now (a .cells)) (a .root)) (a .x)
+    let a = c3 .before .before .before .before .args in
+    orphan (lentLinks (now (a .cells)) (a .root) (now (a .sizes))) (a .x)
     (c3 .get .ensures)
     (c2 .if1 .taken)
     (c1 .paint .ensures)
@@ -37,8 +37,8 @@ returns-2 c =
     let c1 = c .before in
     let c2 = c1 .before .before in
     let c3 = c2 .before in
-    let a = c3 .before .before .before .args in
-    parent-black (links (now (a .cells)) (a .root)) (a .x)
+    let a = c3 .before .before .before .before .args in
+    parent-black (lentLinks (now (a .cells)) (a .root) (now (a .sizes))) (a .x)
     (c3 .get .ensures)
     (c2 .if1 .left)
     (c1 .is-red .ensures)
@@ -57,8 +57,8 @@ returns-3 c =
     let c3 = c2 .before in
     let c4 = c3 .before .before in
     let c5 = c4 .before in
-    let a = c5 .before .before .before .args in
-    parent-root (links (now (a .cells)) (a .root)) (a .x)
+    let a = c5 .before .before .before .before .args in
+    parent-root (lentLinks (now (a .cells)) (a .root) (now (a .sizes))) (a .x)
     (c5 .get .ensures)
     (c4 .if1 .left)
     (c3 .is-red .ensures)
@@ -75,10 +75,13 @@ lift-requires c κs = search needs
 same-length-4 : tie.Need-same-length-4
 same-length-4 c = search needs
 
+same-length-5 : tie.Need-same-length-5
+same-length-5 c = search needs
+
 returns-4 : tie.Need-returns-4
 returns-4 c =
-    let c1 = c .before .before in
-    let c2 = c1 .before .before in
+    let c1 = c .before .before .before .before in
+    let c2 = c1 .before .before .before in
     let c3 = c2 .before in
     let c4 = c3 .before .before in
     let c5 = c4 .before in
@@ -86,8 +89,8 @@ returns-4 c =
     let c7 = c6 .before in
     let c8 = c7 .before .before in
     let c9 = c8 .before in
-    let a = c9 .before .before .before .args in
-    parent-left (links (now (a .cells)) (a .root)) (a .x)
+    let a = c9 .before .before .before .before .args in
+    parent-left (lentLinks (now (a .cells)) (a .root) (now (a .sizes))) (a .x)
     (c9 .get .ensures)
     (c8 .if1 .left)
     (c7 .is-red .ensures)
@@ -101,13 +104,16 @@ returns-4 c =
 lift-requires-2 : tie.Need-lift-requires-2
 lift-requires-2 c κs = search needs
 
-same-length-5 : tie.Need-same-length-5
-same-length-5 c = search needs
+same-length-6 : tie.Need-same-length-6
+same-length-6 c = search needs
+
+same-length-7 : tie.Need-same-length-7
+same-length-7 c = search needs
 
 returns-5 : tie.Need-returns-5
 returns-5 c =
-    let c1 = c .before .before in
-    let c2 = c1 .before .before in
+    let c1 = c .before .before .before .before in
+    let c2 = c1 .before .before .before in
     let c3 = c2 .before in
     let c4 = c3 .before .before in
     let c5 = c4 .before in
@@ -115,8 +121,8 @@ returns-5 c =
     let c7 = c6 .before in
     let c8 = c7 .before .before in
     let c9 = c8 .before in
-    let a = c9 .before .before .before .args in
-    parent-right (links (now (a .cells)) (a .root)) (a .x)
+    let a = c9 .before .before .before .before .args in
+    parent-right (lentLinks (now (a .cells)) (a .root) (now (a .sizes))) (a .x)
     (c9 .get .ensures)
     (c8 .if1 .left)
     (c7 .is-red .ensures)
@@ -144,7 +150,9 @@ insertion-turn-spec =
     get-requires-3
     lift-requires
     same-length-4
+    same-length-5
     returns-4
     lift-requires-2
-    same-length-5
+    same-length-6
+    same-length-7
     returns-5)

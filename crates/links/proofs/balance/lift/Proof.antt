@@ -1,6 +1,6 @@
 -- `lift` goes as `lifted` does, on each side of its test.
 use denote.Ref.{now}
-use Rattle.links.specs.Turns.{links}
+use Rattle.redblack.specs.Links.{lentLinks}
 use Rattle.links.proofs.Balancing.{uncle-red, uncle-black}
 use borrow.Author.Needs.{needs}
 use Rattle.links.proofs.balance.lift.Statement.{statement}
@@ -32,8 +32,8 @@ returns c =
     let c4 = c3 .before .before in
     let c5 = c4 .before in
     let c6 = c5 .before .before in
-    let a = c6 .before .before .before .args in
-    uncle-red (a .near) (a .far) (links (now (a .cells)) (a .root)) (a .x) (a .xp) (a .xpp)
+    let a = c6 .before .before .before .before .args in
+    uncle-red (a .near) (a .far) (lentLinks (now (a .cells)) (a .root) (now (a .sizes))) (a .x) (a .xp) (a .xpp)
     (c6 .get .ensures)
     (c5 .is-red .ensures)
     (c4 .if1 .taken)
@@ -47,14 +47,17 @@ straighten-requires c κs = search needs
 same-length-2 : tie.Need-same-length-2
 same-length-2 c = search needs
 
+same-length-3 : tie.Need-same-length-3
+same-length-3 c = search needs
+
 returns-2 : tie.Need-returns-2
 returns-2 c =
-    let c1 = c .before .before in
-    let c2 = c1 .before .before in
+    let c1 = c .before .before .before .before in
+    let c2 = c1 .before .before .before in
     let c3 = c2 .before in
     let c4 = c3 .before .before in
-    let a = c4 .before .before .before .args in
-    uncle-black (a .near) (a .far) (links (now (a .cells)) (a .root)) (a .x) (a .xp) (a .xpp)
+    let a = c4 .before .before .before .before .args in
+    uncle-black (a .near) (a .far) (lentLinks (now (a .cells)) (a .root) (now (a .sizes))) (a .x) (a .xp) (a .xpp)
     (c4 .get .ensures)
     (c3 .is-red .ensures)
     (c2 .if1 .left)
@@ -73,4 +76,5 @@ lift-spec =
     returns
     straighten-requires
     same-length-2
+    same-length-3
     returns-2)

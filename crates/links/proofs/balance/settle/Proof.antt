@@ -1,6 +1,6 @@
 -- The writes and the rotation are those of `capped` and `settled`, in order.
 use denote.Ref.{now}
-use Rattle.links.specs.Turns.{links}
+use Rattle.redblack.specs.Links.{lentLinks}
 use Rattle.links.proofs.Balancing.{settle}
 use borrow.Author.Needs.{needs}
 use Rattle.links.proofs.balance.settle.Statement.{statement}
@@ -27,16 +27,19 @@ rotate-requires c κs = search needs
 same-length : tie.Need-same-length
 same-length c = search needs
 
+same-length-2 : tie.Need-same-length-2
+same-length-2 c = search needs
+
 returns : tie.Need-returns
 returns c =
-    let c1 = c .before .before in
-    let c2 = c1 .before .before .before .before in
+    let c1 = c .before .before .before .before in
+    let c2 = c1 .before .before .before .before .before in
     let c3 = c2 .before .before .before .before in
     let c4 = c3 .before .before in
     let c5 = c4 .before .before .before .before in
     let c6 = c5 .before .before in
-    let a = c6 .before .before .before .args in
-    settle (a .near) (a .far) (links (now (a .cells)) (a .root)) (a .xp) (a .y)
+    let a = c6 .before .before .before .before .args in
+    settle (a .near) (a .far) (lentLinks (now (a .cells)) (a .root) (now (a .sizes))) (a .xp) (a .y)
     (c6 .colour .ensures)
     (c5 .paint .ensures)
     (c4 .get .ensures)
@@ -55,4 +58,5 @@ settle-spec =
     paint-requires-3
     rotate-requires
     same-length
+    same-length-2
     returns)

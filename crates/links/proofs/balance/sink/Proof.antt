@@ -1,6 +1,6 @@
 -- `sink` goes as `sunk` does, on each side of its test.
 use denote.Ref.{now}
-use Rattle.links.specs.Turns.{links}
+use Rattle.redblack.specs.Links.{lentLinks}
 use Rattle.links.proofs.Balancing.{sibling-red, sibling-black}
 use borrow.Author.Needs.{needs}
 use Rattle.links.proofs.balance.sink.Statement.{statement}
@@ -33,19 +33,22 @@ ease-requires c κs = search needs
 same-length : tie.Need-same-length
 same-length c = search needs
 
+same-length-2 : tie.Need-same-length-2
+same-length-2 c = search needs
+
 returns : tie.Need-returns
 returns c =
-    let c1 = c .before .before in
-    let c2 = c1 .before .before in
+    let c1 = c .before .before .before .before in
+    let c2 = c1 .before .before .before in
     let c3 = c2 .before .before in
-    let c4 = c3 .before .before .before .before in
-    let c5 = c4 .before .before .before .before in
+    let c4 = c3 .before .before .before .before .before .before in
+    let c5 = c4 .before .before .before .before .before in
     let c6 = c5 .before .before .before .before in
     let c7 = c6 .before .before in
     let c8 = c7 .before in
     let c9 = c8 .before .before in
-    let a = c9 .before .before .before .args in
-    sibling-red (a .near) (a .far) (links (now (a .cells)) (a .root)) (a .x) (a .xp)
+    let a = c9 .before .before .before .before .args in
+    sibling-red (a .near) (a .far) (lentLinks (now (a .cells)) (a .root) (now (a .sizes))) (a .x) (a .xp)
     (c9 .get .ensures)
     (c8 .is-red .ensures)
     (c7 .if1 .taken)
@@ -59,17 +62,20 @@ returns c =
 ease-requires-2 : tie.Need-ease-requires-2
 ease-requires-2 c κs = search needs
 
-same-length-2 : tie.Need-same-length-2
-same-length-2 c = search needs
+same-length-3 : tie.Need-same-length-3
+same-length-3 c = search needs
+
+same-length-4 : tie.Need-same-length-4
+same-length-4 c = search needs
 
 returns-2 : tie.Need-returns-2
 returns-2 c =
-    let c1 = c .before .before in
-    let c2 = c1 .before .before in
+    let c1 = c .before .before .before .before in
+    let c2 = c1 .before .before .before in
     let c3 = c2 .before in
     let c4 = c3 .before .before in
-    let a = c4 .before .before .before .args in
-    sibling-black (a .near) (a .far) (links (now (a .cells)) (a .root)) (a .x) (a .xp)
+    let a = c4 .before .before .before .before .args in
+    sibling-black (a .near) (a .far) (lentLinks (now (a .cells)) (a .root) (now (a .sizes))) (a .x) (a .xp)
     (c4 .get .ensures)
     (c3 .is-red .ensures)
     (c2 .if1 .left)
@@ -88,7 +94,9 @@ sink-spec =
     get-requires-3
     ease-requires
     same-length
+    same-length-2
     returns
     ease-requires-2
-    same-length-2
+    same-length-3
+    same-length-4
     returns-2)

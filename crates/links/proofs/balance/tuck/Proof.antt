@@ -1,6 +1,6 @@
 -- The two writes and the rotation are those of `tucked`.
 use denote.Ref.{now}
-use Rattle.links.specs.Turns.{links}
+use Rattle.redblack.specs.Links.{lentLinks}
 use Rattle.links.proofs.Balancing.{tuck}
 use borrow.Author.Needs.{needs}
 use Rattle.links.proofs.balance.tuck.Statement.{statement}
@@ -21,14 +21,17 @@ rotate-requires c κs = search needs
 same-length : tie.Need-same-length
 same-length c = search needs
 
+same-length-2 : tie.Need-same-length-2
+same-length-2 c = search needs
+
 returns : tie.Need-returns
 returns c =
-    let c1 = c .before .before in
-    let c2 = c1 .before .before .before .before in
+    let c1 = c .before .before .before .before in
+    let c2 = c1 .before .before .before .before .before in
     let c3 = c2 .before .before .before .before in
     let c4 = c3 .before .before in
-    let a = c4 .before .before .before .args in
-    tuck (a .near) (a .far) (links (now (a .cells)) (a .root)) (a .y)
+    let a = c4 .before .before .before .before .args in
+    tuck (a .near) (a .far) (lentLinks (now (a .cells)) (a .root) (now (a .sizes))) (a .y)
     (c4 .get .ensures)
     (c3 .paint .ensures)
     (c2 .paint2 .ensures)
@@ -37,4 +40,11 @@ returns c =
 pub tuck-spec : {M : Type 1} → statement M
 tuck-spec =
     tie.close
-    (tie.spec get-requires paint-requires paint-requires-2 rotate-requires same-length returns)
+    (tie.spec
+    get-requires
+    paint-requires
+    paint-requires-2
+    rotate-requires
+    same-length
+    same-length-2
+    returns)

@@ -1,6 +1,6 @@
 -- The place, the hooking and the balancing are those of `inserted`.
 use denote.Ref.{now}
-use Rattle.links.specs.Spots.{links}
+use Rattle.redblack.specs.Links.{lentLinks}
 use Rattle.links.proofs.Placing.{hang}
 use borrow.Author.Needs.{needs}
 use Rattle.links.proofs.hang.hang_slot.Statement.{statement}
@@ -12,24 +12,39 @@ place-requires c κs = search needs
 hook-requires : tie.Need-hook-requires
 hook-requires c κs = search needs
 
+weigh-requires : tie.Need-weigh-requires
+weigh-requires c κs = search needs
+
 balance-insertion-requires : tie.Need-balance-insertion-requires
 balance-insertion-requires c κs = search needs
 
 same-length : tie.Need-same-length
 same-length c = search needs
 
+same-length-2 : tie.Need-same-length-2
+same-length-2 c = search needs
+
 returns : tie.Need-returns
 returns c =
-    let c1 = c .before .before in
-    let c2 = c1 .before .before .before .before in
-    let c3 = c2 .before .before in
-    let a = c3 .before .before .before .before .args in
-    hang (a .budget) (now (a .names)) (links (now (a .cells)) (a .root)) (a .x) (a .hash) (a .key)
-    (c3 .place .ensures)
-    (c2 .hook .ensures)
+    let c1 = c .before .before .before .before in
+    let c2 = c1 .before .before .before .before .before in
+    let c3 = c2 .before .before .before .before .before in
+    let c4 = c3 .before .before in
+    let a = c4 .before .before .before .before .before .args in
+    hang (a .budget) (now (a .names)) (lentLinks (now (a .cells)) (a .root) (now (a .sizes))) (a .x) (a .hash) (a .key)
+    (c4 .place .ensures)
+    (c3 .hook .ensures)
+    (c2 .weigh .ensures)
     (c1 .balance-insertion .ensures)
 
 pub hang-slot-spec : {M : Type 1} → statement M
 hang-slot-spec =
     tie.close
-    (tie.spec place-requires hook-requires balance-insertion-requires same-length returns)
+    (tie.spec
+    place-requires
+    hook-requires
+    weigh-requires
+    balance-insertion-requires
+    same-length
+    same-length-2
+    returns)

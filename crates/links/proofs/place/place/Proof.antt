@@ -1,6 +1,6 @@
--- `place` goes as `placed` does, on each side of its test.
+-- `place` goes as `spotted` does, on each side of its test.
 use denote.Ref.{now}
-use Rattle.links.specs.Spots.{links}
+use Rattle.redblack.specs.Links.{lentLinks}
 use Rattle.links.proofs.Placing.{empty, full}
 use borrow.Author.Needs.{needs}
 use Rattle.links.proofs.place.place.Statement.{statement}
@@ -9,7 +9,7 @@ use Rattle.links.proofs.place.place.Tie as tie
 returns : tie.Need-returns
 returns c =
     let a = c .before .before .before .args in
-    empty (a .steps) (now (a .names)) (links (now (a .cells)) (a .root)) (a .hash) (a .key)
+    λ sizes. empty (a .steps) (now (a .names)) (lentLinks (now (a .cells)) (a .root) sizes) (a .hash) (a .key)
     (c .if1 .taken)
 
 descend-requires : tie.Need-descend-requires
@@ -19,7 +19,7 @@ returns-2 : tie.Need-returns-2
 returns-2 c =
     let c1 = c .before in
     let a = c1 .before .before .before .args in
-    full (a .steps) (now (a .names)) (links (now (a .cells)) (a .root)) (a .hash) (a .key)
+    λ sizes. full (a .steps) (now (a .names)) (lentLinks (now (a .cells)) (a .root) sizes) (a .hash) (a .key)
     (c1 .if1 .left)
     (c .descend .ensures)
 

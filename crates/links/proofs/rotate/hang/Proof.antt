@@ -1,6 +1,6 @@
 -- `hang` makes the write that `hung` makes: one law for each way through its two tests.
 use denote.Ref.{now}
-use Rattle.links.specs.Turns.{links}
+use Rattle.redblack.specs.Links.{lentLinks}
 use Rattle.links.proofs.Rotating.{hung-root, hung-near, hung-far}
 use borrow.Author.Needs.{needs}
 use Rattle.links.proofs.rotate.hang.Statement.{statement}
@@ -17,7 +17,7 @@ returns c =
     let c1 = c .before .before in
     let c2 = c1 .before .before in
     let a = c2 .before .before .args in
-    hung-root (a .near) (a .far) (links (now (a .cells)) (a .root)) (a .pp) (a .p) (a .r)
+    λ sizes. hung-root (a .near) (a .far) (lentLinks (now (a .cells)) (a .root) sizes) (a .pp) (a .p) (a .r)
     (c2 .if1 .taken)
     (c1 .put .ensures)
 
@@ -40,7 +40,7 @@ returns-2 c =
     let c3 = c2 .before in
     let c4 = c3 .before .before in
     let a = c4 .before .before .args in
-    hung-near (a .near) (a .far) (links (now (a .cells)) (a .root)) (a .pp) (a .p) (a .r)
+    λ sizes. hung-near (a .near) (a .far) (lentLinks (now (a .cells)) (a .root) sizes) (a .pp) (a .p) (a .r)
     (c4 .if1 .left)
     (c3 .get .ensures)
     (c2 .if2 .taken)
@@ -56,7 +56,7 @@ returns-3 c =
     let c3 = c2 .before in
     let c4 = c3 .before .before in
     let a = c4 .before .before .args in
-    hung-far (a .near) (a .far) (links (now (a .cells)) (a .root)) (a .pp) (a .p) (a .r)
+    λ sizes. hung-far (a .near) (a .far) (lentLinks (now (a .cells)) (a .root) sizes) (a .pp) (a .p) (a .r)
     (c4 .if1 .left)
     (c3 .get .ensures)
     (c2 .if2 .left)

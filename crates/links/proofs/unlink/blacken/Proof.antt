@@ -1,6 +1,6 @@
 -- The write is made where `blackened` makes it.
 use denote.Ref.{now}
-use Rattle.links.specs.Spots.{links}
+use Rattle.redblack.specs.Links.{lentLinks}
 use Rattle.links.proofs.Unlinking.{at-root, not-root}
 use borrow.Author.Needs.{needs}
 use Rattle.links.proofs.unlink.blacken.Statement.{statement}
@@ -17,14 +17,14 @@ returns c =
     let c1 = c .before .before in
     let c2 = c1 .before .before in
     let a = c2 .before .before .args in
-    at-root (links (now (a .cells)) (a .root)) (a .x)
+    λ sizes. at-root (lentLinks (now (a .cells)) (a .root) sizes) (a .x)
     (c2 .if1 .taken)
     (c1 .put .ensures)
 
 returns-2 : tie.Need-returns-2
 returns-2 c =
     let a = c .before .before .args in
-    not-root (links (now (a .cells)) (a .root)) (a .x)
+    λ sizes. not-root (lentLinks (now (a .cells)) (a .root) sizes) (a .x)
     (c .if1 .left)
 
 pub blacken-spec : {M : Type 1} → statement M

@@ -1,6 +1,6 @@
 -- The read, the replacing and the write are those of `detached`.
 use denote.Ref.{now}
-use Rattle.links.specs.Spots.{links}
+use Rattle.redblack.specs.Links.{lentLinks}
 use Rattle.links.proofs.Unlinking.{detach}
 use borrow.Author.Needs.{needs}
 use Rattle.links.proofs.unlink.detach.Statement.{statement}
@@ -24,7 +24,7 @@ returns c =
     let c2 = c1 .before .before .before .before in
     let c3 = c2 .before .before in
     let a = c3 .before .before .before .args in
-    detach (links (now (a .cells)) (a .root)) (a .p)
+    λ sizes. detach (lentLinks (now (a .cells)) (a .root) sizes) (a .p)
     (c3 .get .ensures)
     (c2 .replace .ensures)
     (c1 .put .ensures)

@@ -12,8 +12,15 @@ balance-deletion-requires c κs = search needs
 same-length : tie.Need-same-length
 same-length c = search needs
 
+same-length-2 : tie.Need-same-length-2
+same-length-2 c = search needs
+
 returns-2 : tie.Need-returns-2
-returns-2 c = rw (c .before .before .before .before .if1 .left) (c .before .before .balance-deletion .ensures)
+returns-2 c =
+    let c1 = c .before .before .before .before in
+    let c2 = c1 .before .before .before in
+    rw (c2 .if1 .left) (c1 .balance-deletion .ensures)
 
 pub rebalance-spec : {M : Type 1} → statement M
-rebalance-spec = tie.close (tie.spec returns balance-deletion-requires same-length returns-2)
+rebalance-spec =
+    tie.close (tie.spec returns balance-deletion-requires same-length same-length-2 returns-2)

@@ -1,6 +1,6 @@
 -- `replace` goes as `replaced` does, on each side of its test.
 use denote.Ref.{now}
-use Rattle.links.specs.Spots.{links}
+use Rattle.redblack.specs.Links.{lentLinks}
 use Rattle.links.proofs.Unlinking.{rootward, under}
 use borrow.Author.Needs.{needs}
 use Rattle.links.proofs.unlink.replace.Statement.{statement}
@@ -9,7 +9,7 @@ use Rattle.links.proofs.unlink.replace.Tie as tie
 returns : tie.Need-returns
 returns c =
     let a = c .before .before .args in
-    rootward (links (now (a .cells)) (a .root)) (a .q) (a .p) (a .x)
+    λ sizes. rootward (lentLinks (now (a .cells)) (a .root) sizes) (a .q) (a .p) (a .x)
     (c .if1 .taken)
 
 relink-requires : tie.Need-relink-requires
@@ -23,7 +23,7 @@ returns-2 c =
     let c1 = c .before .before in
     let c2 = c1 .before .before in
     let a = c2 .before .before .args in
-    under (links (now (a .cells)) (a .root)) (a .q) (a .p) (a .x)
+    λ sizes. under (lentLinks (now (a .cells)) (a .root) sizes) (a .q) (a .p) (a .x)
     (c2 .if1 .left)
     (c1 .relink .ensures)
 

@@ -1,6 +1,6 @@
 -- The read, the replacing and the writes are those of `spliced`, in order.
 use denote.Ref.{now}
-use Rattle.links.specs.Spots.{links}
+use Rattle.redblack.specs.Links.{lentLinks}
 use Rattle.links.proofs.Unlinking.{splice}
 use borrow.Author.Needs.{needs}
 use Rattle.links.proofs.unlink.splice.Statement.{statement}
@@ -36,7 +36,7 @@ returns c =
     let c5 = c4 .before .before .before .before in
     let c6 = c5 .before .before in
     let a = c6 .before .before .before .args in
-    splice (links (now (a .cells)) (a .root)) (a .p) (a .x)
+    λ sizes. splice (lentLinks (now (a .cells)) (a .root) sizes) (a .p) (a .x)
     (c6 .get .ensures)
     (c5 .put .ensures)
     (c4 .replace .ensures)

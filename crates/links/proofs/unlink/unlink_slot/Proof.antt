@@ -1,6 +1,6 @@
 -- `unlink_slot` goes as `removed` does: one law for each way through its two tests.
 use denote.Ref.{now}
-use Rattle.links.specs.Spots.{links}
+use Rattle.redblack.specs.Links.{lentLinks}
 use Rattle.links.proofs.Unlinking.{no-left, no-right, both}
 use borrow.Author.Needs.{needs}
 use Rattle.links.proofs.unlink.unlink_slot.Statement.{statement}
@@ -15,13 +15,16 @@ drop-slot-requires c κs = search needs
 same-length : tie.Need-same-length
 same-length c = search needs
 
+same-length-2 : tie.Need-same-length-2
+same-length-2 c = search needs
+
 returns : tie.Need-returns
 returns c =
-    let c1 = c .before .before in
-    let c2 = c1 .before .before in
+    let c1 = c .before .before .before .before in
+    let c2 = c1 .before .before .before in
     let c3 = c2 .before in
-    let a = c3 .before .before .before .args in
-    no-left (a .budget) (links (now (a .cells)) (a .root)) (a .p)
+    let a = c3 .before .before .before .before .args in
+    no-left (a .budget) (lentLinks (now (a .cells)) (a .root) (now (a .sizes))) (a .p)
     (c3 .get .ensures)
     (c2 .if1 .taken)
     (c1 .drop-slot .ensures)
@@ -32,18 +35,21 @@ get-requires-2 c κs = search needs
 drop-slot-requires-2 : tie.Need-drop-slot-requires-2
 drop-slot-requires-2 c κs = search needs
 
-same-length-2 : tie.Need-same-length-2
-same-length-2 c = search needs
+same-length-3 : tie.Need-same-length-3
+same-length-3 c = search needs
+
+same-length-4 : tie.Need-same-length-4
+same-length-4 c = search needs
 
 returns-2 : tie.Need-returns-2
 returns-2 c =
-    let c1 = c .before .before in
-    let c2 = c1 .before .before in
+    let c1 = c .before .before .before .before in
+    let c2 = c1 .before .before .before in
     let c3 = c2 .before in
     let c4 = c3 .before .before in
     let c5 = c4 .before in
-    let a = c5 .before .before .before .args in
-    no-right (a .budget) (links (now (a .cells)) (a .root)) (a .p)
+    let a = c5 .before .before .before .before .args in
+    no-right (a .budget) (lentLinks (now (a .cells)) (a .root) (now (a .sizes))) (a .p)
     (c5 .get .ensures)
     (c4 .if1 .left)
     (c3 .get2 .ensures)
@@ -59,20 +65,23 @@ trade-requires c κs = search needs
 drop-slot-requires-3 : tie.Need-drop-slot-requires-3
 drop-slot-requires-3 c κs = search needs
 
-same-length-3 : tie.Need-same-length-3
-same-length-3 c = search needs
+same-length-5 : tie.Need-same-length-5
+same-length-5 c = search needs
+
+same-length-6 : tie.Need-same-length-6
+same-length-6 c = search needs
 
 returns-3 : tie.Need-returns-3
 returns-3 c =
-    let c1 = c .before .before in
-    let c2 = c1 .before .before .before .before in
-    let c3 = c2 .before .before in
+    let c1 = c .before .before .before .before in
+    let c2 = c1 .before .before .before .before .before .before .before in
+    let c3 = c2 .before .before .before in
     let c4 = c3 .before .before in
     let c5 = c4 .before in
     let c6 = c5 .before .before in
     let c7 = c6 .before in
-    let a = c7 .before .before .before .args in
-    both (a .budget) (links (now (a .cells)) (a .root)) (a .p)
+    let a = c7 .before .before .before .before .args in
+    both (a .budget) (lentLinks (now (a .cells)) (a .root) (now (a .sizes))) (a .p)
     (c7 .get .ensures)
     (c6 .if1 .left)
     (c5 .get2 .ensures)
@@ -88,13 +97,16 @@ unlink-slot-spec =
     get-requires
     drop-slot-requires
     same-length
+    same-length-2
     returns
     get-requires-2
     drop-slot-requires-2
-    same-length-2
+    same-length-3
+    same-length-4
     returns-2
     leftmost-requires
     trade-requires
     drop-slot-requires-3
-    same-length-3
+    same-length-5
+    same-length-6
     returns-3)

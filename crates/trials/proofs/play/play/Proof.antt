@@ -1,6 +1,6 @@
 -- The loop's invariant: what is left to play from here comes to what the whole comes to. The measure is what is left of the input: a call
 -- takes some of its piece, and no more than there is.
-use mathlib.Core.Path.{_≡_}
+use mathlib.Core.Path.{_≡_, _∙_}
 use denote.Ref.{now}
 use Prim.Native.Nat.{_-_, _^_, _<_, _≤_}
 use native.Mathlib.Omega.{arith}
@@ -16,26 +16,28 @@ use Rattle.trials.proofs.play.play.Statement.{statement}
 use Rattle.trials.proofs.play.play.Tie as tie
 
 abbrev Inv-loop : tie.InvT-loop
-Inv-loop input cut expected names₀ cells₀ head₀ lines₀ out₀ kept₀ at₀ said₀ names cells head lines out kept at said =
-    Left cut expected input at said (deskOf (lineOf kept) (lent names cells head lines) out) (playing cut expected input (lent names₀ cells₀ head₀ lines₀) out₀)
+Inv-loop input cut expected names₀ cells₀ head₀ sizes₀ lines₀ out₀ kept₀ at₀ said₀ names cells head sizes lines out kept at said =
+    Left cut expected input at said (deskOf (lineOf kept) (lent names cells head sizes lines) out) (playing cut expected input (lent names₀ cells₀ head₀ sizes₀ lines₀) out₀)
     × (at ≤ length input)
     × (length input < 2 ^ 64)
     × (length names ≡ length names₀)
     × (length cells ≡ length cells₀)
     × (length head ≡ length head₀)
+    × (length sizes ≡ length sizes₀)
     × (length lines ≡ length lines₀)
     × (length out ≡ length out₀)
 
 abbrev μ-loop : tie.MeasureT-loop
-μ-loop input cut expected names₀ cells₀ head₀ lines₀ out₀ kept₀ at₀ said₀ names cells head lines out kept at said = length input - at
+μ-loop input cut expected names₀ cells₀ head₀ sizes₀ lines₀ out₀ kept₀ at₀ said₀ names cells head sizes lines out kept at said = length input - at
 
 blank-requires : tie.Need-blank-requires Inv-loop μ-loop
 blank-requires c κs = search needs
 
 loop-holds : tie.Need-loop-holds Inv-loop μ-loop
 loop-holds c =
-    let a = c .before .before .before .before .before .before .before .before .args in (
+    let a = c .before .before .before .before .before .before .before .before .before .args in (
       left-start (a .cut) (now (a .expected)) (now (a .input)) _ _ (c .blank .ensures),
+      search needs,
       search needs,
       search needs,
       search needs,
@@ -62,7 +64,8 @@ slice-reshare-prefix-agrees c = search needs
 
 slice-aggregate-agrees : tie.Need-slice-aggregate-agrees Inv-loop μ-loop
 slice-aggregate-agrees c =
-    simp length-take (omega (arith, c .before .before .before .before .before .before .before .before .before .before .before .feed-first .ensures .1 .0))
+    let c1 = c .before .before .before .before .before .before .before .before .before .before .before .before .before in
+    simp length-take (omega (arith, c1 .feed-first .ensures .1 .0))
 
 agrees-requires : tie.Need-agrees-requires Inv-loop μ-loop
 agrees-requires c κs = search needs
@@ -82,63 +85,99 @@ same-length-4 c = search needs
 same-length-5 : tie.Need-same-length-5 Inv-loop μ-loop
 same-length-5 c = search needs
 
-returns : tie.Need-returns Inv-loop μ-loop
-returns c =
-    let m = c .before .before in
-    let f = m .before .before .before .before .before .before .before .before .before .before .before .before in
-    let t = f .before .before .before .before .before .before .before in
-    let l = t .before in
-    let a = l .before .before .before .before .before .before .before .before .before .args in
-    left-other (a .cut) (now (a .expected)) (now (a .input)) (l .loop .at) (l .loop .said) _ (l .loop .inv .0)
-    (t .loop-test .taken) (f .feed-first .ensures .0) (m .agrees .ensures) (not-true _ (c .if1 .taken))
-
 same-length-6 : tie.Need-same-length-6 Inv-loop μ-loop
 same-length-6 c = search needs
 
+returns : tie.Need-returns Inv-loop μ-loop
+returns c =
+    let m = c .before .before in
+    let f = m .before .before .before .before .before .before .before .before .before .before .before .before .before .before in
+    let t = f .before .before .before .before .before .before .before .before in
+    let l = t .before in
+    let a = l .before .before .before .before .before .before .before .before .before .before .args in
+    left-other (a .cut) (now (a .expected)) (now (a .input)) (l .loop .at) (l .loop .said) _ (l .loop .inv .0)
+    (t .loop-test .taken) (f .feed-first .ensures .0) (m .agrees .ensures) (not-true _ (c .if1 .taken))
+
 same-length-7 : tie.Need-same-length-7 Inv-loop μ-loop
-same-length-7 c = search needs
+same-length-7 c =
+    let c1 = c .before .before .before .before .before .before .before .before .before .before .before .before .before .before .before .before .before in
+    let c2 = c1 .before .before .before .before .before .before .before .before .before in
+    c1 .feed-first .kept .1 .1 .1 .0 ∙ c2 .loop .inv .3
 
 same-length-8 : tie.Need-same-length-8 Inv-loop μ-loop
-same-length-8 c = search needs
+same-length-8 c =
+    let c1 = c .before .before .before .before .before .before .before .before .before .before .before .before .before .before .before .before .before in
+    let c2 = c1 .before .before .before .before .before .before .before .before .before in
+    c1 .feed-first .kept .1 .1 .1 .1 .0 ∙ c2 .loop .inv .4
 
 same-length-9 : tie.Need-same-length-9 Inv-loop μ-loop
-same-length-9 c = search needs
+same-length-9 c =
+    let c1 = c .before .before .before .before .before .before .before .before .before .before .before .before .before .before .before .before .before in
+    let c2 = c1 .before .before .before .before .before .before .before .before .before in
+    c1 .feed-first .kept .1 .1 .1 .1 .1 .0 ∙ c2 .loop .inv .5
 
 same-length-10 : tie.Need-same-length-10 Inv-loop μ-loop
-same-length-10 c = search needs
+same-length-10 c =
+    let c1 = c .before .before .before .before .before .before .before .before .before .before .before .before .before .before .before .before .before in
+    let c2 = c1 .before .before .before .before .before .before .before .before .before in
+    c1 .feed-first .kept .1 .1 .1 .1 .1 .1 .0 ∙ c2 .loop .inv .6
+
+same-length-11 : tie.Need-same-length-11 Inv-loop μ-loop
+same-length-11 c =
+    let c1 = c .before .before .before .before .before .before .before .before .before .before .before .before .before .before .before .before .before in
+    let c2 = c1 .before .before .before .before .before .before .before .before .before in
+    c1 .feed-first .kept .1 .1 .1 .1 .1 .1 .1 .0 ∙ c2 .loop .inv .7
+
+same-length-12 : tie.Need-same-length-12 Inv-loop μ-loop
+same-length-12 c =
+    let c1 = c .before .before .before .before .before .before .before .before .before .before .before .before .before .before .before .before .before in
+    let c2 = c1 .before .before .before .before .before .before .before .before .before in
+    c1 .feed-first .kept .1 .1 .1 .1 .1 .1 .1 .1 .0 ∙ c2 .loop .inv .8
 
 returns-2 : tie.Need-returns-2 Inv-loop μ-loop
 returns-2 c =
-    let m = c .before .before .before in
-    let f = m .before .before .before .before .before .before .before .before .before .before .before .before in
-    let t = f .before .before .before .before .before .before .before in
+    let c1 = c .before in
+    let m = c1 .before .before in
+    let f = m .before .before .before .before .before .before .before .before .before .before .before .before .before .before in
+    let t = f .before .before .before .before .before .before .before .before in
     let l = t .before in
-    let a = l .before .before .before .before .before .before .before .before .before .args in
+    let a = l .before .before .before .before .before .before .before .before .before .before .args in
     left-stuck (a .cut) (now (a .expected)) (now (a .input)) (l .loop .at) (l .loop .said) _ (l .loop .inv .0)
-    (t .loop-test .taken) (f .feed-first .ensures .0) (m .agrees .ensures) (not-false _ (c .before .if1 .left)) (c .if2 .taken)
+    (t .loop-test .taken) (f .feed-first .ensures .0) (m .agrees .ensures) (not-false _ (c1 .if1 .left)) (c .if2 .taken)
 
 add-at : tie.Need-add-at Inv-loop μ-loop
-add-at c = search needs
+add-at c =
+    let c1 = c .before .before .before .before .before .before .before .before .before .before .before .before .before .before .before .before .before .before in
+    let c2 = c1 .before .before .before .before .before .before .before .before .before in
+    omega (arith, c2 .loop .inv, simp length-take at (c1 .feed-first .ensures .1 .1))
 
 loop-less : tie.Need-loop-less Inv-loop μ-loop
 loop-less c = search needs
 
 loop-again : tie.Need-loop-again Inv-loop μ-loop
 loop-again c =
-    let m = c .before .before .before .before in
+    let c1 = c .before in
+    let c2 = c1 .before in
+    let m = c2 .before .before in
     let o = m .before .before .before in
-    let f = o .before .before .before .before .before .before .before .before .before in
-    let t = f .before .before .before .before .before .before .before in
+    let c3 = o .before .before in
+    let c4 = c3 .before .before in
+    let c5 = c4 .before .before in
+    let c6 = c5 .before .before in
+    let c7 = c6 .before .before in
+    let f = c7 .before in
+    let t = f .before .before .before .before .before .before .before .before in
     let l = t .before in
-    let a = l .before .before .before .before .before .before .before .before .before .args in (
+    let a = l .before .before .before .before .before .before .before .before .before .before .args in (
       left-on (a .cut) (now (a .expected)) (now (a .input)) (l .loop .at) (l .loop .said) _ (l .loop .inv .0) (t .loop-test .taken)
-          (f .feed-first .ensures .0) (m .agrees .ensures) (not-false _ (c .before .before .if1 .left)) (omega (arith, c .before .if2 .left)),
+          (f .feed-first .ensures .0) (m .agrees .ensures) (not-false _ (c2 .if1 .left)) (omega (arith, c1 .if2 .left)),
       omega (arith, simp length-take at (f .feed-first .ensures .1 .1)),
       search needs,
-      omega (arith, l .loop .inv, o .before .before .before .before .before .before .before .before .names .given),
-      omega (arith, l .loop .inv, o .before .before .before .before .before .before .cells .given),
-      omega (arith, l .loop .inv, o .before .before .before .before .head .given),
-      omega (arith, l .loop .inv, o .before .before .lines .given),
+      omega (arith, l .loop .inv, c7 .names .given),
+      omega (arith, l .loop .inv, c6 .cells .given),
+      omega (arith, l .loop .inv, c5 .head .given),
+      omega (arith, l .loop .inv, c4 .sizes .given),
+      omega (arith, l .loop .inv, c3 .lines .given),
       omega (arith, l .loop .inv, o .out .given),
     )
 
@@ -150,16 +189,11 @@ slice-reshare-prefix-agrees-2 c = search needs
 
 slice-aggregate-agrees-2 : tie.Need-slice-aggregate-agrees-2 Inv-loop μ-loop
 slice-aggregate-agrees-2 c =
-    simp length-take (omega (arith, c .before .before .before .before .before .before .before .before .before .before .before .finish .ensures .1))
+    let c1 = c .before .before .before .before .before .before .before .before .before .before .before .before .before in
+    simp length-take (omega (arith, c1 .finish .ensures .1))
 
 agrees-requires-2 : tie.Need-agrees-requires-2 Inv-loop μ-loop
 agrees-requires-2 c κs = search needs
-
-same-length-11 : tie.Need-same-length-11 Inv-loop μ-loop
-same-length-11 c = search needs
-
-same-length-12 : tie.Need-same-length-12 Inv-loop μ-loop
-same-length-12 c = search needs
 
 same-length-13 : tie.Need-same-length-13 Inv-loop μ-loop
 same-length-13 c = search needs
@@ -170,13 +204,23 @@ same-length-14 c = search needs
 same-length-15 : tie.Need-same-length-15 Inv-loop μ-loop
 same-length-15 c = search needs
 
+same-length-16 : tie.Need-same-length-16 Inv-loop μ-loop
+same-length-16 c = search needs
+
+same-length-17 : tie.Need-same-length-17 Inv-loop μ-loop
+same-length-17 c = search needs
+
+same-length-18 : tie.Need-same-length-18 Inv-loop μ-loop
+same-length-18 c = search needs
+
 returns-3 : tie.Need-returns-3 Inv-loop μ-loop
 returns-3 c =
-    let f = c .before .before .before .before .before .before .before .before .before .before .before .before in
-    let l = f .before .before .before .before .before .before .before in
-    let a = l .before .before .before .before .before .before .before .before .before .args in
+    let f = c .before .before .before .before .before .before .before .before .before .before .before .before .before .before in
+    let c1 = f .before .before .before .before .before .before .before in
+    let l = c1 .before in
+    let a = l .before .before .before .before .before .before .before .before .before .before .args in
     left-over (a .cut) (now (a .expected)) (now (a .input)) (l .loop .at) (l .loop .said) _ (l .loop .inv .0)
-    (f .before .before .before .before .before .before .loop-test .left) (f .finish .ensures .0) (c .agrees2 .ensures)
+    (c1 .loop-test .left) (f .finish .ensures .0) (c .agrees2 .ensures)
 
 pub play-spec : {M : Type 1} → statement M
 play-spec =
@@ -198,12 +242,14 @@ play-spec =
     same-length-3
     same-length-4
     same-length-5
-    returns
     same-length-6
+    returns
     same-length-7
     same-length-8
     same-length-9
     same-length-10
+    same-length-11
+    same-length-12
     returns-2
     add-at
     loop-less
@@ -212,9 +258,10 @@ play-spec =
     slice-reshare-prefix-agrees-2
     slice-aggregate-agrees-2
     agrees-requires-2
-    same-length-11
-    same-length-12
     same-length-13
     same-length-14
     same-length-15
+    same-length-16
+    same-length-17
+    same-length-18
     returns-3)

@@ -1,4 +1,4 @@
--- The four slices compared in a row are the model's.
+-- The five slices compared in a row are the model's.
 use mathlib.Core.Path.{_∙_}
 use borrow.Author.Needs.{needs}
 use Rattle.slots.proofs.Laws.{and-next}
@@ -15,6 +15,9 @@ same-cells-requires c κs = search needs
 same-cells-requires-2 : tie.Need-same-cells-requires-2
 same-cells-requires-2 c κs = search needs
 
+same-cells-requires-3 : tie.Need-same-cells-requires-3
+same-cells-requires-3 c κs = search needs
+
 same-names-requires-2 : tie.Need-same-names-requires-2
 same-names-requires-2 c κs = search needs
 
@@ -24,18 +27,24 @@ returns c =
     let c1 = c .before in
     let c2 = c1 .before in
     let c3 = c2 .before in
-    rw (← c3 .before .same-names .ensures, ← c .same-names2 .ensures)
-    (and-next _ (c3 .if1 .came) (λ w. (w .0 .taken, w .2 ∙ w .1 .ensures)) (λ w. (w .0 .left, w .1))
-    (and-next _ (c2 .if2 .came) (λ w. (w .0 .taken, w .2 ∙ w .1 .ensures)) (λ w. (w .0 .left, w .1)) (rw (c1 .if3 .taken))))
+    let c4 = c3 .before in
+    let c5 = c4 .before in
+    rw (← c5 .same-names .ensures, ← c .same-names2 .ensures)
+    (and-next _ (c4 .if1 .came) (λ w. (w .0 .taken, w .2 ∙ w .1 .ensures)) (λ w. (w .0 .left, w .1))
+    (and-next _ (c3 .if2 .came) (λ w. (w .0 .taken, w .2 ∙ w .1 .ensures)) (λ w. (w .0 .left, w .1))
+    (and-next _ (c2 .if3 .came) (λ w. (w .0 .taken, w .2 ∙ w .1 .ensures)) (λ w. (w .0 .left, w .1)) (rw (c1 .if4 .taken)))))
 
 returns-2 : tie.Need-returns-2
 unfolding sameIndex
 returns-2 c =
     let c1 = c .before in
     let c2 = c1 .before in
-    rw (← c2 .before .same-names .ensures)
-    (and-next _ (c2 .if1 .came) (λ w. (w .0 .taken, w .2 ∙ w .1 .ensures)) (λ w. (w .0 .left, w .1))
-    (and-next _ (c1 .if2 .came) (λ w. (w .0 .taken, w .2 ∙ w .1 .ensures)) (λ w. (w .0 .left, w .1)) (rw (c .if3 .left))))
+    let c3 = c2 .before in
+    let c4 = c3 .before in
+    rw (← c4 .same-names .ensures)
+    (and-next _ (c3 .if1 .came) (λ w. (w .0 .taken, w .2 ∙ w .1 .ensures)) (λ w. (w .0 .left, w .1))
+    (and-next _ (c2 .if2 .came) (λ w. (w .0 .taken, w .2 ∙ w .1 .ensures)) (λ w. (w .0 .left, w .1))
+    (and-next _ (c1 .if3 .came) (λ w. (w .0 .taken, w .2 ∙ w .1 .ensures)) (λ w. (w .0 .left, w .1)) (rw (c .if4 .left)))))
 
 pub same-index-spec : {M : Type 1} → statement M
 same-index-spec =
@@ -44,6 +53,7 @@ same-index-spec =
     same-names-requires
     same-cells-requires
     same-cells-requires-2
+    same-cells-requires-3
     same-names-requires-2
     returns
     returns-2)

@@ -7,7 +7,11 @@ use Rattle.try_answers.proofs.words.take_slots.Statement.{statement}
 use Rattle.try_answers.proofs.words.take_slots.Tie as tie
 
 abbrev Inv-loop : tie.InvT-loop
-Inv-loop text from names₀ cells₀ slots at₀ i₀ names cells at i = (i ≤ slots) × (at < 2 ^ 64) × (length cells ≡ length cells₀) × (length names ≡ length names₀)
+Inv-loop text from names₀ cells₀ slots at₀ i₀ names cells at i =
+    (i ≤ slots)
+    × (at < 2 ^ 64)
+    × (length cells ≡ length cells₀)
+    × (length names ≡ length names₀)
 
 abbrev μ-loop : tie.MeasureT-loop
 μ-loop text from names₀ cells₀ slots at₀ i₀ names cells at i = slots - i

@@ -7,10 +7,11 @@ use Rattle.try_damage.proofs.build.grow.Statement.{statement}
 use Rattle.try_damage.proofs.build.grow.Tie as tie
 
 abbrev Inv-loop : tie.InvT-loop
-Inv-loop names₀ cells₀ p₀ names cells p = (p ≤ 64) × (length names ≡ length names₀) × (length cells ≡ length cells₀)
+Inv-loop names₀ cells₀ sizes₀ p₀ names cells sizes p =
+    (p ≤ 64) × (length names ≡ length names₀) × (length cells ≡ length cells₀) × (length sizes ≡ length sizes₀)
 
 abbrev μ-loop : tie.MeasureT-loop
-μ-loop names₀ cells₀ p₀ names cells p = 64 - p
+μ-loop names₀ cells₀ sizes₀ p₀ names cells sizes p = 64 - p
 
 loop-holds : tie.Need-loop-holds Inv-loop μ-loop
 loop-holds c = search needs
@@ -33,6 +34,9 @@ same-length c = search needs
 same-length-2 : tie.Need-same-length-2 Inv-loop μ-loop
 same-length-2 c = search needs
 
+same-length-3 : tie.Need-same-length-3 Inv-loop μ-loop
+same-length-3 c = search needs
+
 returns : tie.Need-returns Inv-loop μ-loop
 returns c = search needs
 
@@ -49,4 +53,5 @@ grow-spec =
     loop-again
     same-length
     same-length-2
+    same-length-3
     returns)

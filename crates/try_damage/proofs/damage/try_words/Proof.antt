@@ -7,11 +7,15 @@ use Rattle.try_damage.proofs.damage.try_words.Statement.{statement}
 use Rattle.try_damage.proofs.damage.try_words.Tie as tie
 
 abbrev Inv-loop : tie.InvT-loop
-Inv-loop names₀ cells₀ head₀ after₀ trial₀ names cells head after trial =
-    (trial ≤ 3474) × (length names ≡ length names₀) × (length cells ≡ length cells₀) × (length head ≡ length head₀)
+Inv-loop names₀ cells₀ head₀ sizes₀ after₀ trial₀ names cells head sizes after trial =
+    (trial ≤ 3858)
+    × (length names ≡ length names₀)
+    × (length cells ≡ length cells₀)
+    × (length head ≡ length head₀)
+    × (length sizes ≡ length sizes₀)
 
 abbrev μ-loop : tie.MeasureT-loop
-μ-loop names₀ cells₀ head₀ after₀ trial₀ names cells head after trial = 3474 - trial
+μ-loop names₀ cells₀ head₀ sizes₀ after₀ trial₀ names cells head sizes after trial = 3858 - trial
 
 loop-holds : tie.Need-loop-holds Inv-loop μ-loop
 loop-holds c = search needs
@@ -40,6 +44,9 @@ same-length-2 c = search needs
 same-length-3 : tie.Need-same-length-3 Inv-loop μ-loop
 same-length-3 c = search needs
 
+same-length-4 : tie.Need-same-length-4 Inv-loop μ-loop
+same-length-4 c = search needs
+
 returns : tie.Need-returns Inv-loop μ-loop
 returns c = search needs
 
@@ -58,4 +65,5 @@ try-words-spec =
     same-length
     same-length-2
     same-length-3
+    same-length-4
     returns)

@@ -5,10 +5,10 @@ use Rattle.try_damage.proofs.twos.try_twos.Statement.{statement}
 use Rattle.try_damage.proofs.twos.try_twos.Tie as tie
 
 abbrev Inv-loop : tie.InvT-loop
-Inv-loop names cells head way t₀ trial₀ t trial = trial ≤ 4096
+Inv-loop names cells head sizes way t₀ trial₀ t trial = trial ≤ 4096
 
 abbrev μ-loop : tie.MeasureT-loop
-μ-loop names cells head way t₀ trial₀ t trial = 4096 - trial
+μ-loop names cells head sizes way t₀ trial₀ t trial = 4096 - trial
 
 loop-holds : tie.Need-loop-holds Inv-loop μ-loop
 loop-holds c = search needs

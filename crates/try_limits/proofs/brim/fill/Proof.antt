@@ -7,10 +7,17 @@ use Rattle.try_limits.proofs.brim.fill.Statement.{statement}
 use Rattle.try_limits.proofs.brim.fill.Tie as tie
 
 abbrev Inv-loop : tie.InvT-loop
-Inv-loop names₀ cells₀ head₀ lines₀ n count₀ i₀ names cells head lines count i = (i ≤ n) × (count < 2 ^ 32) × (length names ≡ length names₀) × (length cells ≡ length cells₀) × (length head ≡ length head₀) × (length lines ≡ length lines₀)
+Inv-loop names₀ cells₀ head₀ sizes₀ lines₀ n count₀ i₀ names cells head sizes lines count i =
+    (i ≤ n)
+    × (count < 2 ^ 32)
+    × (length names ≡ length names₀)
+    × (length cells ≡ length cells₀)
+    × (length head ≡ length head₀)
+    × (length sizes ≡ length sizes₀)
+    × (length lines ≡ length lines₀)
 
 abbrev μ-loop : tie.MeasureT-loop
-μ-loop names₀ cells₀ head₀ lines₀ n count₀ i₀ names cells head lines count i = n - i
+μ-loop names₀ cells₀ head₀ sizes₀ lines₀ n count₀ i₀ names cells head sizes lines count i = n - i
 
 loop-holds : tie.Need-loop-holds Inv-loop μ-loop
 loop-holds c = search needs
@@ -45,6 +52,9 @@ same-length-3 c = search needs
 same-length-4 : tie.Need-same-length-4 Inv-loop μ-loop
 same-length-4 c = search needs
 
+same-length-5 : tie.Need-same-length-5 Inv-loop μ-loop
+same-length-5 c = search needs
+
 returns : tie.Need-returns Inv-loop μ-loop
 returns c = search needs
 
@@ -65,4 +75,5 @@ fill-spec =
     same-length-2
     same-length-3
     same-length-4
+    same-length-5
     returns)

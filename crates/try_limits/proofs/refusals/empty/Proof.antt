@@ -29,6 +29,12 @@ slice-relend-prefix-fresh-4 c = search needs
 slice-aggregate-fresh-4 : tie.Need-slice-aggregate-fresh-4
 slice-aggregate-fresh-4 c = simp length-take (omega arith)
 
+slice-relend-prefix-fresh-5 : tie.Need-slice-relend-prefix-fresh-5
+slice-relend-prefix-fresh-5 c = search needs
+
+slice-aggregate-fresh-5 : tie.Need-slice-aggregate-fresh-5
+slice-aggregate-fresh-5 c = simp length-take (omega arith)
+
 fresh-requires : tie.Need-fresh-requires
 fresh-requires c κs = search needs
 
@@ -43,6 +49,9 @@ same-length-3 c = search needs
 
 same-length-4 : tie.Need-same-length-4
 same-length-4 c = search needs
+
+same-length-5 : tie.Need-same-length-5
+same-length-5 c = search needs
 
 returns : tie.Need-returns
 returns c = search needs
@@ -59,9 +68,12 @@ empty-spec =
     slice-aggregate-fresh-3
     slice-relend-prefix-fresh-4
     slice-aggregate-fresh-4
+    slice-relend-prefix-fresh-5
+    slice-aggregate-fresh-5
     fresh-requires
     same-length
     same-length-2
     same-length-3
     same-length-4
+    same-length-5
     returns)

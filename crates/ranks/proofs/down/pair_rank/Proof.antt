@@ -1,0 +1,148 @@
+-- The loop's invariant: the way from here, past what was counted, ends where the way from the root does.
+use mathlib.Core.Path.{_≡_, refl, _∙_}
+use Prim.Native.Nat.{_≤_}
+use borrow.Author.Tests.{not-true, not-false}
+use borrow.Author.Needs.{needs}
+use Rattle.tree_rules.specs.Ranks.{rankFrom}
+use Rattle.ranks.proofs.Ways.{rank-null, rank-left, rank-here, rank-right, rank-end}
+use Rattle.ranks.proofs.down.pair_rank.Statement.{statement}
+use Rattle.ranks.proofs.down.pair_rank.Tie as tie
+use Rattle.ranks.proofs.down.pair_rank.Reads as reads
+use Rattle.ranks.proofs.down.pair_rank.Lts as lts
+use Rattle.ranks.proofs.down.add.Reads as add-reads
+use Rattle.slots.proofs.comes_before.Reads as comes-before-reads
+use Rattle.slots.proofs.get.Reads as get-reads
+use Rattle.slots.proofs.name.Reads as name-reads
+use Rattle.slots.proofs.word.Reads as word-reads
+
+abbrev Inv-loop : tie.InvT-loop
+Inv-loop names cells sizes root hash key steps i₀ m₀ left₀ i m left = (rankFrom left names cells sizes i hash key m ≡ rankFrom steps names cells sizes root hash key 0) × (left ≤ steps)
+
+abbrev μ-loop : tie.MeasureT-loop
+μ-loop names cells sizes root hash key steps i₀ m₀ left₀ i m left = left
+
+loop-holds : tie.Need-loop-holds Inv-loop μ-loop
+loop-holds c = (refl, search needs)
+
+sub-left : tie.Need-sub-left Inv-loop μ-loop
+sub-left c = search needs
+
+returns : tie.Need-returns Inv-loop μ-loop
+returns c =
+    let c1 = c .before in
+    rank-null _ _ _ _ _ _ _ _ (c1 .loop-test .taken) (c .if1 .taken) ∙ c1 .before .loop .inv .0
+
+name-requires : tie.Need-name-requires Inv-loop μ-loop
+name-requires c κs = search needs
+
+name-requires-2 : tie.Need-name-requires-2 Inv-loop μ-loop
+name-requires-2 c κs = search needs
+
+get-requires : tie.Need-get-requires Inv-loop μ-loop
+get-requires c κs = search needs
+
+comes-before-requires : tie.Need-comes-before-requires Inv-loop μ-loop
+comes-before-requires c κs = search needs
+
+loop-less : tie.Need-loop-less Inv-loop μ-loop
+loop-less c = search needs
+
+loop-again : tie.Need-loop-again Inv-loop μ-loop
+loop-again c =
+    let c1 = c .before in
+    let c2 = c1 .before in
+    let c3 = c2 .before in
+    let c4 = c3 .before in
+    let c5 = c4 .before in
+    let c6 = c5 .before in
+    (rank-left _ _ _ _ _ _ _ _ (c6 .loop-test .taken) (c5 .if1 .left) (c4 .name .ensures) (c3 .name2 .ensures) (c2 .get .ensures) (c1 .comes-before .ensures) (c .if2 .taken) ∙ c6 .before .loop .inv .0, search needs)
+
+cast-word : tie.Need-cast-word Inv-loop μ-loop
+cast-word c = search needs
+
+word-requires : tie.Need-word-requires Inv-loop μ-loop
+word-requires c κs = search needs
+
+comes-before-requires-2 : tie.Need-comes-before-requires-2 Inv-loop μ-loop
+comes-before-requires-2 c κs = search needs
+
+add-requires : tie.Need-add-requires Inv-loop μ-loop
+add-requires c κs = search needs
+
+returns-2 : tie.Need-returns-2 Inv-loop μ-loop
+returns-2 c =
+    let c1 = c .before in
+    let c2 = c1 .before in
+    let c3 = c2 .before in
+    let c4 = c3 .before in
+    let c5 = c4 .before in
+    let c6 = c5 .before in
+    let c7 = c6 .before in
+    let c8 = c7 .before in
+    let c9 = c8 .before in
+    let c10 = c9 .before in
+    rank-here _ _ _ _ _ _ _ _ (c10 .loop-test .taken) (c9 .if1 .left) (c8 .name .ensures) (c7 .name2 .ensures) (c6 .get .ensures) (c5 .comes-before .ensures) (c3 .word .ensures) (c2 .comes-before2 .ensures)
+    (c4 .if2 .left) (not-true (c2 .comes-before2 .result) (c1 .if3 .taken)) (c .add .ensures)
+    ∙ c10 .before .loop .inv .0
+
+add-requires-2 : tie.Need-add-requires-2 Inv-loop μ-loop
+add-requires-2 c κs = search needs
+
+add-requires-3 : tie.Need-add-requires-3 Inv-loop μ-loop
+add-requires-3 c κs = search needs
+
+get-requires-2 : tie.Need-get-requires-2 Inv-loop μ-loop
+get-requires-2 c κs = search needs
+
+loop-less-2 : tie.Need-loop-less-2 Inv-loop μ-loop
+loop-less-2 c = search needs
+
+loop-again-2 : tie.Need-loop-again-2 Inv-loop μ-loop
+loop-again-2 c =
+    let c1 = c .before in
+    let c2 = c1 .before in
+    let c3 = c2 .before in
+    let c4 = c3 .before in
+    let c5 = c4 .before in
+    let c6 = c5 .before in
+    let c7 = c6 .before in
+    let c8 = c7 .before in
+    let c9 = c8 .before in
+    let c10 = c9 .before in
+    let c11 = c10 .before in
+    let c12 = c11 .before in (
+      rank-right _ _ _ _ _ _ _ _ (c12 .loop-test .taken) (c11 .if1 .left) (c10 .name .ensures) (c9 .name2 .ensures) (c8 .get .ensures) (c7 .comes-before .ensures) (c5 .word .ensures) (c4 .comes-before2 .ensures)
+          (c6 .if2 .left) (not-false (c4 .comes-before2 .result) (c3 .if3 .left)) (c2 .add2 .ensures) (c1 .add3 .ensures) (c .get2 .ensures)
+          ∙ c12 .before .loop .inv .0,
+      search needs,
+    )
+
+returns-3 : tie.Need-returns-3 Inv-loop μ-loop
+returns-3 c = rank-end _ _ _ _ _ _ _ _ (c .loop-test .left) ∙ c .before .loop .inv .0
+
+pub pair-rank-spec : {M : Type 1} → statement M
+pair-rank-spec =
+    tie.close
+    (tie.spec
+    Inv-loop
+    μ-loop
+    loop-holds
+    sub-left
+    returns
+    name-requires
+    name-requires-2
+    get-requires
+    comes-before-requires
+    loop-less
+    loop-again
+    cast-word
+    word-requires
+    comes-before-requires-2
+    add-requires
+    returns-2
+    add-requires-2
+    add-requires-3
+    get-requires-2
+    loop-less-2
+    loop-again-2
+    returns-3)
