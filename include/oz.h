@@ -16,6 +16,8 @@
  *                         pair before. Kind is 1 insert, 2 remove, 2 + 2^32 remove of a pair that stood right behind
  *                         another in the chain, which is then the pair before, 3 replace; but for 2 + 2^32 the pair
  *                         before is 0, 0. The place of a replace is the new place + 2^32 * the old one
+ *   calls    u64, 4 each  of a batch, per call: kind (1 insert, 2 remove, 3 replace), hash, key, place
+ *   answers  u64          of a batch: a word for each call, what the single call would answer
  *   lengths  u32, 1 to 8  of a frozen set: the tables' lengths
  *   bins     u32          of a frozen set: all tables' bins in a row: 0 empty, 1 Moved, 2 + slot a list,
  *                         4098 + header a tree
@@ -102,6 +104,14 @@ uint64_t oz_replace(const uint64_t *names, size_t names_len, uint32_t *cells, si
 uint64_t oz_rollback(uint64_t *names, size_t names_len, uint32_t *cells, size_t cells_len, uint32_t *head,
                      size_t head_len, uint32_t *sizes, size_t sizes_len, uint64_t *lines, size_t lines_len,
                      uint32_t mark);
+
+/* Makes the calls in order after one check, and writes the answer of each: what the same calls made singly would answer
+ * and leave. A refused call does not stop the later ones, and the words of answers past the calls stay. Answers how many
+ * calls were accepted. Refusals 1 (also for a slice of calls that is not whole, an unknown kind, a place of 2^32 or more in
+ * an insert or replace, and fewer answers than calls), 2; no call is then made and no answer written. */
+uint64_t oz_batch(uint64_t *names, size_t names_len, uint32_t *cells, size_t cells_len, uint32_t *head,
+                  size_t head_len, uint32_t *sizes, size_t sizes_len, uint64_t *lines, size_t lines_len,
+                  const uint64_t *calls, size_t calls_len, uint64_t *answers, size_t answers_len);
 
 /* The source's own check: 0 where it passes, slot + 2^32 * (100 + t) where its test t fails first, at that slot. A tree
  * that passes need not be sound. Refusals 1, 9. */

@@ -57,6 +57,64 @@ fn accept_row(name: &str, times: usize, set: &Set) {
     row(name, accept, None, Some(walk));
 }
 
+/// 500 inserts into 3,000 pairs, all pairs in a drawn order: in one batch, its one check timed apart, by single calls, by the source's own
+/// routines and into a BTreeMap. Each figure is for the 500 together.
+fn batch_rows(rng: &mut Rng) {
+    const HELD: usize = 3000;
+    const MORE: usize = 500;
+    let pairs: Vec<(u64, u64)> = (0..HELD + MORE).map(|_| (rng.next(), rng.next())).collect();
+    let mut held = Index::new(4096, 1024);
+    for (h, k) in &pairs[..HELD] {
+        held.forget();
+        assert_eq!(held.insert(*h, *k, 1).number, 0);
+    }
+    held.forget();
+    let calls: Vec<u64> = pairs[HELD..].iter().flat_map(|(h, k)| [1, *h, *k, 1]).collect();
+    let mut answers = vec![0; MORE];
+    let (mut whole, mut check, mut single) = (f64::INFINITY, f64::INFINITY, f64::INFINITY);
+    let (mut source, mut map_time) = (f64::INFINITY, f64::INFINITY);
+    for round in 0..ROUNDS {
+        let mut ix = held.clone();
+        let from = Instant::now();
+        let answer = black_box(ix.batch(&calls, &mut answers));
+        whole = whole.min(from.elapsed().as_nanos() as f64);
+        assert_eq!((answer.number, answer.value as usize), (0, MORE));
+        // An empty batch makes the one check and nothing else.
+        let ix = &mut held.clone();
+        let from = Instant::now();
+        assert_eq!(black_box(ix.batch(&[], &mut [])).number, 0);
+        check = check.min(from.elapsed().as_nanos() as f64);
+        if round < 3 {
+            let mut ix = held.clone();
+            let from = Instant::now();
+            for (h, k) in &pairs[HELD..] {
+                assert_eq!(black_box(ix.insert(*h, *k, 1)).number, 0);
+            }
+            single = single.min(from.elapsed().as_nanos() as f64);
+        }
+        let bin = Bin::new();
+        let mut map = BTreeMap::new();
+        for (h, k) in &pairs[..HELD] {
+            bin.insert(*h, *k, 1);
+            map.insert((*h, *k), 1u32);
+        }
+        let from = Instant::now();
+        for (h, k) in &pairs[HELD..] {
+            black_box(bin.insert(*h, *k, 1));
+        }
+        source = source.min(from.elapsed().as_nanos() as f64);
+        let from = Instant::now();
+        for (h, k) in &pairs[HELD..] {
+            assert!(black_box(map.insert((*h, *k), 1)).is_none());
+        }
+        map_time = map_time.min(from.elapsed().as_nanos() as f64);
+    }
+    row("a batch of 500 inserts into 3,000 pairs, with its one check", whole, Some(source), Some(map_time));
+    row("the same after the check", whole - check, Some(source), Some(map_time));
+    row("the one check of it", check, None, None);
+    row("the same 500 inserts by single calls", single, Some(source), Some(map_time));
+}
+
 fn main() {
     println!("| what | ours, ns | source, ns | BTreeMap, ns | ours / source | ours / BTreeMap |");
     println!("|---|---|---|---|---|---|");
@@ -187,6 +245,7 @@ fn main() {
         });
         row(&format!("the position of a pair, with its full check (BTreeMap: counted along), {size} slots"), position, None, Some(before));
     }
+    batch_rows(&mut rng);
     let set = sets::draw(&mut rng, 3, 64, 4096, 0);
     let n = set.names.len() / 2;
     let tables = Tables::of_words(&set).expect("an accepted set");

@@ -155,6 +155,55 @@ fn same_search(ours: oz::Answer, (found, looks): (Option<u32>, usize), slots: us
     }
 }
 
+/// A script cut into batches of drawn lengths: each is held to the same calls made singly on a copy, every word and every answer, and to
+/// the source, which makes them one by one. The answers' words past the calls are to stay.
+fn batches(rng: &mut Rng, by: By, scripts: usize, length: usize, report: &mut Report) -> (u64, u64) {
+    let (mut made, mut calls) = (0, 0);
+    for _ in 0..scripts {
+        let slots = 1 + rng.below(40) as usize;
+        let lines = rng.below(60) as usize;
+        let mut pair = Pair { ours: Index::new(slots, lines), theirs: Tree::new(slots, by) };
+        for _ in 0..length {
+            let drawn: Vec<u64> = (0..rng.below(30))
+                .flat_map(|_| {
+                    let kind = [1, 1, 1, 2, 2, 3][rng.below(6) as usize];
+                    let place = if kind == 2 { rng.next() } else { rng.next() as u32 as u64 };
+                    [kind, rng.below(2), rng.below(slots as u64 + 3), place]
+                })
+                .collect();
+            let mut single = pair.ours.clone();
+            let words = single.singly(&drawn);
+            let mut wanted = words.clone();
+            wanted.extend([7; 3]);
+            let mut answers = vec![7; words.len() + 3];
+            let answer = pair.ours.batch(&drawn, &mut answers);
+            let accepted = words.iter().filter(|w| *w >> 32 == 0).count() as u32;
+            made += 1;
+            calls += words.len() as u64;
+            if answer != oz::Answer::plain(0, accepted) || answers != wanted || pair.ours != single {
+                report.differs("batch and single calls", drawn.len(), format!("{slots} slots, {lines} lines, {drawn:?}: {answer:?}, {answers:?} and {wanted:?}"));
+                break;
+            }
+            for (call, word) in drawn.chunks(4).zip(&words) {
+                match call[0] {
+                    1 if *word >> 32 == 0 => drop(pair.theirs.insert(call[1], call[2], call[3] as u32, *word as u32)),
+                    2 if *word >> 32 == 0 => drop(pair.theirs.remove(call[1], call[2])),
+                    3 if *word >> 32 == 0 => drop(pair.theirs.replace(call[1], call[2], call[3] as u32)),
+                    _ => (),
+                }
+            }
+            if let Some(what) = pair.theirs.differs(&pair.ours) {
+                report.differs("batch and source", drawn.len(), format!("{slots} slots, {drawn:?}: {what}"));
+                break;
+            }
+            if pair.ours.lines[0] as usize == lines && rng.below(2) == 0 {
+                pair.ours.forget();
+            }
+        }
+    }
+    (made, calls)
+}
+
 fn run(slots: usize, by: By, script: &[Op], counts: &mut Counts) -> Result<(), (usize, String)> {
     let mut pair = Pair::new(slots, by);
     for (k, op) in script.iter().enumerate() {
@@ -642,6 +691,10 @@ fn main() {
             );
             println!("  replaces {} (absent {}), with no other word of the tree changed than a place", counts.replaces, counts.unplaced);
         }
+    }
+    for by in [By::Drivers, By::Bin] {
+        let (made, calls) = batches(&mut Rng::new(6), by, many(4000), 12, &mut report);
+        println!("{by:?}: {made} batches of {calls} calls, each held to the same calls made singly, word for word, and to the source");
     }
     let d = damaged(&mut Rng::new(2), many(200_000), &mut report);
     println!("damaged trees {} (sound still {})", d.trees, d.sound);

@@ -82,6 +82,22 @@ mod c {
             lines_len: usize,
             mark: u32,
         ) -> u64;
+        pub fn oz_batch(
+            names: *mut u64,
+            names_len: usize,
+            cells: *mut u32,
+            cells_len: usize,
+            head: *mut u32,
+            head_len: usize,
+            sizes: *mut u32,
+            sizes_len: usize,
+            lines: *mut u64,
+            lines_len: usize,
+            calls: *const u64,
+            calls_len: usize,
+            answers: *mut u64,
+            answers_len: usize,
+        ) -> u64;
         pub fn oz_check(names: *const u64, names_len: usize, cells: *const u32, cells_len: usize, head: *const u32, head_len: usize)
             -> u64;
         pub fn oz_sound(
@@ -307,6 +323,35 @@ pub fn rollback(names: &mut [u64], cells: &mut [u32], head: &mut [u32], sizes: &
             lines.as_mut_ptr(),
             lines.len(),
             mark,
+        )
+    })
+}
+
+pub fn batch(
+    names: &mut [u64],
+    cells: &mut [u32],
+    head: &mut [u32],
+    sizes: &mut [u32],
+    lines: &mut [u64],
+    calls: &[u64],
+    answers: &mut [u64],
+) -> Answer {
+    answer(unsafe {
+        c::oz_batch(
+            names.as_mut_ptr(),
+            names.len(),
+            cells.as_mut_ptr(),
+            cells.len(),
+            head.as_mut_ptr(),
+            head.len(),
+            sizes.as_mut_ptr(),
+            sizes.len(),
+            lines.as_mut_ptr(),
+            lines.len(),
+            calls.as_ptr(),
+            calls.len(),
+            answers.as_mut_ptr(),
+            answers.len(),
         )
     })
 }
@@ -590,6 +635,21 @@ impl Index {
 
     pub fn rollback(&mut self, mark: u32) -> Answer {
         rollback(&mut self.names, &mut self.cells, &mut self.head, &mut self.sizes, &mut self.lines, mark)
+    }
+
+    /// The calls of a slice, four words each, and a word for each answer.
+    pub fn batch(&mut self, calls: &[u64], answers: &mut [u64]) -> Answer {
+        batch(&mut self.names, &mut self.cells, &mut self.head, &mut self.sizes, &mut self.lines, calls, answers)
+    }
+
+    /// The same calls made singly: the word of each answer.
+    pub fn singly(&mut self, calls: &[u64]) -> Vec<u64> {
+        let make = |call: &[u64]| match call[0] {
+            1 => self.insert(call[1], call[2], call[3] as u32),
+            2 => self.remove(call[1], call[2]),
+            _ => self.replace(call[1], call[2], call[3] as u32),
+        };
+        calls.chunks(4).map(make).map(|a| a.value as u64 + ((a.number as u64) << 32)).collect()
     }
 
     pub fn listing(&self) -> Vec<Entry> {

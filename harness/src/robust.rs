@@ -88,6 +88,11 @@ impl Live {
         oz::rollback(self.names.lend(), self.cells.lend(), self.head.lend(), self.sizes.lend(), self.lines.lend(), mark)
     }
 
+    fn batch(&mut self, calls: &[u64], answers: &mut [u64]) -> oz::Answer {
+        let (head, sizes) = (self.head.lend(), self.sizes.lend());
+        oz::batch(self.names.lend(), self.cells.lend(), head, sizes, self.lines.lend(), calls, answers)
+    }
+
     fn fresh(&mut self) -> oz::Answer {
         oz::fresh(self.names.lend(), self.cells.lend(), self.head.lend(), self.sizes.lend(), self.lines.lend())
     }
@@ -353,14 +358,91 @@ fn foretold(before: &Live, after: &Live, mark: u32, number: u32) -> bool {
     }
 }
 
+/// A batch of any words on any words: its answer, and whether it did what the same calls made singly do on a copy, wrote no answer past the
+/// calls, and was refused exactly where it is to be.
+fn batched(rng: &mut Rng, l: &mut Live) -> (oz::Answer, bool) {
+    let mut calls = Vec::new();
+    for _ in 0..rng.below(6) {
+        let known = rng.below(12) != 0;
+        let kind = if known { 1 + rng.below(3) } else { word64(rng, 5) };
+        let place = if rng.below(12) == 0 { word64(rng, 9) } else { rng.next() as u32 as u64 };
+        calls.extend([kind, rng.below(3), rng.below(8), place]);
+    }
+    if rng.below(12) == 0 {
+        calls.pop();
+    }
+    let n = calls.len() / 4;
+    let room = if rng.below(8) == 0 { rng.below(6) as usize } else { n + rng.below(3) as usize };
+    let mut answers = Lent::new(&(0..room).map(|_| rng.next()).collect::<Vec<u64>>(), G64);
+    let (before, words) = (l.clone(), answers.clone());
+    let known = |call: &[u64]| call[0] == 2 || (matches!(call[0], 1 | 3) && call[3] >> 32 == 0);
+    let fit = calls.len() % 4 == 0 && n <= room && calls.chunks(4).all(known);
+    let answer = l.batch(&calls, answers.lend());
+    // An insert of a copy says 1 and 2 where a batch is to say so.
+    let probe = before.clone().insert(0, 0, 0).number;
+    let wanted = if probe == 1 || !fit { 1 } else if probe == 2 { 2 } else { 0 };
+    if answer.number != wanted {
+        return (answer, false);
+    }
+    if wanted != 0 {
+        return (answer, *l == before && answers == words && answer.value == 0);
+    }
+    let mut single = before.clone();
+    let mut told = words.get().to_vec();
+    let mut accepted = 0;
+    for (k, call) in calls.chunks(4).enumerate() {
+        let a = match call[0] {
+            1 => single.insert(call[1], call[2], call[3] as u32),
+            2 => single.remove(call[1], call[2]),
+            _ => single.replace(call[1], call[2], call[3] as u32),
+        };
+        told[k] = a.value as u64 + ((a.number as u64) << 32);
+        accepted += (a.number == 0) as u32;
+    }
+    (answer, *l == single && answers.get() == told && answers.guarded(G64) && l.guarded() && answer.value == accepted)
+}
+
+/// Batches of 1,100 drawn calls at the limits of slots and lines, the tree full but for one slot, each held to the same calls made singly:
+/// how many there were, and how many were not the same.
+fn limits(rng: &mut Rng) -> (u64, u64) {
+    let (mut made, mut wrong) = (0, 0);
+    for (slots, lines) in [(1, 0), (1, 1), (1, 1024), (4096, 0), (4096, 1), (4096, 1024)] {
+        let mut ix = Index::new(slots, lines.max(1));
+        for k in 1..slots as u64 {
+            ix.forget();
+            ix.insert(k % 5, k, 1);
+        }
+        ix.lines = vec![0; 1 + LINE_WORDS * lines];
+        let call = |rng: &mut Rng| [[1, 1, 2, 3][rng.below(4) as usize], rng.below(5), rng.below(2 * slots as u64), rng.next() as u32 as u64];
+        let calls: Vec<u64> = (0..1100).flat_map(|_| call(rng)).collect();
+        let mut single = ix.clone();
+        let words = single.singly(&calls);
+        let mut answers = vec![0; 1100];
+        let answer = ix.batch(&calls, &mut answers);
+        made += 1;
+        let accepted = words.iter().filter(|w| *w >> 32 == 0).count() as u32;
+        if answer != oz::Answer::plain(0, accepted) || answers != words || ix != single {
+            wrong += 1;
+            println!("batch at {slots} slots, {lines} lines: {answer:?}");
+        }
+    }
+    (made, wrong)
+}
+
 fn live_calls(rng: &mut Rng, tally: &mut Tally) {
     let mut l = live(rng);
     let mut before = l.clone();
     for _ in 0..8 {
         let (h, k) = if rng.below(4) == 0 { (word64(rng, 3), word64(rng, 9)) } else { (rng.below(3), rng.below(8)) };
         let mark = word32(rng, 3);
-        let (name, answer) = match rng.below(25) / 2 {
+        let mut as_single = true;
+        let (name, answer) = match rng.below(28) / 2 {
             12 => ("fresh", l.fresh()),
+            13 => {
+                let (answer, fine) = batched(rng, &mut l);
+                as_single = fine;
+                ("batch", answer)
+            }
             0 => ("find", oz::find(l.names.get(), l.cells.get(), l.head.get(), h, k)),
             1 => ("check", oz::check(l.names.get(), l.cells.get(), l.head.get())),
             2 => {
@@ -383,10 +465,11 @@ fn live_calls(rng: &mut Rng, tally: &mut Tally) {
             }
             _ => ("rollback", l.rollback(mark)),
         };
-        let writes = matches!(name, "fresh" | "insert" | "remove" | "replace" | "rollback") && answer.number == 0;
+        let writes = matches!(name, "fresh" | "insert" | "remove" | "replace" | "rollback" | "batch") && answer.number == 0;
         let fine = match name {
             "replace" if writes => l.guarded() && placed(&before, &l, answer.value),
             "remove" if writes => l.guarded() && l.sized() && noted(&before, &l, h, k),
+            "batch" if !as_single => false,
             _ if writes => l.guarded() && l.sized(),
             _ => l == before,
         };
@@ -595,6 +678,8 @@ fn main() {
         tally.rollbacks, tally.noted, tally.unforetold
     );
     println!("k-th and position {}; another answer than the sorted pairs and the full check give: {}", tally.ranks, tally.misranked);
+    let (batches, differing) = limits(&mut rng);
+    println!("batches of 1,100 calls at the limits {batches}; not the same as the calls made singly: {differing}");
     let runs = calls / 100;
     let (mut made, mut undone, mut wrong) = (0, 0, 0);
     for _ in 0..runs {
@@ -609,5 +694,5 @@ fn main() {
         }
     }
     println!("demand 3: {runs} runs, {made} calls after the mark, {undone} lines undone by the last rollback, wrong {wrong}");
-    std::process::exit((tally.touched + tally.strange + tally.unforetold + tally.misranked + wrong != 0) as i32);
+    std::process::exit((tally.touched + tally.strange + tally.unforetold + tally.misranked + differing + wrong != 0) as i32);
 }

@@ -25,7 +25,8 @@ use Rattle.set_rules.proofs.Naming.{ranges}
 use Rattle.set_rules.specs.Lookup.{listLook, listed, homeBin, asked, forwarded, lookups}
 use Rattle.set_rules.specs.Cursor.{Cursor, Step, fineCursor}
 use Rattle.set_rules.specs.Walk.{Place, deepest, binHere, Sought, entered, sought, turnsIn, stepped, standing, stepsOn, nexts}
-use Rattle.exports.specs.Words.{answerWord, searchWord}
+use Rattle.slots.specs.Answers.{answerWord}
+use Rattle.exports.specs.Words.{searchWord}
 use Rattle.exports.specs.Cursors.{cursorIn}
 use Rattle.exports.specs.Cursors.{walkedInto as walkedWords}
 use Rattle.exports.specs.Claims.{Tells, TellsLooks}

@@ -23,6 +23,7 @@ claims =
       replace-one = λ ix hash key place a b p q. p ∙ sym q;
       fresh-one = λ ix a b p q. p ∙ sym q;
       rollback-one = λ ix mark a b p q. p ∙ sym q;
+      batch-one = λ ix calls answers a b p q. p ∙ sym q;
       accept-one = λ s a b p q. p ∙ sym q;
       lookup-one = λ s table hash key a b p q. p ∙ sym q;
       start-one = λ s table cursor a b p q. p ∙ sym q;

@@ -6,7 +6,7 @@ use lib.ListN.{length, getD, set}
 use borrow.Author.Tests.{eq-eqb, ne-eqb}
 use Rattle.slots.specs.Answers.{Answer}
 use Rattle.set_rules.specs.Cursor.{Cursor, Step}
-use Rattle.exports.specs.Words.{answerWord}
+use Rattle.slots.specs.Answers.{answerWord}
 use Rattle.exports.specs.Cursors.{cursorIn, written, leftIn, ofEleven}
 
 -- The eleven reads, one after another.

@@ -18,13 +18,15 @@ use Rattle.index_rules.specs.Insert.{inserts}
 use Rattle.index_rules.specs.Remove.{removes}
 use Rattle.index_rules.specs.Replace.{replaces}
 use Rattle.index_rules.specs.Rollback.{rolls}
+use Rattle.index_rules.specs.Batch.{batches}
 use Rattle.index_rules.specs.Fresh.{freshes}
 use Rattle.set_rules.specs.Words.{Set}
 use Rattle.set_rules.specs.Accepting.{accepts}
 use Rattle.set_rules.specs.Lookup.{lookups}
 use Rattle.set_rules.specs.Cursor.{Cursor}
 use Rattle.set_rules.specs.Walk.{nexts}
-use Rattle.exports.specs.Words.{answerWord, searchWord, checkWord, Worded, worded}
+use Rattle.slots.specs.Answers.{answerWord}
+use Rattle.exports.specs.Words.{searchWord, checkWord, Worded, worded, BatchWorded, batchWorded}
 use Rattle.exports.specs.Cursors.{cursorIn, Kept, startedInto, walkedInto}
 
 -- The word of an answer tells which it is: a slot given is below 4,096, so that null is Nothing or Done alone.
@@ -62,6 +64,7 @@ pub record Claims : Type 0 where
   pub replace-one : (ix : Index) (hash key place : ℕ) → OneAnswer (λ (r : Worded). r ≡ worded (replaces ix hash key place))
   pub fresh-one : (ix : Index) → OneAnswer (λ (r : Worded). r ≡ worded (freshes ix))
   pub rollback-one : (ix : Index) (mark : ℕ) → OneAnswer (λ (r : Worded). r ≡ worded (rolls ix mark))
+  pub batch-one : (ix : Index) (calls answers : List ℕ) → OneAnswer (λ (r : BatchWorded). r ≡ batchWorded (batches ix calls answers))
   pub accept-one : (s : Set) → OneAnswer (λ (r : ℕ). r ≡ answerWord (accepts s))
   pub lookup-one : (s : Set) (table hash key : ℕ) → OneAnswer (λ (r : ℕ). r ≡ searchWord (counted (lookups s table hash key)))
   pub start-one : (s : Set) (table : ℕ) (cursor : List ℕ) → OneAnswer (λ (r : Kept). r ≡ startedInto s table cursor)

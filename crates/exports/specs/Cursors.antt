@@ -8,7 +8,7 @@ use Rattle.slots.specs.Answers.{refused}
 use Rattle.set_rules.specs.Words.{Set}
 use Rattle.set_rules.specs.Cursor.{Cursor, Step, starts}
 use Rattle.set_rules.specs.Walk.{nexts}
-use Rattle.exports.specs.Words.{answerWord}
+use Rattle.slots.specs.Answers.{answerWord}
 
 -- "11 words: base table, depth, eight indexes, last slot"
 abbrev pub cursorIn : List ℕ → Cursor

@@ -1,22 +1,10 @@
 -- The word that an exported routine answers: value + 2^32 * number.
+use mathlib.Core.List.{List}
 use Prim.Native.Nat.{ℕ, _+_, _*_}
-use lib.Dec.{eqb}
-use Rattle.slots.specs.Words.{null, pick}
-use Rattle.slots.specs.Answers.{Answer, Value, none, some}
+use Rattle.slots.specs.Answers.{Answer, wordOf, answerWord}
 use Rattle.tree_rules.specs.Find.{Counted}
 use Rattle.index_rules.specs.Index.{Index, Outcome}
-
--- The value beside a number: the one that comes with it, 0 with a refusal that has none, and bare where nothing comes with number 0.
-abbrev pub valueBeside : ℕ → ℕ → Value → ℕ
-valueBeside bare number (some v) = v
-valueBeside bare number none = pick (eqb number 0) bare 0
-
-abbrev pub wordOf : ℕ → Answer → ℕ
-wordOf bare a = valueBeside bare (a .number) (a .value) + 4294967296 * a .number
-
--- "4,294,967,295 for Nothing and Done"
-unfoldable pub answerWord : Answer → ℕ
-answerWord = wordOf null
+use Rattle.index_rules.specs.Batch.{Batched}
 
 -- "with looks it is value + 2^32 * number + 2^48 * looks": how many slots were looked at stands above the answer's 48 bits.
 unfoldable pub searchWord : Counted → ℕ
@@ -33,3 +21,12 @@ pub record Worded : Type 0 where
 
 unfoldable pub worded : Outcome → Worded
 worded o = record { word = answerWord (o .answer); left = o .left }
+
+-- And a batch, which leaves words of answers too.
+pub record BatchWorded : Type 0 where
+  pub word : ℕ
+  pub left : Index
+  pub answers : List ℕ
+
+unfoldable pub batchWorded : Batched → BatchWorded
+batchWorded b = record { word = answerWord (b .answer); left = b .left; answers = b .answers }

@@ -1,18 +1,19 @@
 // The frozen set's entry points.
 use crate::cursor::keep;
 use crate::cursor::read;
-use crate::words::packed;
 use crate::words::search_word;
-use crate::words::word;
 use sets::accept::accept;
 use sets::lookup::lookup;
 use sets::walk::Cursor;
+use slots::answer::answer_word;
+use slots::answer::packed;
 ghost use mathlib.Core.Path.{_≡_};
 ghost use Rattle.tree_rules.specs.Find.{counted};
 ghost use Rattle.set_rules.specs.Words.{lentSet};
 ghost use Rattle.set_rules.specs.Accepting.{accepts};
 ghost use Rattle.set_rules.specs.Lookup.{lookups};
-ghost use Rattle.exports.specs.Words.{answerWord, searchWord};
+ghost use Rattle.slots.specs.Answers.{answerWord};
+ghost use Rattle.exports.specs.Words.{searchWord};
 ghost use Rattle.exports.specs.Cursors.{Kept, startedInto, walkedInto};
 
 // Whether a frozen set is accepted.
@@ -29,7 +30,7 @@ pub extern "C" fn oz_accept(
         (lentSet (now (lengths .entry)) (now (bins .entry)) (now (heads .entry)) (now (names .entry)) (now (cells .entry)))) ⌝ }
 {
     let acceptance = accept(lengths, bins, heads, names, cells);
-    word(acceptance.answer())
+    answer_word(acceptance.answer())
 }
 
 // The slot of a frozen set that has a pair, from a table on, and how many slots were looked at.
@@ -74,7 +75,7 @@ pub extern "C" fn oz_start(
     let start = Cursor::start(lengths, bins, heads, names, cells, table);
     let startedInto = start.answer;
     let made = start.cursor;
-    let told = word(startedInto.answer());
+    let told = answer_word(startedInto.answer());
     keep(cursor, told, made);
     told
 }
@@ -100,7 +101,7 @@ pub extern "C" fn oz_walk(
     let step = at.next(lengths, bins, heads, names, cells);
     let given = step.answer;
     let after = step.cursor;
-    let told = word(given.answer());
+    let told = answer_word(given.answer());
     keep(cursor, told, after);
     told
 }

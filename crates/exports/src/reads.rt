@@ -1,12 +1,12 @@
 // The live tree's entry points that only read.
 use crate::words::search_word;
-use crate::words::word;
-use crate::words::word_with;
 use index::check::check;
 use index::find::find;
 use index::sound::sound;
 use ranks::kth::kth;
 use ranks::position::position;
+use slots::answer::answer_word;
+use slots::answer::word_with;
 ghost use mathlib.Core.Path.{_≡_};
 ghost use Rattle.tree_rules.specs.Find.{counted};
 ghost use Rattle.index_rules.specs.Live.{lentTree, unsized};
@@ -14,7 +14,8 @@ ghost use Rattle.index_rules.specs.Find.{finds};
 ghost use Rattle.index_rules.specs.Check.{checks};
 ghost use Rattle.index_rules.specs.Sound.{sounds};
 ghost use Rattle.index_rules.specs.Ranks.{kths, positions};
-ghost use Rattle.exports.specs.Words.{answerWord, searchWord, checkWord};
+ghost use Rattle.slots.specs.Answers.{answerWord};
+ghost use Rattle.exports.specs.Words.{searchWord, checkWord};
 
 // The slot of a live tree that has a pair, and how many slots were looked at.
 #[no_mangle]
@@ -41,7 +42,7 @@ pub extern "C" fn oz_sound(names: &[u64], cells: &[u32], head: &[u32], sizes: &[
         ≡ answerWord (sounds (lentTree (now (names .entry)) (now (cells .entry)) (now (head .entry)) (now (sizes .entry)))) ⌝ }
 {
     let verdict = sound(names, cells, head, sizes);
-    word(verdict.answer())
+    answer_word(verdict.answer())
 }
 
 // The slot of the pair at position k in order, counted from 0.
@@ -51,7 +52,7 @@ pub extern "C" fn oz_kth(names: &[u64], cells: &[u32], head: &[u32], sizes: &[u3
         ≡ answerWord (kths (lentTree (now (names .entry)) (now (cells .entry)) (now (head .entry)) (now (sizes .entry))) k) ⌝ }
 {
     let at = kth(names, cells, head, sizes, k);
-    word(at.answer())
+    answer_word(at.answer())
 }
 
 // The position of a pair in order, counted from 0.
@@ -69,5 +70,5 @@ pub extern "C" fn oz_position(
         hash key) ⌝ }
 {
     let positioned = position(names, cells, head, sizes, hash, key);
-    word(positioned.answer())
+    answer_word(positioned.answer())
 }

@@ -1,30 +1,29 @@
 -- What the tests before a call writes come to, on plain values: the answers of lower routines settle the model's tests.
 use mathlib.Core.Path.{_≡_, refl, ap, sym, _∙_}
 use mathlib.Core.Logic.{inl, inr}
-use mathlib.Core.Bool.{Bool, true, false}
+use mathlib.Core.Bool.{Bool, true, false, not}
 use mathlib.Core.List.{[], _∷_}
-use Prim.Native.Nat.{ℕ, zero, suc, _≤_, _<_}
+use Prim.Native.Nat.{ℕ, suc, _≤_, _<_}
 use native.Mathlib.Omega.{arith}
 use lib.ListN.{length}
+use lib.Dec.{leb}
+use borrow.Author.Tests.{leb-true, not-true, not-false}
 use types.Run.{OneOf}
 use denote.Enum.Declared.{tagOf}
-use Rattle.slots.specs.Words.{null, pick}
+use Rattle.slots.specs.Words.{null, pick, mostSlots}
 use Rattle.slots.specs.Answers.{Answer, Value, some, none, given}
 use Rattle.slots.proofs.Laws.{given-is, number, value}
-use Rattle.tree_rules.specs.Find.{slotsOf, Counted, counted, found}
-use Rattle.tree_rules.specs.Chain.{tally}
-use Rattle.index_rules.specs.Live.{Live, Fit, rootOf, countOf, fits}
-use Rattle.index_rules.specs.Sound.{Sound, used, sound, sounds}
+use Rattle.tree_rules.specs.Find.{Counted, counted, found}
+use Rattle.index_rules.specs.Live.{Live, rootOf, countOf, fits}
+use Rattle.index_rules.specs.Sound.{sound, sounds}
 use Rattle.index_rules.specs.Index.{Index, FitIndex, Outcome, outcome, fitsIndex, fitsJournal, lengthOf}
 use Rattle.index_rules.specs.Insert.{soughtIn}
 use Rattle.index_rules.proofs.Fit.{both}
 use Rattle.index_rules.proofs.Journal.{fits-index}
-use Rattle.index_rules.proofs.Sounding.{yes-sound}
 use Rattle.index.specs.Reads.{soundOf}
 use Rattle.index.specs.declared.sound.Soundness.{Soundness}
 use Rattle.index.specs.declared.sound.Soundness.the-variants.{Yes, No, Unfit}
 use Rattle.index.proofs.sound.Soundness.{the-type as soundness}
-use Rattle.index.proofs.Slots.{used-one}
 use Rattle.index.specs.Calls.{fitnessOf}
 use Rattle.index.specs.declared.fit_index.Fitness.{Fitness}
 use Rattle.index.specs.declared.fit_index.Fitness.the-variants.{Fit as WordsFit, Unfit as WordsUnfit}
@@ -104,21 +103,19 @@ module _ (t : Live) (hash key : ℕ) {root : ℕ} (e : root ≡ rootOf t) (r : F
       go (Nothing looks) z = refl
       go (Lost looks) z = refl
 
--- A sound tree counts no more slots than it has.
-tally-most : (n : ℕ) (f : ℕ → ℕ) → ((k : ℕ) → f k ≤ 1) → tally n f ≤ n
-unfolding tally
-tally-most zero f h = omega arith
-tally-most (suc n) f h = omega (arith, h n, tally-most n f h)
+-- A test that is asked the other way round.
+module _ {b t : Bool} (e : b ≡ t) where
+  pub holds : not b ≡ false → t ≡ true
+  holds f = sym e ∙ not-false b f
 
-pub count-most : {t : Live} → Fit t → Sound t → countOf t ≤ 4096
-count-most {t} f h =
-    omega (arith, f .most, f .two, h .t1 .count, tally-most (slotsOf (t .names)) (used (t .cells)) (used-one (t .cells)))
+  pub fails : not b ≡ true → t ≡ false
+  fails f = sym e ∙ not-true b f
 
 -- The case that a driver's tests come to: a refusal, which writes nothing, or a slot and what the call leaves.
 module _ (ix : Index) (u : ℕ → Index) (o : Outcome) where
   pub data Settled : Type 0 where
     refuses : (n : ℕ) (v : Value) → o ≡ outcome (record { number = suc n; value = v }) ix → Settled
-    accepts : (x : ℕ) → fitsIndex ix ≡ true → sound (ix .live) ≡ true → o ≡ outcome (given x) (u x) → Settled
+    accepts : (x : ℕ) → fitsIndex ix ≡ true → leb (countOf (ix .live)) mostSlots ≡ true → o ≡ outcome (given x) (u x) → Settled
 
   answered : {q : Outcome} → o ≡ q → o .answer ≡ q .answer
   answered e = ap (λ (q : Outcome). q .answer) e
@@ -129,21 +126,20 @@ module _ (ix : Index) (u : ℕ → Index) (o : Outcome) where
 
   pub record Done (x : ℕ) : Type 0 where
     pub fit : FitIndex ix
-    pub sound : Sound (ix .live)
+    pub counts : countOf (ix .live) ≤ mostSlots
     pub left : outcome (given x) (u x) ≡ o
 
   pub done : Settled → (x : ℕ) → given x ≡ o .answer → Done x
   done (refuses n v e) x q = absurd (omega (arith, number (q ∙ answered e)))
   done (accepts y f s e) x q =
-      let h = fits-index ix f in
-      record { fit = h; sound = yes-sound (h .tree) s; left = rw (given-is (q ∙ answered e)) (sym e) }
+      record { fit = fits-index ix f; counts = leb-true _ _ s; left = rw (given-is (q ∙ answered e)) (sym e) }
 
 module _ {ix : Index} {u : ℕ → Index} {o : Outcome} {x : ℕ} (d : Done ix u o x) where
   pub names-most : length (ix .live .names) ≤ 8192
   names-most = omega (arith, d .fit .tree .most, d .fit .tree .two)
 
   pub count-below : countOf (ix .live) < null
-  count-below = omega (arith, count-most (d .fit .tree) (d .sound))
+  count-below = omega (arith, d .counts)
 
   pub lines-most : lengthOf (ix .lines) ≤ 1024
   lines-most = omega (arith, d .fit .most, d .fit .within)

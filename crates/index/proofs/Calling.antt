@@ -106,10 +106,15 @@ pub calling : Calling
 calling =
     record {
       inserted-one-to-one = inserted-one-to-one;
+      insert-sound-one = λ floor ix hash key p c d. one insertedOf inserted-one-to-one _ c d;
       insert-one = λ ix hash key p c d. one insertedOf inserted-one-to-one _ c d;
+      raise-one = λ inserted floor a b p q. p ∙ sym q;
+      lower-one = λ removed floor a b p q. p ∙ sym q;
       removed-one-to-one = removed-one-to-one;
+      remove-sound-one = λ ix hash key c d. one removedOf removed-one-to-one _ c d;
       remove-one = λ ix hash key c d. one removedOf removed-one-to-one _ c d;
       replaced-one-to-one = replaced-one-to-one;
+      replace-sound-one = λ ix hash key p c d. one replacedOf replaced-one-to-one _ c d;
       replace-one = λ ix hash key p c d. one replacedOf replaced-one-to-one _ c d;
       freshness-one-to-one = freshness-one-to-one;
       fresh-one = λ ix c d. one freshOf freshness-one-to-one _ c d;

@@ -9,12 +9,11 @@ use lib.ListN.{length, set}
 use lib.Dec.{eqb}
 use borrow.Author.Tests.{eq-eqb, ne-eqb, le-leb, lt-leb}
 use Rattle.slots.specs.Words.{null, pick, place, state, prev, next, free, cell, write, rename, hashPart, keyPart}
-use Rattle.slots.specs.Answers.{some, none}
 use Rattle.redblack.specs.Links.{Links, lentLinks}
 use Rattle.redblack.specs.Hanging.{inserted, spotted}
 use Rattle.index_rules.specs.Live.{Live, lentTree, rootOf, firstOf, countOf}
 use Rattle.index_rules.specs.Insert.{freeFrom, followerOf, seated, headed, grown}
-use Rattle.index.specs.Frees.{slotOf, grownIf}
+use Rattle.index.specs.Frees.{grownIf}
 use Rattle.tree_rules.specs.Find.{slotsOf}
 
 free-step : (m : ℕ) → 0 < m → (cells : List ℕ) (k : ℕ) → freeFrom m cells k ≡ pick (eqb (cell cells k state) free) k (freeFrom (m - 1) cells (k + 1))
@@ -28,21 +27,18 @@ free-none zero h cells k = refl
 free-none (suc m) h cells k = absurd (omega arith)
 
 -- A turn of the search for a free slot: slot k is free, is not, there is none left.
-module _ (cells : List ℕ) (n k : ℕ) (same : freeFrom (n - k) cells k ≡ freeFrom n cells 0) where
-  pub free-here : {s : ℕ} → k < n → n ≤ null → s ≡ cell cells k state → s ≡ free → some k ≡ slotOf (freeFrom n cells 0)
-  free-here l h e f =
-      let z : freeFrom n cells 0 ≡ k = sym same ∙ rw (free-step (n - k) (omega arith), ← e, eq-eqb _ _ f) in
-      let d : k ≢ null = λ q. omega arith in
-      rw (z, ne-eqb k null d)
+module _ (cells : List ℕ) (n k : ℕ) {x : ℕ} (same : freeFrom (n - k) cells k ≡ x) where
+  pub free-here : {s : ℕ} → k < n → s ≡ cell cells k state → s ≡ free → k ≡ x
+  free-here l e f = sym (sym same ∙ rw (free-step (n - k) (omega arith), ← e, eq-eqb _ _ f))
 
-  pub free-on : {s : ℕ} → k < n → s ≡ cell cells k state → s ≢ free → freeFrom (n - (k + 1)) cells (k + 1) ≡ freeFrom n cells 0
+  pub free-on : {s : ℕ} → k < n → s ≡ cell cells k state → s ≢ free → freeFrom (n - (k + 1)) cells (k + 1) ≡ x
   free-on l e f =
       let z : n - k - 1 ≡ n - (k + 1) = omega arith in
       let y : freeFrom (n - k) cells k ≡ freeFrom (n - (k + 1)) cells (k + 1) = rw (free-step (n - k) (omega arith), ← e, ne-eqb _ _ f, z) in
       sym y ∙ same
 
-  pub free-end : n ≤ k → none ≡ slotOf (freeFrom n cells 0)
-  free-end l = rw (← same, free-none (n - k) (omega arith))
+  pub free-end : n ≤ k → null ≡ x
+  free-end l = sym (free-none (n - k) (omega arith) cells k) ∙ same
 
 module _ (cells : List ℕ) (x y q : ℕ) where
   pub seat : {l1 l2 l3 l4 : List ℕ} → l1 ≡ write cells x prev y → l2 ≡ write l1 x next q → l3 ≡ write l2 y next x → l4 ≡ write l3 q prev x

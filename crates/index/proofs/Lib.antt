@@ -14,6 +14,7 @@ pub mod Removing
 pub mod Replacing
 pub mod Freshening
 pub mod Calling
+pub mod Singly
 pub mod Undoing
 pub mod Rolling
 pub mod Restoring

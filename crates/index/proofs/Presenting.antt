@@ -1,49 +1,52 @@
 -- What remove and replace ask alike, as the tests settle it: each law takes what the tests gave, in the order of the code.
 use mathlib.Core.Path.{_≡_, refl}
 use mathlib.Core.Bool.{Bool, true, false}
-use Prim.Native.Nat.{ℕ}
-use lib.Dec.{eqb}
+use Prim.Native.Nat.{ℕ, _≤_}
+use lib.Dec.{eqb, leb}
+use Rattle.slots.specs.Words.{mostSlots}
 use Rattle.slots.specs.Answers.{Value, some, none, given, refused}
-use Rattle.index_rules.specs.Live.{Live}
-use Rattle.index_rules.specs.Sound.{sound}
+use Rattle.index_rules.specs.Live.{Live, countOf}
 use Rattle.index_rules.specs.Index.{Index, fitsIndex, lengthOf, linesOf}
 use Rattle.index_rules.specs.Insert.{soughtIn}
-use Rattle.index_rules.specs.Present.{wherePresent}
+use Rattle.index_rules.specs.Checked.{onChecked, presentSound}
 use Rattle.index.proofs.Asking.{Settled, refuses, accepts}
 
 module _ (ix : Index) (hash key : ℕ) where
   abbrev t : Live
   t = ix .live
 
-  pub unfit : fitsIndex ix ≡ false → (leaving : ℕ → Index) → refused 1 ≡ wherePresent ix hash key leaving .answer
-  unfolding wherePresent
+  abbrev counts : Bool
+  counts = leb (countOf t) mostSlots
+
+  pub unfit : fitsIndex ix ≡ false → (leaving : ℕ → Index) → refused 1 ≡ presentSound ix hash key leaving .answer
+  unfolding presentSound onChecked
   unfit e leaving = rw e
 
   module _ (e : fitsIndex ix ≡ true) where
-    pub damaged : sound t ≡ false → (leaving : ℕ → Index) → refused 2 ≡ wherePresent ix hash key leaving .answer
-    unfolding wherePresent
+    pub damaged : counts ≡ false → (leaving : ℕ → Index) → refused 2 ≡ presentSound ix hash key leaving .answer
+    unfolding presentSound onChecked
     damaged f leaving = rw (e, f)
 
-    module _ (f : sound t ≡ true) where
-      pub absent : soughtIn t hash key ≡ none → (leaving : ℕ → Index) → refused 4 ≡ wherePresent ix hash key leaving .answer
-      unfolding wherePresent
+    module _ (f : counts ≡ true) where
+      pub absent : soughtIn t hash key ≡ none → (leaving : ℕ → Index) → refused 4 ≡ presentSound ix hash key leaving .answer
+      unfolding presentSound onChecked
       absent s leaving = rw (e, f, s)
 
       module _ {x : ℕ} (s : soughtIn t hash key ≡ some x) where
-        pub journal-full : eqb (lengthOf (ix .lines)) (linesOf (ix .lines)) ≡ true → (leaving : ℕ → Index) → refused 6 ≡ wherePresent ix hash key leaving .answer
-        unfolding wherePresent
+        pub journal-full : eqb (lengthOf (ix .lines)) (linesOf (ix .lines)) ≡ true → (leaving : ℕ → Index) → refused 6 ≡ presentSound ix hash key leaving .answer
+        unfolding presentSound onChecked
         journal-full l leaving = rw (e, f, s, l)
 
-        pub there : eqb (lengthOf (ix .lines)) (linesOf (ix .lines)) ≡ false → (leaving : ℕ → Index) → given x ≡ wherePresent ix hash key leaving .answer
-        unfolding wherePresent
+        pub there : eqb (lengthOf (ix .lines)) (linesOf (ix .lines)) ≡ false → (leaving : ℕ → Index) → given x ≡ presentSound ix hash key leaving .answer
+        unfolding presentSound onChecked
         there l leaving = rw (e, f, s, l)
 
-  pub settled-by : (leaving : ℕ → Index) → Settled ix leaving (wherePresent ix hash key leaving)
-  unfolding wherePresent
-  settled-by leaving = go (fitsIndex ix) refl (sound t) refl (soughtIn t hash key) refl (eqb (lengthOf (ix .lines)) (linesOf (ix .lines))) refl
+  pub settled-by : (leaving : ℕ → Index) → Settled ix leaving (presentSound ix hash key leaving)
+  unfolding presentSound onChecked
+  settled-by leaving = go (fitsIndex ix) refl counts refl (soughtIn t hash key) refl (eqb (lengthOf (ix .lines)) (linesOf (ix .lines))) refl
     where
-      go : (a : Bool) → fitsIndex ix ≡ a → (b : Bool) → sound t ≡ b → (v : Value) → soughtIn t hash key ≡ v
-          → (l : Bool) → eqb (lengthOf (ix .lines)) (linesOf (ix .lines)) ≡ l → Settled ix leaving (wherePresent ix hash key leaving)
+      go : (a : Bool) → fitsIndex ix ≡ a → (b : Bool) → counts ≡ b → (v : Value) → soughtIn t hash key ≡ v
+          → (l : Bool) → eqb (lengthOf (ix .lines)) (linesOf (ix .lines)) ≡ l → Settled ix leaving (presentSound ix hash key leaving)
       go false e b f v s l r = refuses 0 none (rw e)
       go true e false f v s l r = refuses 1 none (rw (e, f))
       go true e true f none s l r = refuses 3 none (rw (e, f, s))

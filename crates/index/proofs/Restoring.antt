@@ -29,5 +29,6 @@ pub undoing : Undoing
 undoing =
     record {
       rolled-one-to-one = rolled-one-to-one;
+      rollback-sound-one = λ ix m c d. one rolledOf rolled-one-to-one _ c d;
       rollback-one = λ ix m c d. one rolledOf rolled-one-to-one _ c d;
     }

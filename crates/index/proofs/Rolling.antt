@@ -1,4 +1,4 @@
--- rollback as its tests settle it: each law takes what the tests gave, in the order of the code.
+-- rollback_sound as its tests settle it: each law takes what the tests gave, in the order of the code.
 use mathlib.Core.Path.{_≡_, refl, sym, _∙_}
 use mathlib.Core.Logic.{inl, inr}
 use mathlib.Core.Bool.{Bool, true, false}
@@ -6,24 +6,22 @@ use mathlib.Core.List.{List, [], _∷_}
 use Prim.Native.Nat.{ℕ, suc, _+_, _-_, _<_, _≤_}
 use native.Mathlib.Omega.{arith}
 use lib.ListN.{length, set}
-use lib.Dec.{ltb}
-use borrow.Author.Tests.{lt-ltb, le-ltb, ltb-false}
+use lib.Dec.{leb, ltb}
+use borrow.Author.Tests.{lt-ltb, le-ltb, ltb-false, leb-true}
 use types.Run.{OneOf}
 use denote.Enum.Declared.{tagOf}
-use Rattle.slots.specs.Words.{null}
+use Rattle.slots.specs.Words.{null, mostSlots}
 use Rattle.slots.specs.Answers.{Answer, given, refused}
 use Rattle.slots.proofs.Laws.{given-is, number}
 use Rattle.index_rules.specs.Live.{Live, countOf}
-use Rattle.index_rules.specs.Sound.{sound}
 use Rattle.index_rules.specs.Index.{Index, index, FitIndex, outcome, fitsIndex, lengthOf}
-use Rattle.index_rules.specs.Rollback.{stays, misfit, unrolled, blanked, rolls}
+use Rattle.index_rules.specs.Rollback.{stays, misfit, blanked}
+use Rattle.index_rules.specs.Checked.{onChecked, unrolledFrom, rollsSound}
 use Rattle.index_rules.proofs.Journal.{fits-index}
-use Rattle.index_rules.proofs.Sounding.{yes-sound}
 use Rattle.index.specs.Rolls.{opened, rolledOf}
 use Rattle.index.specs.declared.rollback.RolledBack.{RolledBack}
 use Rattle.index.specs.declared.rollback.RolledBack.the-variants.{Lines, Unfit, Damaged, BadMark, Misfit}
 use Rattle.index.proofs.rollback.RolledBack.{the-type}
-use Rattle.index.proofs.Asking.{count-most}
 
 module _ (ix : Index) (m : ℕ) where
   pub unfit : fitsIndex ix ≡ false → refused 1 ≡ opened ix m
@@ -31,11 +29,11 @@ module _ (ix : Index) (m : ℕ) where
   unfit e = rw e
 
   module _ (e : fitsIndex ix ≡ true) where
-    pub damaged : sound (ix .live) ≡ false → refused 2 ≡ opened ix m
+    pub damaged : leb (countOf (ix .live)) mostSlots ≡ false → refused 2 ≡ opened ix m
     unfolding opened
     damaged f = rw (e, f)
 
-    module _ (f : sound (ix .live) ≡ true) {n : ℕ} (h : n ≡ lengthOf (ix .lines)) where
+    module _ (f : leb (countOf (ix .live)) mostSlots ≡ true) {n : ℕ} (h : n ≡ lengthOf (ix .lines)) where
       pub bad-mark : n < m → refused 7 ≡ opened ix m
       unfolding opened
       bad-mark l = rw (e, f, ← h, lt-ltb n m l)
@@ -46,30 +44,30 @@ module _ (ix : Index) (m : ℕ) where
 
   -- The case that the tests come to: a refusal, which writes nothing, or the lines are looked at.
   data Case : Type 0 where
-    refuses : (n : ℕ) → opened ix m ≡ refused (suc n) → rolls ix m ≡ outcome (refused (suc n)) ix → Case
-    opens : fitsIndex ix ≡ true → sound (ix .live) ≡ true → m ≤ lengthOf (ix .lines) → opened ix m ≡ given (lengthOf (ix .lines) - m) → Case
+    refuses : (n : ℕ) → opened ix m ≡ refused (suc n) → rollsSound ix m ≡ outcome (refused (suc n)) ix → Case
+    opens : fitsIndex ix ≡ true → leb (countOf (ix .live)) mostSlots ≡ true → m ≤ lengthOf (ix .lines) → opened ix m ≡ given (lengthOf (ix .lines) - m) → Case
 
   case : Case
-  unfolding opened rolls
-  case = go (fitsIndex ix) refl (sound (ix .live)) refl (ltb (lengthOf (ix .lines)) m) refl
+  unfolding opened rollsSound onChecked
+  case = go (fitsIndex ix) refl (leb (countOf (ix .live)) mostSlots) refl (ltb (lengthOf (ix .lines)) m) refl
     where
-      go : (a : Bool) → fitsIndex ix ≡ a → (b : Bool) → sound (ix .live) ≡ b → (l : Bool) → ltb (lengthOf (ix .lines)) m ≡ l → Case
+      go : (a : Bool) → fitsIndex ix ≡ a → (b : Bool) → leb (countOf (ix .live)) mostSlots ≡ b → (l : Bool) → ltb (lengthOf (ix .lines)) m ≡ l → Case
       go false e b f l r = refuses 0 (rw e) (rw e)
       go true e false f l r = refuses 1 (rw (e, f)) (rw (e, f))
       go true e true f true r = refuses 6 (rw (e, f, r)) (rw (e, f, r))
       go true e true f false r = opens e f (ltb-false _ _ r) (rw (e, f, r))
 
-  pub kept : (a : Answer) → (a .number ≡ 0 → ⊥) → a ≡ opened ix m → outcome a ix ≡ rolls ix m
+  pub kept : (a : Answer) → (a .number ≡ 0 → ⊥) → a ≡ opened ix m → outcome a ix ≡ rollsSound ix m
   kept a n q = go case
     where
-      go : Case → outcome a ix ≡ rolls ix m
+      go : Case → outcome a ix ≡ rollsSound ix m
       go (refuses k e r) = rw (q ∙ e) (sym r)
       go (opens e f l r) = absurd (n (number (q ∙ r)))
 
   -- The lines above the mark, so many, are to be undone.
   pub record Open (count : ℕ) : Type 0 where
     pub fits : fitsIndex ix ≡ true
-    pub sounds : sound (ix .live) ≡ true
+    pub counts : leb (countOf (ix .live)) mostSlots ≡ true
     pub mark : m ≤ lengthOf (ix .lines)
     pub lines : count ≡ lengthOf (ix .lines) - m
 
@@ -78,7 +76,7 @@ module _ (ix : Index) (m : ℕ) where
     where
       go : Case → Open count
       go (refuses k e r) = absurd (omega (arith, number (q ∙ e)))
-      go (opens e f l r) = record { fits = e; sounds = f; mark = l; lines = given-is (q ∙ r) }
+      go (opens e f l r) = record { fits = e; counts = f; mark = l; lines = given-is (q ∙ r) }
 
 module _ {ix : Index} {m count : ℕ} (o : Open ix m count) where
   fit : FitIndex ix
@@ -97,20 +95,20 @@ module _ {ix : Index} {m count : ℕ} (o : Open ix m count) where
   sizes-most = omega (arith, fit .tree .most, fit .tree .each)
 
   pub count-room : countOf (ix .live) + count < null
-  count-room = omega (arith, count-most (fit .tree) (yes-sound (fit .tree) (o .sounds)), fit .most, fit .within, o .lines)
+  count-room = omega (arith, leb-true (countOf (ix .live)) mostSlots (o .counts), fit .most, fit .within, o .lines)
 
-  pub misfits : {u : Live} → misfit ≡ unrolled count (ix .live) (ix .lines) m → u ≡ ix .live → outcome (refused 8) (index u (ix .lines)) ≡ rolls ix m
-  unfolding rolls
+  pub misfits : {u : Live} → misfit ≡ unrolledFrom count 0 (ix .live) (ix .lines) m → u ≡ ix .live → outcome (refused 8) (index u (ix .lines)) ≡ rollsSound ix m
+  unfolding rollsSound onChecked
   misfits h g =
-      let s : unrolled (lengthOf (ix .lines) - m) (ix .live) (ix .lines) m ≡ misfit = rw (← o .lines) (sym h) in
-      rw (g, o .fits, o .sounds, le-ltb (lengthOf (ix .lines)) m (o .mark), s)
+      let s : unrolledFrom (lengthOf (ix .lines) - m) 0 (ix .live) (ix .lines) m ≡ misfit = rw (← o .lines) (sym h) in
+      rw (g, o .fits, o .counts, le-ltb (lengthOf (ix .lines)) m (o .mark), s)
 
-  pub rolled : {u : Live} {l : List ℕ} → stays u ≡ unrolled count (ix .live) (ix .lines) m → l ≡ set (blanked count (ix .lines) m) 0 m
-      → outcome (given count) (index u l) ≡ rolls ix m
-  unfolding rolls
+  pub rolled : {u : Live} {l : List ℕ} → stays u ≡ unrolledFrom count 0 (ix .live) (ix .lines) m → l ≡ set (blanked count (ix .lines) m) 0 m
+      → outcome (given count) (index u l) ≡ rollsSound ix m
+  unfolding rollsSound onChecked
   rolled {u} h g =
-      let s : unrolled (lengthOf (ix .lines) - m) (ix .live) (ix .lines) m ≡ stays u = rw (← o .lines) (sym h) in
-      rw (o .fits, o .sounds, le-ltb (lengthOf (ix .lines)) m (o .mark), s, ← o .lines, ← g)
+      let s : unrolledFrom (lengthOf (ix .lines) - m) 0 (ix .live) (ix .lines) m ≡ stays u = rw (← o .lines) (sym h) in
+      rw (o .fits, o .counts, le-ltb (lengthOf (ix .lines)) m (o .mark), s, ← o .lines, ← g)
 
 pub not-lines : (r : RolledBack) → OneOf (1 ∷ 2 ∷ 3 ∷ 4 ∷ []) (tagOf the-type r) → rolledOf r .number ≡ 0 → ⊥
 not-lines (Lines count) (inl z) e = omega arith

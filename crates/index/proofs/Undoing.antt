@@ -1,5 +1,5 @@
 -- What the steps of undoing come to, on plain values: each law takes what the calls and the tests gave, in the order of the code.
-use mathlib.Core.Path.{_≡_, refl, ap, sym, _∙_}
+use mathlib.Core.Path.{_≡_, refl, ap, sym, _∙_, subst}
 use mathlib.Core.Logic.{_≢_}
 use mathlib.Core.Bool.{Bool, true, false}
 use mathlib.Core.List.{List, [], _∷_, _++_}
@@ -15,15 +15,14 @@ use Rattle.slots.specs.Words.{null, pick, place, cell, write}
 use Rattle.slots.specs.Answers.{Value, some, none}
 use Rattle.index_rules.specs.Live.{Live, lentTree, countOf}
 use Rattle.index_rules.specs.Index.{JournalLine, lineWord, lineOf, lineMade}
-use Rattle.index_rules.specs.Insert.{freeFrom, lowestFree, soughtIn, headed, grown}
+use Rattle.index_rules.specs.Insert.{freeFrom, soughtIn, headed, grown}
 use Rattle.index_rules.specs.Remove.{shrunk}
 use Rattle.index_rules.specs.Replace.{placedAt}
-use Rattle.index_rules.specs.Rollback.{Undo, stays, misfit, takenBack, putBack, putBehind, placedBack, undone, unrolled}
-use Rattle.index.specs.Frees.{slotOf}
-use Rattle.index.specs.Rolls.{undoOf}
+use Rattle.index_rules.specs.Rollback.{Undo, stays, misfit, takenBack, putBack, putBehind, placedBack, undoneInto}
+use Rattle.index_rules.specs.Checked.{lesser, lowestFrom, slotIn, freedBy, unrolledFrom}
+use Rattle.index.specs.Rolls.{undoOf, freedIs}
 use Rattle.index.specs.declared.lines.Undoing.{Undoing}
 use Rattle.index.specs.declared.lines.Undoing.the-variants.{Done, Misfit}
-use Rattle.index.proofs.Room.{slot-some, slot-none}
 use Rattle.tree_rules.specs.Find.{slotsOf}
 
 -- An insert line: its pair is not there, has another place, or goes.
@@ -39,30 +38,27 @@ module _ (t : Live) (hash key p : ℕ) where
     back-done h g = rw (s, ← e, eq-eqb own p h, ← g)
 
 -- A remove line: its pair is there, no slot is free, its place is too wide, or it comes back.
-module _ (t : Live) (j : JournalLine) (y : ℕ) where
-  pub put-there : {x : ℕ} → soughtIn t (j .hash) (j .key) ≡ some x → misfit ≡ putBack t (soughtIn t (j .hash) (j .key)) j y
+module _ (t : Live) (j : JournalLine) (x y : ℕ) where
+  pub put-there : {own : ℕ} → soughtIn t (j .hash) (j .key) ≡ some own → misfit ≡ putBack t x (soughtIn t (j .hash) (j .key)) j y
   put-there s = rw s
 
   module _ (s : soughtIn t (j .hash) (j .key) ≡ none) where
-    pub put-full : none ≡ slotOf (freeFrom (slotsOf (t .names)) (t .cells) 0) → misfit ≡ putBack t (soughtIn t (j .hash) (j .key)) j y
-    unfolding lowestFree
-    put-full v = rw (s, slot-none (freeFrom (slotsOf (t .names)) (t .cells) 0) v)
+    pub put-full : x ≡ null → misfit ≡ putBack t x (soughtIn t (j .hash) (j .key)) j y
+    put-full v = rw (s, eq-eqb x null v)
 
-    module _ {x : ℕ} (v : some x ≡ slotOf (freeFrom (slotsOf (t .names)) (t .cells) 0)) where
-      pub put-wide : 4294967296 ≤ j .place → misfit ≡ putBack t (soughtIn t (j .hash) (j .key)) j y
-      unfolding lowestFree
-      put-wide h = let w = slot-some (freeFrom (slotsOf (t .names)) (t .cells) 0) x v in rw (s, w .0, le-ltb (j .place) 4294967296 h)
+    module _ (v : x ≢ null) where
+      pub put-wide : 4294967296 ≤ j .place → misfit ≡ putBack t x (soughtIn t (j .hash) (j .key)) j y
+      put-wide h = rw (s, ne-eqb x null v, le-ltb (j .place) 4294967296 h)
 
-      pub put-done : {u : Live} → j .place < 4294967296 → u ≡ grown t x y (j .hash) (j .key) (j .place) → stays u ≡ putBack t (soughtIn t (j .hash) (j .key)) j y
-      unfolding lowestFree
-      put-done h g = let w = slot-some (freeFrom (slotsOf (t .names)) (t .cells) 0) x v in rw (s, w .0, lt-ltb (j .place) 4294967296 h, ← w .1, ← g)
+      pub put-done : {u : Live} → j .place < 4294967296 → u ≡ grown t x y (j .hash) (j .key) (j .place) → stays u ≡ putBack t x (soughtIn t (j .hash) (j .key)) j y
+      put-done h g = rw (s, ne-eqb x null v, lt-ltb (j .place) 4294967296 h, ← g)
 
 -- A remove line that notes a pair: it is not there, or it is.
-module _ (t : Live) (prehash prekey : ℕ) (own : Value) (j : JournalLine) where
-  pub behind-none : soughtIn t prehash prekey ≡ none → misfit ≡ putBehind t (soughtIn t prehash prekey) own j
+module _ (t : Live) (x prehash prekey : ℕ) (own : Value) (j : JournalLine) where
+  pub behind-none : soughtIn t prehash prekey ≡ none → misfit ≡ putBehind t x (soughtIn t prehash prekey) own j
   behind-none s = rw s
 
-  pub behind-some : {y : ℕ} → soughtIn t prehash prekey ≡ some y → {o : Undo} → o ≡ putBack t own j y → o ≡ putBehind t (soughtIn t prehash prekey) own j
+  pub behind-some : {y : ℕ} → soughtIn t prehash prekey ≡ some y → {o : Undo} → o ≡ putBack t x own j y → o ≡ putBehind t x (soughtIn t prehash prekey) own j
   behind-some s e = rw s e
 
 -- A replace line: its pair is not there, has another place than the new one, or has the old one again.
@@ -80,29 +76,40 @@ module _ (t : Live) (hash key w : ℕ) where
     place-done h l g = rw (s, ← e, eq-eqb own (w % 4294967296) h, lt-ltb (w / 4294967296) 4294967296 l, ← g)
 
 -- A line of each kind, and of another one.
-module _ (t : Live) (lines : List ℕ) (k : ℕ) {kind hash key p : ℕ}
+module _ (t : Live) (lines : List ℕ) (k x : ℕ) {kind hash key p : ℕ}
     (e1 : kind ≡ lineWord lines k 0) (e2 : hash ≡ lineWord lines k 1) (e3 : key ≡ lineWord lines k 2) (e4 : p ≡ lineWord lines k 3) where
-  pub line-insert : kind ≡ 1 → {o : Undo} → o ≡ takenBack t (soughtIn t hash key) p → o ≡ undone t (lineOf lines k)
-  unfolding undone
+  pub line-insert : kind ≡ 1 → {o : Undo} → o ≡ takenBack t (soughtIn t hash key) p → o ≡ undoneInto x t (lineOf lines k)
+  unfolding undoneInto
   line-insert h e = rw (← e1, ← e2, ← e3, ← e4, eq-eqb kind 1 h) e
 
   pub line-remove : kind ≢ 1 → kind ≡ 2 → {o : Undo}
-      → ((kind prehash prekey : ℕ) → o ≡ putBack t (soughtIn t hash key) (lineMade kind hash key p prehash prekey) null) → o ≡ undone t (lineOf lines k)
-  unfolding undone
+      → ((kind prehash prekey : ℕ) → o ≡ putBack t x (soughtIn t hash key) (lineMade kind hash key p prehash prekey) null) → o ≡ undoneInto x t (lineOf lines k)
+  unfolding undoneInto
   line-remove n h e = let f = e kind (lineWord lines k 4) (lineWord lines k 5) in rw (← e1, ← e2, ← e3, ← e4, ne-eqb kind 1 n, eq-eqb kind 2 h) f
 
   pub line-noted : kind ≢ 1 → kind ≢ 2 → kind ≡ 4294967298 → {prehash prekey : ℕ} → prehash ≡ lineWord lines k 4 → prekey ≡ lineWord lines k 5 → {o : Undo}
-      → ((kind : ℕ) → o ≡ putBehind t (soughtIn t prehash prekey) (soughtIn t hash key) (lineMade kind hash key p prehash prekey)) → o ≡ undone t (lineOf lines k)
-  unfolding undone
+      → ((kind : ℕ) → o ≡ putBehind t x (soughtIn t prehash prekey) (soughtIn t hash key) (lineMade kind hash key p prehash prekey)) → o ≡ undoneInto x t (lineOf lines k)
+  unfolding undoneInto
   line-noted n m h e5 e6 e = let f = e kind in rw (← e1, ← e2, ← e3, ← e4, ← e5, ← e6, ne-eqb kind 1 n, ne-eqb kind 2 m, eq-eqb kind 4294967298 h) f
 
-  pub line-replace : kind ≢ 1 → kind ≢ 2 → kind ≢ 4294967298 → kind ≡ 3 → {o : Undo} → o ≡ placedBack t (soughtIn t hash key) p → o ≡ undone t (lineOf lines k)
-  unfolding undone
+  pub line-replace : kind ≢ 1 → kind ≢ 2 → kind ≢ 4294967298 → kind ≡ 3 → {o : Undo} → o ≡ placedBack t (soughtIn t hash key) p → o ≡ undoneInto x t (lineOf lines k)
+  unfolding undoneInto
   line-replace n m d h e = rw (← e1, ← e2, ← e3, ← e4, ne-eqb kind 1 n, ne-eqb kind 2 m, ne-eqb kind 4294967298 d, eq-eqb kind 3 h) e
 
-  pub line-other : kind ≢ 1 → kind ≢ 2 → kind ≢ 4294967298 → kind ≢ 3 → misfit ≡ undone t (lineOf lines k)
-  unfolding undone
+  pub line-other : kind ≢ 1 → kind ≢ 2 → kind ≢ 4294967298 → kind ≢ 3 → misfit ≡ undoneInto x t (lineOf lines k)
+  unfolding undoneInto
   line-other n m d h = rw (← e1, ne-eqb kind 1 n, ne-eqb kind 2 m, ne-eqb kind 4294967298 d, ne-eqb kind 3 h)
+
+-- The slot that a line's undoing frees.
+module _ (t : Live) (lines : List ℕ) (k : ℕ) {kind hash key : ℕ} (e1 : kind ≡ lineWord lines k 0) (e2 : hash ≡ lineWord lines k 1) (e3 : key ≡ lineWord lines k 2)
+    (r : Undoing) where
+  pub frees-own : kind ≡ 1 → freedIs r (slotIn (soughtIn t hash key)) → freedIs r (freedBy t (lineOf lines k))
+  unfolding freedBy
+  frees-own h f = rw (← e1, ← e2, ← e3, eq-eqb kind 1 h) f
+
+  pub frees-none : kind ≢ 1 → freedIs r null → freedIs r (freedBy t (lineOf lines k))
+  unfolding freedBy
+  frees-none h f = rw (← e1, ne-eqb kind 1 h) f
 
 -- A header with a count below null has its three words, and a line that is undone adds at most one to the count.
 counted : (h : List ℕ) (a b c : ℕ) → getD h 2 null < null → getD (headed h a b c) 2 null ≡ c
@@ -138,18 +145,18 @@ module _ (t u : Live) (l : countOf t < null) where
       go true e = omega (arith, same-count (countOf t - 1) e (shrunk-count x))
       go false e = absurd (not-stays e)
 
-  put-count : (v : Value) (j : JournalLine) (y : ℕ) → putBack t v j y ≡ stays u → countOf u ≤ countOf t + 1
-  put-count (some x) j y e = absurd (not-stays e)
-  put-count none j y e = go (eqb (lowestFree t) null) (ltb (j .place) 4294967296) e
+  put-count : (x : ℕ) (v : Value) (j : JournalLine) (y : ℕ) → putBack t x v j y ≡ stays u → countOf u ≤ countOf t + 1
+  put-count x (some own) j y e = absurd (not-stays e)
+  put-count x none j y e = go (eqb x null) (ltb (j .place) 4294967296) e
     where
-      go : (a b : Bool) → pick a misfit (pick b (stays (grown t (lowestFree t) y (j .hash) (j .key) (j .place))) misfit) ≡ stays u → countOf u ≤ countOf t + 1
+      go : (a b : Bool) → pick a misfit (pick b (stays (grown t x y (j .hash) (j .key) (j .place))) misfit) ≡ stays u → countOf u ≤ countOf t + 1
       go true b e = absurd (not-stays e)
-      go false true e = omega (arith, same-count (countOf t + 1) e (grown-count (lowestFree t) y (j .hash) (j .key) (j .place)))
+      go false true e = omega (arith, same-count (countOf t + 1) e (grown-count x y (j .hash) (j .key) (j .place)))
       go false false e = absurd (not-stays e)
 
-  behind-count : (v own : Value) (j : JournalLine) → putBehind t v own j ≡ stays u → countOf u ≤ countOf t + 1
-  behind-count none own j e = absurd (not-stays e)
-  behind-count (some y) own j e = put-count own j y e
+  behind-count : (x : ℕ) (v own : Value) (j : JournalLine) → putBehind t x v own j ≡ stays u → countOf u ≤ countOf t + 1
+  behind-count x none own j e = absurd (not-stays e)
+  behind-count x (some y) own j e = put-count x own j y e
 
   place-count : (v : Value) (w : ℕ) → placedBack t v w ≡ stays u → countOf u ≤ countOf t + 1
   unfolding placedAt
@@ -161,9 +168,9 @@ module _ (t u : Live) (l : countOf t < null) where
       go true false e = absurd (not-stays e)
       go false b e = absurd (not-stays e)
 
-  undone-count : (j : JournalLine) → undone t j ≡ stays u → countOf u ≤ countOf t + 1
-  unfolding undone
-  undone-count j e = go (eqb (j .kind) 1) (eqb (j .kind) 2) (eqb (j .kind) 4294967298) (eqb (j .kind) 3) e
+  undone-count : (x : ℕ) (j : JournalLine) → undoneInto x t j ≡ stays u → countOf u ≤ countOf t + 1
+  unfolding undoneInto
+  undone-count x j e = go (eqb (j .kind) 1) (eqb (j .kind) 2) (eqb (j .kind) 4294967298) (eqb (j .kind) 3) e
     where
       own : Value
       own = soughtIn t (j .hash) (j .key)
@@ -172,62 +179,72 @@ module _ (t u : Live) (l : countOf t < null) where
       noted = soughtIn t (j .priorHash) (j .priorKey)
 
       go : (a b c d : Bool)
-          → pick a (takenBack t own (j .place)) (pick b (putBack t own j null) (pick c (putBehind t noted own j) (pick d (placedBack t own (j .place)) misfit))) ≡ stays u
+          → pick a (takenBack t own (j .place)) (pick b (putBack t x own j null) (pick c (putBehind t x noted own j) (pick d (placedBack t own (j .place)) misfit))) ≡ stays u
           → countOf u ≤ countOf t + 1
       go true b c d e = back-count own (j .place) e
-      go false true c d e = put-count own j null e
-      go false false true d e = behind-count noted own j e
+      go false true c d e = put-count x own j null e
+      go false false true d e = behind-count x noted own j e
       go false false false true e = place-count own (j .place) e
       go false false false false e = absurd (not-stays e)
 
--- A turn of the undoing: c lines are left, and what they leave decides the whole.
-pub record Turn (t₀ : Live) (lines : List ℕ) (m count : ℕ) (t : Live) (c : ℕ) : Type 0 where
-  pub same : unrolled c t lines m ≡ unrolled count t₀ lines m
+-- A turn of the undoing: c lines are left, the search for a free slot goes on from the floor, and what they leave decides the whole.
+pub record Turn (t₀ : Live) (lines : List ℕ) (m count : ℕ) (t : Live) (floor c : ℕ) : Type 0 where
+  pub same : unrolledFrom c floor t lines m ≡ unrolledFrom count 0 t₀ lines m
   pub small : countOf t + c < null
   pub names : length (t .names) ≡ length (t₀ .names)
   pub cells : length (t .cells) ≡ length (t₀ .cells)
   pub head : length (t .head) ≡ length (t₀ .head)
   pub sizes : length (t .sizes) ≡ length (t₀ .sizes)
 
-module _ (lines : List ℕ) (m : ℕ) (t : Live) where
-  unroll-on : (c : ℕ) {u : Live} → 0 < c → stays u ≡ undone t (lineOf lines (m + (c - 1))) → unrolled (c - 1) u lines m ≡ unrolled c t lines m
-  unfolding unrolled
-  unroll-on zero h e = absurd (omega arith)
-  unroll-on (suc c) h e = let g = rw sub-one at e in rw (sub-one, ← g, unrolled)
+module _ (lines : List ℕ) (m : ℕ) (t : Live) (floor : ℕ) {x : ℕ} (e0 : x ≡ lowestFrom floor t) where
+  unroll-on : (c : ℕ) {u : Live} {floor′ : ℕ} → 0 < c → stays u ≡ undoneInto x t (lineOf lines (m + (c - 1)))
+      → floor′ ≡ lesser (freedBy t (lineOf lines (m + (c - 1)))) x → unrolledFrom (c - 1) floor′ u lines m ≡ unrolledFrom c floor t lines m
+  unfolding unrolledFrom
+  unroll-on zero h e f = absurd (omega arith)
+  unroll-on (suc c) h e f = let g = rw (sub-one, e0) at e in let k = rw (sub-one, e0) at f in rw (sub-one, ← g, unrolledFrom, k)
 
-  unroll-not : (c : ℕ) → 0 < c → misfit ≡ undone t (lineOf lines (m + (c - 1))) → misfit ≡ unrolled c t lines m
-  unfolding unrolled
+  unroll-not : (c : ℕ) → 0 < c → misfit ≡ undoneInto x t (lineOf lines (m + (c - 1))) → misfit ≡ unrolledFrom c floor t lines m
+  unfolding unrolledFrom
   unroll-not zero h e = absurd (omega arith)
-  unroll-not (suc c) h e = let g = rw sub-one at e in rw (← g, unrolled)
+  unroll-not (suc c) h e = let g = rw (sub-one, e0) at e in rw (← g, unrolledFrom)
 
-  unroll-end : (c : ℕ) → c ≤ 0 → stays t ≡ unrolled c t lines m
-  unfolding unrolled
-  unroll-end zero h = refl
-  unroll-end (suc c) h = absurd (omega arith)
+unroll-end : (lines : List ℕ) (m : ℕ) (t : Live) (floor c : ℕ) → c ≤ 0 → stays t ≡ unrolledFrom c floor t lines m
+unfolding unrolledFrom
+unroll-end lines m t floor zero h = refl
+unroll-end lines m t floor (suc c) h = absurd (omega arith)
 
-module _ {t₀ : Live} {lines : List ℕ} {m count : ℕ} {t : Live} {c : ℕ} (turn : Turn t₀ lines m count t c) where
-  pub turn-on : {r : Undoing} {u : Live} → 0 < c → undoOf r u ≡ undone t (lineOf lines (m + (c - 1))) → r ≡ Done
+module _ {t₀ : Live} {lines : List ℕ} {m count : ℕ} {t : Live} {floor c x : ℕ} (turn : Turn t₀ lines m count t floor c)
+    (e0 : x ≡ freeFrom (slotsOf (t₀ .names) - floor) (t .cells) floor) where
+  from : x ≡ lowestFrom floor t
+  unfolding lowestFrom
+  from = rw (turn .names) e0
+
+  pub turn-on : {r : Undoing} {u : Live} {freed floor′ : ℕ} → 0 < c → undoOf r u ≡ undoneInto x t (lineOf lines (m + (c - 1)))
+      → freedIs r (freedBy t (lineOf lines (m + (c - 1)))) → r ≡ Done freed → floor′ ≡ lesser freed x
       → length (u .names) ≡ length (t .names) → length (u .cells) ≡ length (t .cells) → length (u .head) ≡ length (t .head)
       → length (u .sizes) ≡ length (t .sizes)
-      → Turn t₀ lines m count u (c - 1)
-  turn-on {r} {u} h e f n1 n2 n3 n4 =
-      let g : stays u ≡ undone t (lineOf lines (m + (c - 1))) = ap (λ (b : Undoing). undoOf b u) (sym f) ∙ e in
+      → Turn t₀ lines m count u floor′ (c - 1)
+  turn-on {r} {u} {freed} {floor′} h e w f k n1 n2 n3 n4 =
+      let line = lineOf lines (m + (c - 1)) in
+      let g : stays u ≡ undoneInto x t line = ap (λ (b : Undoing). undoOf b u) (sym f) ∙ e in
       let l : countOf t < null = omega (arith, turn .small) in
+      let z : freed ≡ freedBy t line = subst (λ (b : Undoing). freedIs b (freedBy t line)) f w in
       record {
-        same = unroll-on lines m t c h g ∙ turn .same;
-        small = omega (arith, turn .small, undone-count t u l (lineOf lines (m + (c - 1))) (sym g));
+        same = unroll-on lines m t floor from c h g (k ∙ ap (λ (i : ℕ). lesser i x) z) ∙ turn .same;
+        small = omega (arith, turn .small, undone-count t u l x line (sym g));
         names = n1 ∙ turn .names;
         cells = n2 ∙ turn .cells;
         head = n3 ∙ turn .head;
         sizes = n4 ∙ turn .sizes;
       }
 
-  pub turn-not : {r : Undoing} (u : Live) → 0 < c → undoOf r u ≡ undone t (lineOf lines (m + (c - 1))) → r ≡ Misfit
-      → misfit ≡ unrolled count t₀ lines m
-  turn-not {r} u h e f = unroll-not lines m t c h (ap (λ (b : Undoing). undoOf b u) (sym f) ∙ e) ∙ turn .same
+  pub turn-not : {r : Undoing} (u : Live) → 0 < c → undoOf r u ≡ undoneInto x t (lineOf lines (m + (c - 1))) → r ≡ Misfit
+      → misfit ≡ unrolledFrom count 0 t₀ lines m
+  turn-not {r} u h e f = unroll-not lines m t floor from c h (ap (λ (b : Undoing). undoOf b u) (sym f) ∙ e) ∙ turn .same
 
-  pub turn-end : c ≤ 0 → stays t ≡ unrolled count t₀ lines m
-  turn-end h = unroll-end lines m t c h ∙ turn .same
+pub turn-end : {t₀ : Live} {lines : List ℕ} {m count : ℕ} {t : Live} {floor c : ℕ} → Turn t₀ lines m count t floor c → c ≤ 0
+    → stays t ≡ unrolledFrom count 0 t₀ lines m
+turn-end {t₀} {lines} {m} {count} {t} {floor} {c} turn h = unroll-end lines m t floor c h ∙ turn .same
 
 -- A turn of a copy: one word more.
 pub copy-on : (src dst : List ℕ) (i : ℕ) → i < length src → i < length dst → take i dst ≡ take i src → take (i + 1) (set dst i (getD src i 0)) ≡ take (i + 1) src
@@ -235,13 +252,13 @@ copy-on src dst i a b e =
     rw (add-one) (take-suc-set dst i (getD src i 0) b ∙ ap (λ (l : List ℕ). l ++ (getD src i 0 ∷ [])) e ∙ sym (take-suc src i 0 a))
 
 -- Lines were undone, or they do not fit.
-pub undo-done : {r : Undoing} (u : Live) {o : Undo} → undoOf r u ≡ o → r ≡ Done → stays u ≡ o
+pub undo-done : {r : Undoing} (u : Live) {o : Undo} {freed : ℕ} → undoOf r u ≡ o → r ≡ Done freed → stays u ≡ o
 undo-done u e f = ap (λ (b : Undoing). undoOf b u) (sym f) ∙ e
 
 pub undo-not : {r : Undoing} (u : Live) {o : Undo} → undoOf r u ≡ o → r ≡ Misfit → misfit ≡ o
 undo-not u e f = ap (λ (b : Undoing). undoOf b u) (sym f) ∙ e
 
-pub done-not : Done ≡ Misfit → ⊥
+pub done-not : {freed : ℕ} → Done freed ≡ Misfit → ⊥
 done-not e = let z : _≡_ {A = ℕ} 0 1 = cc in omega arith
 
 -- Words that were kept aside come back.

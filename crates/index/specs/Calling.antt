@@ -8,6 +8,7 @@ use Rattle.index_rules.specs.Index.{Index, Outcome, fitsIndex}
 use Rattle.index_rules.specs.Insert.{inserts}
 use Rattle.index_rules.specs.Remove.{removes}
 use Rattle.index_rules.specs.Replace.{replaces}
+use Rattle.index_rules.specs.Checked.{raisedBy, loweredBy, insertsSound, removesSound, replacesSound}
 use Rattle.index_rules.specs.Fresh.{freshes}
 use Rattle.index.specs.Calls.{fitnessOf, insertedOf, removedOf, replacedOf}
 use Rattle.index.specs.Fresh.{freshOf}
@@ -35,10 +36,15 @@ outcomeOf f c =
 
 pub record Calling : Type 0 where
   pub inserted-one-to-one : (a b : Inserted) → insertedOf a ≡ insertedOf b → a ≡ b
+  pub insert-sound-one : (floor : ℕ) (ix : Index) (hash key p : ℕ) → OneAnswer (λ c. outcomeOf insertedOf c ≡ insertsSound floor ix hash key p)
   pub insert-one : (ix : Index) (hash key p : ℕ) → OneAnswer (λ c. outcomeOf insertedOf c ≡ inserts ix hash key p)
+  pub raise-one : (inserted : Inserted) (floor : ℕ) → OneAnswer (λ r. r ≡ raisedBy (insertedOf inserted) floor)
+  pub lower-one : (removed : Removed) (floor : ℕ) → OneAnswer (λ r. r ≡ loweredBy (removedOf removed) floor)
   pub removed-one-to-one : (a b : Removed) → removedOf a ≡ removedOf b → a ≡ b
+  pub remove-sound-one : (ix : Index) (hash key : ℕ) → OneAnswer (λ c. outcomeOf removedOf c ≡ removesSound ix hash key)
   pub remove-one : (ix : Index) (hash key : ℕ) → OneAnswer (λ c. outcomeOf removedOf c ≡ removes ix hash key)
   pub replaced-one-to-one : (a b : Replaced) → replacedOf a ≡ replacedOf b → a ≡ b
+  pub replace-sound-one : (ix : Index) (hash key p : ℕ) → OneAnswer (λ c. outcomeOf replacedOf c ≡ replacesSound ix hash key p)
   pub replace-one : (ix : Index) (hash key p : ℕ) → OneAnswer (λ c. outcomeOf replacedOf c ≡ replaces ix hash key p)
   pub freshness-one-to-one : (a b : Freshness) → freshOf a ≡ freshOf b → a ≡ b
   pub fresh-one : (ix : Index) → OneAnswer (λ c. outcomeOf freshOf c ≡ freshes ix)

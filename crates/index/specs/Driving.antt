@@ -1,7 +1,7 @@
--- Of the drivers and the journal beside their contracts: a free slot is told apart from none, and each public routine has one outcome.
+-- Of the drivers and the journal beside their contracts: each public routine has one outcome.
 use mathlib.Core.Path.{_≡_}
 use mathlib.Core.List.{List}
-use Prim.Native.Nat.{ℕ}
+use Prim.Native.Nat.{ℕ, _-_}
 use lib.ListN.{set}
 use lib.Dec.{eqb}
 use Rattle.slots.specs.Words.{rename, hashPart, keyPart}
@@ -10,12 +10,12 @@ use Rattle.index_rules.specs.Live.{Live}
 use Rattle.index_rules.specs.Index.{fitsJournal, lengthOf, linesOf, lineWord, lineMade}
 use Rattle.index_rules.specs.Insert.{freeFrom, headed}
 use Rattle.index_rules.specs.Rollback.{blanked}
-use Rattle.index.specs.Frees.{freeOf, slotOf, appendedIf, shrunkIf, grownIf}
-use Rattle.index.specs.declared.grow.Free.{Free}
+use Rattle.index_rules.specs.Checked.{lesser}
+use Rattle.index.specs.Frees.{appendedIf, shrunkIf, grownIf}
 
 pub record Driving : Type 0 where
-  pub free-one-to-one : (a b : Free) → freeOf a ≡ freeOf b → a ≡ b
-  pub lowest-free-one : (cells : List ℕ) (n : ℕ) → OneAnswer (λ r. freeOf r ≡ slotOf (freeFrom n cells 0))
+  pub lowest-free-one : (cells : List ℕ) (n floor : ℕ) → OneAnswer (λ r. r ≡ freeFrom (n - floor) cells floor)
+  pub lesser-one : (a b : ℕ) → OneAnswer (λ r. r ≡ lesser a b)
   pub head-put-one : (head : List ℕ) (root first count : ℕ) → OneAnswer (λ l. l ≡ headed head root first count)
   pub put-pair-one : (names : List ℕ) (x hash key : ℕ) → OneAnswer (λ l. l ≡ rename (rename names x hashPart hash) x keyPart key)
   pub grow-one : (t : Live) (x y hash key p : ℕ) → OneAnswer (λ u. u ≡ grownIf t x y hash key p)

@@ -1,25 +1,13 @@
--- What the values of this crate's enum mean, and what its routines leave on any words.
+-- What the routines of this crate leave on any words.
 use mathlib.Core.List.{List}
 use Prim.Native.Nat.{ℕ}
 use lib.ListN.{length}
 use lib.Dec.{eqb, leb}
 use Rattle.slots.specs.Words.{null, pick, mostLines, mostNames}
-use Rattle.slots.specs.Answers.{Value, some, none}
 use Rattle.index_rules.specs.Live.{Live, countOf}
 use Rattle.index_rules.specs.Index.{JournalLine, lengthOf, appended}
 use Rattle.index_rules.specs.Insert.{grown}
 use Rattle.index_rules.specs.Remove.{shrunk}
-use Rattle.index.specs.declared.grow.Free.{Free}
-use Rattle.index.specs.declared.grow.Free.the-variants.{At, None}
-
--- A slot, or none.
-abbrev pub freeOf : Free → Value
-freeOf (At slot) = some slot
-freeOf None = none
-
--- A link as a slot: null is none.
-abbrev pub slotOf : ℕ → Value
-slotOf i = pick (eqb i null) none (some i)
 
 -- A line more, where the length is one of a journal's: at most 1,024.
 abbrev pub appendedIf : List ℕ → JournalLine → List ℕ

@@ -1,10 +1,11 @@
 -- The number and value of each answer of rollback, and what its steps answer.
+use Prim.{Unit}
+use mathlib.Core.Path.{_≡_}
 use Prim.Native.Nat.{ℕ, _-_}
-use lib.Dec.{ltb}
-use Rattle.slots.specs.Words.{pick}
+use lib.Dec.{leb, ltb}
+use Rattle.slots.specs.Words.{pick, mostSlots}
 use Rattle.slots.specs.Answers.{Answer, given, refused}
-use Rattle.index_rules.specs.Live.{Live}
-use Rattle.index_rules.specs.Sound.{sound}
+use Rattle.index_rules.specs.Live.{Live, countOf}
 use Rattle.index_rules.specs.Index.{Index, fitsIndex, lengthOf}
 use Rattle.index_rules.specs.Rollback.{Undo, stays, misfit}
 use Rattle.index.specs.declared.rollback.RolledBack.{RolledBack}
@@ -19,14 +20,19 @@ rolledOf Damaged = refused 2
 rolledOf BadMark = refused 7
 rolledOf Misfit = refused 8
 
--- What rollback answers if all its lines fit.
+-- What rollback answers where the full check has said yes, if all its lines fit.
 unfoldable pub opened : Index → ℕ → Answer
 opened ix m =
     pick (fitsIndex ix)
-    (pick (sound (ix .live)) (pick (ltb (lengthOf (ix .lines)) m) (refused 7) (given (lengthOf (ix .lines) - m))) (refused 2))
+    (pick (leb (countOf (ix .live)) mostSlots) (pick (ltb (lengthOf (ix .lines)) m) (refused 7) (given (lengthOf (ix .lines) - m))) (refused 2))
     (refused 1)
 
 -- What came of undoing, with the tree that is left: where a line does not fit, nothing is said of it.
 abbrev pub undoOf : Undoing → Live → Undo
-undoOf Done t = stays t
+undoOf (Done freed) t = stays t
 undoOf LineMisfit t = misfit
+
+-- What is done freed this slot, null where it freed none.
+abbrev pub freedIs : Undoing → ℕ → Type 0
+freedIs (Done freed) x = freed ≡ x
+freedIs LineMisfit x = Unit

@@ -1,7 +1,14 @@
 // Whether lent slices are a live tree's with its journal.
 use crate::fit::fit;
 use crate::journal::fit_journal;
+use slots::COUNT;
+use slots::MOST_SLOTS;
+use slots::NULL;
+use slots::word;
 ghost use mathlib.Core.Path.{_≡_};
+ghost use lib.Dec.{leb};
+ghost use lib.ListN.{getD};
+ghost use Rattle.slots.specs.Words.{null, mostSlots};
 ghost use Rattle.index_rules.specs.Index.{fitsIndex, lent};
 ghost use Rattle.index.specs.Calls.{fitnessOf};
 
@@ -31,4 +38,11 @@ pub fn fit_index(
         return Fitness::Unfit;
     }
     Fitness::Fit
+}
+
+// Whether the header's count passes no capacity.
+pub(crate) fn can_count(head: &[u32]) -> bool
+    ensures { λ r. ⌜ r ≡ leb (getD (now (head .entry)) 2 null) mostSlots ⌝ }
+{
+    word(head, COUNT, NULL) as usize <= MOST_SLOTS
 }

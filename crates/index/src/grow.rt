@@ -18,31 +18,33 @@ use slots::put_name;
 use slots::put_word;
 use slots::word;
 ghost use mathlib.Core.Path.{_≡_};
-ghost use lib.ListN.{set};
+ghost use Prim.Native.Nat.{_-_};
 ghost use Rattle.slots.specs.Words.{rename, hashPart, keyPart};
 ghost use Rattle.index_rules.specs.Live.{lentTree};
 ghost use Rattle.index_rules.specs.Insert.{freeFrom, seated, headed};
-ghost use Rattle.index.specs.Frees.{freeOf, slotOf, grownIf};
+ghost use Rattle.index_rules.specs.Checked.{lesser as lesserOf};
+ghost use Rattle.index.specs.Frees.{grownIf};
 
-// A free slot, or that there is none.
-pub enum Free {
-    At(u32),
-    None,
-}
-
-// The lowest free of the n slots.
-pub fn lowest_free(cells: &[u32], n: u32) -> Free
-    ensures { λ r. ⌜ freeOf r ≡ slotOf (freeFrom n (now (cells .entry)) 0) ⌝ }
+// The lowest free of the n slots from the floor on, null where there is none.
+pub fn lowest_free(cells: &[u32], n: u32, floor: u32) -> u32
+    ensures { λ r. ⌜ r ≡ freeFrom (n - floor) (now (cells .entry)) floor ⌝ }
 {
-    let mut k: u32 = 0;
+    let mut k = floor;
     while k < n {
         let state = get(cells, k, STATE);
         if state == FREE {
-            return Free::At(k);
+            return k;
         }
         k += 1;
     }
-    Free::None
+    NULL
+}
+
+// The lesser of two slots; null is more than any.
+pub fn lesser(a: u32, b: u32) -> u32
+    ensures { λ r. ⌜ r ≡ lesserOf a b ⌝ }
+{
+    if a < b { a } else { b }
 }
 
 // Slot x stands in the chain between y and q; nothing is written to a null link.

@@ -1,7 +1,7 @@
 // insert: a pair with its place joins the tree, and the journal takes a line.
 use crate::fit_index::Fitness;
+use crate::fit_index::can_count;
 use crate::fit_index::fit_index;
-use crate::grow::Free;
 use crate::grow::grow;
 use crate::grow::lowest_free;
 use crate::journal::INSERT;
@@ -23,6 +23,7 @@ ghost use Rattle.slots.specs.Coded.{answerOf};
 ghost use Prim.Native.Nat.{ℕ};
 ghost use Rattle.index_rules.specs.Index.{lent, outcome};
 ghost use Rattle.index_rules.specs.Insert.{inserts};
+ghost use Rattle.index_rules.specs.Checked.{raisedBy, insertsSound};
 ghost use Rattle.index.specs.Calls.{insertedOf};
 
 // What insert answers, with the number of each refusal.
@@ -52,37 +53,54 @@ impl Inserted {
             Inserted::JournalFull => refused(6),
         }
     }
+
+    // The floor after this answer: the slot taken, null where none was free, else as it was.
+    pub fn raise(self, floor: u32) -> u32
+        ensures { λ r. ⌜ r ≡ raisedBy (insertedOf self) floor ⌝ }
+    {
+        match self {
+            Inserted::At(slot) => slot,
+            Inserted::Unfit => floor,
+            Inserted::Damaged => floor,
+            Inserted::Present(_) => floor,
+            Inserted::Full => NULL,
+            Inserted::JournalFull => floor,
+        }
+    }
 }
 
-// What insert answers, before anything is written: the tests 1, 2, 3, 5, 6 in turn, else the slot that the pair takes.
+// What insert answers where the full check has said yes, before anything is written: the tests 1, 3, 5, 6 in turn, else the slot that the
+// pair takes.
 fn ask(
     names: &[u64],
     cells: &[u32],
     head: &[u32],
     sizes: &[u32],
     lines: &[u64],
+    floor: u32,
     hash: u64,
     key: u64,
 ) -> Inserted
     ensures { λ r. ⌜ ((p : ℕ) → insertedOf r
-        ≡ inserts (lent (now (names .entry)) (now (cells .entry)) (now (head .entry)) (now (sizes .entry)) (now (lines .entry)))
+        ≡ insertsSound floor
+        (lent (now (names .entry)) (now (cells .entry)) (now (head .entry)) (now (sizes .entry)) (now (lines .entry)))
         hash key p .answer) ⌝ }
 {
     let fitness = fit_index(names, cells, head, sizes, lines);
     let Fitness::Fit = fitness else {
         return Inserted::Unfit;
     };
-    let verdict = sound(names, cells, head, sizes);
-    let Soundness::Yes = verdict else {
+    let counts = can_count(head);
+    if !counts {
         return Inserted::Damaged;
-    };
+    }
     let root = word(head, ROOT, NULL);
     let found = find_tree_node(names, cells, root, hash, key);
     let Found::At(slot, _) = found else {
-        let free = lowest_free(cells, (names.len() / 2) as u32);
-        let Free::At(x) = free else {
+        let x = lowest_free(cells, (names.len() / 2) as u32, floor);
+        if x == NULL {
             return Inserted::Full;
-        };
+        }
         let full = is_full(lines);
         if full {
             return Inserted::JournalFull;
@@ -90,6 +108,33 @@ fn ask(
         return Inserted::At(x);
     };
     Inserted::Present(slot)
+}
+
+// insert where the full check has said yes and no slot below the floor is free.
+pub fn insert_sound(
+    names: &mut [u64],
+    cells: &mut [u32],
+    head: &mut [u32],
+    sizes: &mut [u32],
+    lines: &mut [u64],
+    floor: u32,
+    hash: u64,
+    key: u64,
+    place: u32,
+) -> Inserted
+    ensures { λ r. ⌜ outcome (insertedOf r)
+        (lent (now (names .exit)) (now (cells .exit)) (now (head .exit)) (now (sizes .exit)) (now (lines .exit)))
+        ≡ insertsSound floor
+        (lent (now (names .entry)) (now (cells .entry)) (now (head .entry)) (now (sizes .entry)) (now (lines .entry)))
+        hash key place ⌝ }
+{
+    let asked = ask(names, cells, head, sizes, lines, floor, hash, key);
+    let Inserted::At(x) = asked else {
+        return asked;
+    };
+    grow(names, cells, head, sizes, x, NULL, hash, key, place);
+    append(lines, INSERT, hash, key, place as u64, 0, 0);
+    Inserted::At(x)
 }
 
 // The pair (hash, key) with its place joins the tree, and the journal takes a line. A refusal writes nothing.
@@ -108,11 +153,13 @@ pub fn insert(
         ≡ inserts (lent (now (names .entry)) (now (cells .entry)) (now (head .entry)) (now (sizes .entry)) (now (lines .entry)))
         hash key place ⌝ }
 {
-    let asked = ask(names, cells, head, sizes, lines, hash, key);
-    let Inserted::At(x) = asked else {
-        return asked;
+    let fitness = fit_index(names, cells, head, sizes, lines);
+    let Fitness::Fit = fitness else {
+        return Inserted::Unfit;
     };
-    grow(names, cells, head, sizes, x, NULL, hash, key, place);
-    append(lines, INSERT, hash, key, place as u64, 0, 0);
-    Inserted::At(x)
+    let verdict = sound(names, cells, head, sizes);
+    let Soundness::Yes = verdict else {
+        return Inserted::Damaged;
+    };
+    insert_sound(names, cells, head, sizes, lines, 0, hash, key, place)
 }

@@ -1,6 +1,6 @@
 // A line of the journal is undone on the tree by the same drivers.
-use crate::grow::Free;
 use crate::grow::grow;
+use crate::grow::lesser;
 use crate::grow::lowest_free;
 use crate::journal::INSERT;
 use crate::journal::LINE_HASH;
@@ -30,12 +30,13 @@ ghost use Rattle.slots.specs.Words.{null, mostNames};
 ghost use Rattle.index_rules.specs.Live.{lentTree};
 ghost use Rattle.index_rules.specs.Index.{lineMade, lineOf};
 ghost use Rattle.index_rules.specs.Insert.{soughtIn};
-ghost use Rattle.index_rules.specs.Rollback.{takenBack, putBack, putBehind, placedBack, undone, unrolled};
-ghost use Rattle.index.specs.Rolls.{undoOf};
+ghost use Rattle.index_rules.specs.Rollback.{takenBack, putBack, putBehind, placedBack, undoneInto};
+ghost use Rattle.index_rules.specs.Checked.{slotIn, freedBy, unrolledFrom};
+ghost use Rattle.index.specs.Rolls.{undoOf, freedIs};
 
-// What comes of undoing: it is done, or a line does not fit.
+// What comes of undoing: it is done, with the slot that it freed, null where it freed none; or a line does not fit.
 pub(crate) enum Undoing {
-    Done,
+    Done(u32),
     Misfit,
 }
 
@@ -53,6 +54,8 @@ fn take_back(
     ensures { λ r. ⌜ undoOf r (lentTree (now (names .exit)) (now (cells .exit)) (now (head .exit)) (now (sizes .exit)))
         ≡ takenBack (lentTree (now (names .entry)) (now (cells .entry)) (now (head .entry)) (now (sizes .entry)))
         (soughtIn (lentTree (now (names .entry)) (now (cells .entry)) (now (head .entry)) (now (sizes .entry))) hash key) place ⌝ }
+    ensures { λ r. ⌜ freedIs r
+        (slotIn (soughtIn (lentTree (now (names .entry)) (now (cells .entry)) (now (head .entry)) (now (sizes .entry))) hash key)) ⌝ }
 {
     let root = word(head, ROOT, NULL);
     let found = find_tree_node(names, cells, root, hash, key);
@@ -64,11 +67,11 @@ fn take_back(
         return Undoing::Misfit;
     }
     shrink(names, cells, head, sizes, x);
-    Undoing::Done
+    Undoing::Done(x)
 }
 
-// A remove line is undone by an insert right behind the slot y, at the front where y is null: its pair is not there, and there is a free
-// slot. Misfit where that is not so, or where the place is wider than 32 bits.
+// A remove line is undone by an insert into the free slot x, right behind the slot y, at the front where y is null: its pair is not there, and
+// there is a free slot. Misfit where that is not so, or where the place is wider than 32 bits.
 fn put_back(
     names: &mut [u64],
     cells: &mut [u32],
@@ -77,28 +80,29 @@ fn put_back(
     hash: u64,
     key: u64,
     place: u64,
+    x: u32,
     y: u32,
 ) -> Undoing
     requires { ⌜ length (now names) ≤ mostNames ⌝ }
     requires { ⌜ getD (now head) 2 null < null ⌝ }
     ensures { λ r. ⌜ ((kind priorHash priorKey : ℕ) → undoOf r
         (lentTree (now (names .exit)) (now (cells .exit)) (now (head .exit)) (now (sizes .exit)))
-        ≡ putBack (lentTree (now (names .entry)) (now (cells .entry)) (now (head .entry)) (now (sizes .entry)))
+        ≡ putBack (lentTree (now (names .entry)) (now (cells .entry)) (now (head .entry)) (now (sizes .entry))) x
         (soughtIn (lentTree (now (names .entry)) (now (cells .entry)) (now (head .entry)) (now (sizes .entry))) hash key)
         (lineMade kind hash key place priorHash priorKey) y) ⌝ }
+    ensures { λ r. ⌜ freedIs r null ⌝ }
 {
     let root = word(head, ROOT, NULL);
     let found = find_tree_node(names, cells, root, hash, key);
     let Found::At(_, _) = found else {
-        let free = lowest_free(cells, (names.len() / 2) as u32);
-        let Free::At(x) = free else {
+        if x == NULL {
             return Undoing::Misfit;
-        };
+        }
         if MOST_PLACES <= place {
             return Undoing::Misfit;
         }
         grow(names, cells, head, sizes, x, y, hash, key, place as u32);
-        return Undoing::Done;
+        return Undoing::Done(NULL);
     };
     Undoing::Misfit
 }
@@ -114,21 +118,23 @@ fn put_behind(
     place: u64,
     prehash: u64,
     prekey: u64,
+    x: u32,
 ) -> Undoing
     requires { ⌜ length (now names) ≤ mostNames ⌝ }
     requires { ⌜ getD (now head) 2 null < null ⌝ }
     ensures { λ r. ⌜ ((kind : ℕ) → undoOf r (lentTree (now (names .exit)) (now (cells .exit)) (now (head .exit)) (now (sizes .exit)))
-        ≡ putBehind (lentTree (now (names .entry)) (now (cells .entry)) (now (head .entry)) (now (sizes .entry)))
+        ≡ putBehind (lentTree (now (names .entry)) (now (cells .entry)) (now (head .entry)) (now (sizes .entry))) x
         (soughtIn (lentTree (now (names .entry)) (now (cells .entry)) (now (head .entry)) (now (sizes .entry))) prehash prekey)
         (soughtIn (lentTree (now (names .entry)) (now (cells .entry)) (now (head .entry)) (now (sizes .entry))) hash key)
         (lineMade kind hash key place prehash prekey)) ⌝ }
+    ensures { λ r. ⌜ freedIs r null ⌝ }
 {
     let root = word(head, ROOT, NULL);
     let found = find_tree_node(names, cells, root, prehash, prekey);
     let Found::At(y, _) = found else {
         return Undoing::Misfit;
     };
-    put_back(names, cells, head, sizes, hash, key, place, y)
+    put_back(names, cells, head, sizes, hash, key, place, x, y)
 }
 
 // A replace line is undone by the old place: its pair is there with the new one. Misfit where it is not.
@@ -144,6 +150,7 @@ fn place_back(
     ensures { λ r. ⌜ undoOf r (lentTree (now (names .entry)) (now (cells .exit)) (now (head .entry)) (now (sizes .entry)))
         ≡ placedBack (lentTree (now (names .entry)) (now (cells .entry)) (now (head .entry)) (now (sizes .entry)))
         (soughtIn (lentTree (now (names .entry)) (now (cells .entry)) (now (head .entry)) (now (sizes .entry))) hash key) places ⌝ }
+    ensures { λ r. ⌜ freedIs r null ⌝ }
 {
     let root = word(head, ROOT, NULL);
     let found = find_tree_node(names, cells, root, hash, key);
@@ -155,10 +162,10 @@ fn place_back(
         return Undoing::Misfit;
     }
     put(cells, x, PLACE, (places / MOST_PLACES) as u32);
-    Undoing::Done
+    Undoing::Done(NULL)
 }
 
-// Line k is undone. Misfit where it does not fit; the slices are then left anyhow.
+// Line k is undone; a pair that comes back takes the free slot x. Misfit where it does not fit; the slices are then left anyhow.
 fn undo_line(
     names: &mut [u64],
     cells: &mut [u32],
@@ -166,12 +173,16 @@ fn undo_line(
     sizes: &mut [u32],
     lines: &[u64],
     k: usize,
+    x: u32,
 ) -> Undoing
     requires { ⌜ length (now names) ≤ mostNames ⌝ }
     requires { ⌜ getD (now head) 2 null < null ⌝ }
     ensures { λ r. ⌜ undoOf r (lentTree (now (names .exit)) (now (cells .exit)) (now (head .exit)) (now (sizes .exit)))
-        ≡ undone (lentTree (now (names .entry)) (now (cells .entry)) (now (head .entry)) (now (sizes .entry)))
+        ≡ undoneInto x (lentTree (now (names .entry)) (now (cells .entry)) (now (head .entry)) (now (sizes .entry)))
         (lineOf (now (lines .entry)) k) ⌝ }
+    ensures { λ r. ⌜ freedIs r
+        (freedBy (lentTree (now (names .entry)) (now (cells .entry)) (now (head .entry)) (now (sizes .entry)))
+        (lineOf (now (lines .entry)) k)) ⌝ }
 {
     let kind = line_word(lines, k, LINE_KIND);
     let hash = line_word(lines, k, LINE_HASH);
@@ -181,12 +192,23 @@ fn undo_line(
         return take_back(names, cells, head, sizes, hash, key, place);
     }
     if kind == REMOVE {
-        return put_back(names, cells, head, sizes, hash, key, place, NULL);
+        return put_back(names, cells, head, sizes, hash, key, place, x, NULL);
     }
     if kind == NOTED_REMOVE {
         let prehash = line_word(lines, k, LINE_PRIOR_HASH);
         let prekey = line_word(lines, k, LINE_PRIOR_KEY);
-        return put_behind(names, cells, head, sizes, hash, key, place, prehash, prekey);
+        return put_behind(
+            names,
+            cells,
+            head,
+            sizes,
+            hash,
+            key,
+            place,
+            prehash,
+            prekey,
+            x,
+        );
     }
     if kind == REPLACE {
         return place_back(names, cells, head, sizes, hash, key, place);
@@ -194,7 +216,8 @@ fn undo_line(
     Undoing::Misfit
 }
 
-// So many lines from m on are undone, from the last down. Misfit where one does not fit; the slices are then left anyhow.
+// So many lines from m on are undone, from the last down; the search for a free slot goes on where the last one ended, or at a lower slot
+// that was freed since. Misfit where one does not fit; the slices are then left anyhow.
 pub(crate) fn unroll(
     names: &mut [u64],
     cells: &mut [u32],
@@ -207,16 +230,20 @@ pub(crate) fn unroll(
     requires { ⌜ length (now names) ≤ mostNames ⌝ }
     requires { ⌜ getD (now head) 2 null + count < null ⌝ }
     ensures { λ r. ⌜ undoOf r (lentTree (now (names .exit)) (now (cells .exit)) (now (head .exit)) (now (sizes .exit)))
-        ≡ unrolled count (lentTree (now (names .entry)) (now (cells .entry)) (now (head .entry)) (now (sizes .entry)))
+        ≡ unrolledFrom count 0 (lentTree (now (names .entry)) (now (cells .entry)) (now (head .entry)) (now (sizes .entry)))
         (now (lines .entry)) m ⌝ }
 {
+    let n = (names.len() / 2) as u32;
+    let mut floor: u32 = 0;
     let mut c = count;
     while 0 < c {
         c -= 1;
-        let undone = undo_line(names, cells, head, sizes, lines, m as usize + c as usize);
-        let Undoing::Done = undone else {
+        let x = lowest_free(cells, n, floor);
+        let undone = undo_line(names, cells, head, sizes, lines, m as usize + c as usize, x);
+        let Undoing::Done(freed) = undone else {
             return Undoing::Misfit;
         };
+        floor = lesser(freed, x);
     }
-    Undoing::Done
+    Undoing::Done(NULL)
 }

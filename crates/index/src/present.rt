@@ -1,9 +1,8 @@
-// What remove and replace ask alike of a pair that has to be there.
+// What remove and replace ask alike of a pair that has to be there, where the full check has said yes.
 use crate::fit_index::Fitness;
+use crate::fit_index::can_count;
 use crate::fit_index::fit_index;
 use crate::journal::is_full;
-use crate::sound::Soundness;
-use crate::sound::sound;
 use slots::NULL;
 use slots::ROOT;
 use slots::word;
@@ -12,7 +11,7 @@ use tree::find::find_tree_node;
 ghost use mathlib.Core.Path.{_≡_};
 ghost use Prim.Native.Nat.{ℕ};
 ghost use Rattle.index_rules.specs.Index.{Index, lent};
-ghost use Rattle.index_rules.specs.Present.{wherePresent};
+ghost use Rattle.index_rules.specs.Checked.{presentSound};
 ghost use Rattle.index.specs.Calls.{presenceOf};
 
 // What the tests come to, with the number of each refusal.
@@ -24,7 +23,7 @@ pub(crate) enum Presence {
     JournalFull, // 6
 }
 
-// The tests 1, 2, 4, 6 in turn, else the slot that has the pair, whatever is left by it.
+// The tests 1, 4, 6 in turn, else the slot that has the pair, whatever is left by it.
 pub(crate) fn present(
     names: &[u64],
     cells: &[u32],
@@ -35,17 +34,17 @@ pub(crate) fn present(
     key: u64,
 ) -> Presence
     ensures { λ r. ⌜ ((leave : ℕ → Index) → presenceOf r
-        ≡ wherePresent (lent (now (names .entry)) (now (cells .entry)) (now (head .entry)) (now (sizes .entry)) (now (lines .entry)))
+        ≡ presentSound (lent (now (names .entry)) (now (cells .entry)) (now (head .entry)) (now (sizes .entry)) (now (lines .entry)))
         hash key leave .answer) ⌝ }
 {
     let fitness = fit_index(names, cells, head, sizes, lines);
     let Fitness::Fit = fitness else {
         return Presence::Unfit;
     };
-    let verdict = sound(names, cells, head, sizes);
-    let Soundness::Yes = verdict else {
+    let counts = can_count(head);
+    if !counts {
         return Presence::Damaged;
-    };
+    }
     let root = word(head, ROOT, NULL);
     let found = find_tree_node(names, cells, root, hash, key);
     let Found::At(x, _) = found else {

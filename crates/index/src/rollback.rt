@@ -2,6 +2,7 @@
 use crate::backup::copy_cells;
 use crate::backup::copy_names;
 use crate::fit_index::Fitness;
+use crate::fit_index::can_count;
 use crate::fit_index::fit_index;
 use crate::grow::head_put;
 use crate::journal::cut;
@@ -28,7 +29,8 @@ ghost use lib.ListN.{length, getD};
 ghost use Rattle.slots.specs.Words.{null, fields, mostSlots, mostNames};
 ghost use Rattle.index_rules.specs.Live.{Live, lentTree};
 ghost use Rattle.index_rules.specs.Index.{lent, outcome};
-ghost use Rattle.index_rules.specs.Rollback.{unrolled, rolls};
+ghost use Rattle.index_rules.specs.Rollback.{rolls};
+ghost use Rattle.index_rules.specs.Checked.{unrolledFrom, rollsSound};
 ghost use Rattle.index.specs.Rolls.{undoOf, opened, rolledOf};
 ghost use Rattle.index.specs.declared.lines.Undoing.the-variants.{Misfit};
 
@@ -56,7 +58,8 @@ impl RolledBack {
     }
 }
 
-// What rollback answers before it looks at a line: the tests 1, 2, 7 in turn, else the number of lines to undo.
+// What rollback answers where the full check has said yes, before it looks at a line: the tests 1, 7 in turn, else the number of lines to
+// undo.
 fn ask(
     names: &[u64],
     cells: &[u32],
@@ -72,10 +75,10 @@ fn ask(
     let Fitness::Fit = fitness else {
         return RolledBack::Unfit;
     };
-    let verdict = sound(names, cells, head, sizes);
-    let Soundness::Yes = verdict else {
+    let counts = can_count(head);
+    if !counts {
         return RolledBack::Damaged;
-    };
+    }
     let length = length_of(lines);
     if length < mark as u64 {
         return RolledBack::BadMark;
@@ -99,7 +102,7 @@ fn undo(
     requires { ⌜ length (now sizes) ≤ mostSlots ⌝ }
     requires { ⌜ getD (now head) 2 null + count < null ⌝ }
     ensures { λ r. ⌜ undoOf r (lentTree (now (names .exit)) (now (cells .exit)) (now (head .exit)) (now (sizes .exit)))
-        ≡ unrolled count (lentTree (now (names .entry)) (now (cells .entry)) (now (head .entry)) (now (sizes .entry)))
+        ≡ unrolledFrom count 0 (lentTree (now (names .entry)) (now (cells .entry)) (now (head .entry)) (now (sizes .entry)))
         (now (lines .entry)) m ⌝ }
     ensures { λ r. ⌜ (r
         ≡ Misfit → _≡_ {A = Live} (lentTree (now (names .exit)) (now (cells .exit)) (now (head .exit)) (now (sizes .exit)))
@@ -115,7 +118,7 @@ fn undo(
     let first = word(head, FIRST, NULL);
     let entries = word(head, COUNT, NULL);
     let unrolled = unroll(names, cells, head, sizes, lines, m, count);
-    let Undoing::Done = unrolled else {
+    let Undoing::Done(_) = unrolled else {
         let n = names.len();
         let k = cells.len();
         let z = sizes.len();
@@ -125,7 +128,32 @@ fn undo(
         head_put(head, root, first, entries);
         return Undoing::Misfit;
     };
-    Undoing::Done
+    Undoing::Done(NULL)
+}
+
+// rollback where the full check has said yes.
+pub fn rollback_sound(
+    names: &mut [u64],
+    cells: &mut [u32],
+    head: &mut [u32],
+    sizes: &mut [u32],
+    lines: &mut [u64],
+    mark: u32,
+) -> RolledBack
+    ensures { λ r. ⌜ outcome (rolledOf r)
+        (lent (now (names .exit)) (now (cells .exit)) (now (head .exit)) (now (sizes .exit)) (now (lines .exit)))
+        ≡ rollsSound (lent (now (names .entry)) (now (cells .entry)) (now (head .entry)) (now (sizes .entry)) (now (lines .entry))) mark ⌝ }
+{
+    let asked = ask(names, cells, head, sizes, lines, mark);
+    let RolledBack::Lines(count) = asked else {
+        return asked;
+    };
+    let undone = undo(names, cells, head, sizes, lines, mark, count);
+    let Undoing::Done(_) = undone else {
+        return RolledBack::Misfit;
+    };
+    cut(lines, mark, count);
+    RolledBack::Lines(count)
 }
 
 // The lines from the last down to the mark are undone and cleared, and the length is the mark. A refusal writes nothing.
@@ -141,14 +169,13 @@ pub fn rollback(
         (lent (now (names .exit)) (now (cells .exit)) (now (head .exit)) (now (sizes .exit)) (now (lines .exit)))
         ≡ rolls (lent (now (names .entry)) (now (cells .entry)) (now (head .entry)) (now (sizes .entry)) (now (lines .entry))) mark ⌝ }
 {
-    let asked = ask(names, cells, head, sizes, lines, mark);
-    let RolledBack::Lines(count) = asked else {
-        return asked;
+    let fitness = fit_index(names, cells, head, sizes, lines);
+    let Fitness::Fit = fitness else {
+        return RolledBack::Unfit;
     };
-    let undone = undo(names, cells, head, sizes, lines, mark, count);
-    let Undoing::Done = undone else {
-        return RolledBack::Misfit;
+    let verdict = sound(names, cells, head, sizes);
+    let Soundness::Yes = verdict else {
+        return RolledBack::Damaged;
     };
-    cut(lines, mark, count);
-    RolledBack::Lines(count)
+    rollback_sound(names, cells, head, sizes, lines, mark)
 }

@@ -7,6 +7,8 @@ use Rattle.index_rules.proofs.Inserting.{insert-claims}
 use Rattle.index_rules.proofs.Removing.{remove-claims}
 use Rattle.index_rules.proofs.Replacing.{replace-claims}
 use Rattle.index_rules.proofs.Rolling.{rollback-claims}
+use Rattle.index_rules.proofs.Checked.{once-checked}
+use Rattle.index_rules.proofs.Batching.{batch-claims}
 use Rattle.index_rules.proofs.Ranking.{kth-claims, position-claims}
 use Rattle.index_rules.proofs.Freshing.{freshes-claims}
 use Rattle.index_rules.proofs.Demanding.{demand-three}
@@ -24,6 +26,8 @@ claims =
       remove = remove-claims;
       replace = replace-claims;
       rollback = rollback-claims;
+      once-checked = once-checked;
+      batch = batch-claims;
       kth = kth-claims;
       position = position-claims;
       fresh = freshes-claims;

@@ -325,3 +325,18 @@ module _ (ix : Index) (hash key p : ℕ) where
       go (five f h n d e) = inl (λ q. omega (arith, number (answer e)))
       go (six f h n d l e) = inl (λ q. omega (arith, number (answer e)))
       go (taken f h n d l e r) = inr (lowestFree (ix .live), e)
+
+  -- 5 comes with no value.
+  pub insert-plain : inserts ix hash key p .answer .number ≡ 5 → inserts ix hash key p .answer ≡ refused 5
+  insert-plain q = go did
+    where
+      off : {a : Answer} → inserts ix hash key p .answer ≡ a → (a .number ≡ 5 → ⊥) → inserts ix hash key p .answer ≡ refused 5
+      off e n = absurd (n (sym (number e) ∙ q))
+
+      go : Did → inserts ix hash key p .answer ≡ refused 5
+      go (one n e) = off (answer e) (λ z. omega arith)
+      go (two f n e) = off (answer e) (λ z. omega arith)
+      go (three f h x z n e) = off (answer e) (λ w. omega arith)
+      go (five f h n d e) = answer e
+      go (six f h n d l e) = off (answer e) (λ z. omega arith)
+      go (taken f h n d l e r) = off e (λ z. omega arith)

@@ -28,4 +28,6 @@ pub mod Demanding
 pub mod Finding
 pub mod Sounding
 pub mod Ranking
+pub mod Checked
+pub mod Batching
 pub mod Claims

@@ -12,9 +12,10 @@ use borrow.Author.Tests.{eqb-true, ltb-true, eq-eqb, ne-eqb, lt-ltb}
 use Rattle.slots.specs.Words.{null, pick, place, state, free, cell}
 use Rattle.slots.specs.Pairs.{Pair, pair, pairOf}
 use Rattle.slots.specs.Answers.{Answer, some, none}
-use Rattle.tree_rules.specs.Tree.{Tree}
+use Rattle.tree_rules.specs.Tree.{Tree, times}
 use Rattle.tree_rules.specs.Chain.{tally}
 use Rattle.tree_rules.proofs.Reaching.{rooted-unique}
+use Rattle.redblack.specs.Balance.{OneFewer}
 use Rattle.redblack.specs.Holding.{Has, Stands}
 use Rattle.index_rules.specs.Live.{Live, Fit, rootOf}
 use Rattle.index_rules.specs.Sound.{Sound, used}
@@ -22,11 +23,12 @@ use Rattle.index_rules.specs.Index.{JournalLine, insertKind, removeKind,
 use Rattle.index_rules.specs.Insert.{lowestFree, soughtIn, grown}
 use Rattle.index_rules.specs.Remove.{shrunk}
 use Rattle.index_rules.specs.Replace.{placedAt}
-use Rattle.index_rules.specs.Rollback.{Undo, stays, misfit, takenBack, putBack, putBehind, placedBack, undone, unrolled}
+use Rattle.index_rules.specs.Rollback.{Undo, stays, misfit, takenBack, putBack, putBehind, placedBack, undone, undoneInto, unrolled}
+use Rattle.index_rules.specs.Checked.{freedBy}
 use Rattle.index_rules.specs.Contents.{Entry, entry, entryOf, contents, listing, without, behind, withPlace, In}
 use Rattle.index_rules.specs.Undoing.{lineEntry, CanReturn, UndoneTo, insertLine, removeLine, behindLine, replaceLine, Undoes, back, down}
 use Rattle.index_rules.proofs.Rules.{small}
-use Rattle.index_rules.proofs.Frames.{length-rename, tree-inside}
+use Rattle.index_rules.proofs.Frames.{length-rename, tree-inside, without-else, without-same}
 use Rattle.index_rules.proofs.Growing.{grown-fit, grown-sound}
 use Rattle.index_rules.proofs.Shrinking.{shrunk-fit, shrunk-sound}
 use Rattle.index_rules.proofs.Free.{lowest-free, none-free}
@@ -97,11 +99,20 @@ free-room {t} fit h = (to, from)
 pub listing-most : {t : Live} → Fit t → (h : Sound t) → length (listing h) ≤ slotsOf (t .names)
 listing-most {t} fit h = omega (arith, listing-length h, contents-length h, h .t1 .count, tally-most (slotsOf (t .names)) (used (t .cells)) (used-most (t .cells)))
 
--- A tree that a line's undoing leaves, with its listing.
-pub record Left (t u : Live) (l : List Entry) : Type 0 where
+-- A slot of a list is one of the list with one more.
+pub still-there : {x : ℕ} {l m : List ℕ} → OneFewer x l m → (k : ℕ) → 1 ≤ times k m → 1 ≤ times k l
+still-there {x} {l} {m} o k z = go (ℕ-discrete k x)
+  where
+    go : Dec (k ≡ x) → 1 ≤ times k l
+    go (yes e) = rw e (omega (arith, without-same o))
+    go (no d) = omega (arith, without-else k o d)
+
+-- A tree that a line's undoing leaves, with its listing; every slot of the tree before but the one that is freed is a slot of it.
+pub record Left {t : Live} (h : Sound t) (u : Live) (freed : ℕ) (l : List Entry) : Type 0 where
   pub fit : Fit u
   pub sound : Sound u
   pub capacity : slotsOf (u .names) ≡ slotsOf (t .names)
+  pub keeps : (k : ℕ) → k ≢ freed → Stands k (h .tree) → Stands k (sound .tree)
   pub lists : listing sound ≡ l
 
 stays-is : {t u : Live} → stays t ≡ stays u → t ≡ u
@@ -118,9 +129,13 @@ pick-stays false o e = absurd (not-stays e)
 pub record Stepped {t : Live} (h : Sound t) (j : JournalLine) (u : Live) : Type 0 where
   pub after : List Entry
   pub undone : UndoneTo (slotsOf (t .names)) j (listing h) after
-  pub left : Left t u after
+  pub left : Left h u (freedBy t j) after
 
 module _ {t : Live} (fit : Fit t) (h : Sound t) (j : JournalLine) where
+  frees : (x : ℕ) → j .kind ≡ insertKind → soughtIn t (j .hash) (j .key) ≡ some x → x ≡ freedBy t j
+  unfolding freedBy
+  frees x kind s = rw (eq-eqb (j .kind) insertKind kind, s)
+
   took-back : (u : Live) → j .kind ≡ insertKind → takenBack t (soughtIn t (j .hash) (j .key)) (j .place) ≡ stays u → Stepped h j u
   took-back u kind e = go (seen fit h (j .hash) (j .key))
     where
@@ -131,43 +146,46 @@ module _ {t : Live} (fit : Fit t) (h : Sound t) (j : JournalLine) where
           let p : cell (t .cells) x place ≡ j .place = eqb-true _ _ (a .0) in
           let is : entryOf t x ≡ lineEntry j = λ i. entry (n i .hash) (n i .key) (p i) in
           let g = shrunk-sound fit h x z in
-          let left : Left t (shrunk t x) (without (j .hash) (j .key) (listing h)) =
+          let left : Left h (shrunk t x) x (without (j .hash) (j .key) (listing h)) =
           record {
             fit = shrunk-fit fit h x z;
             sound = g .sound;
             capacity = shrunk-capacity t x;
+            keeps = λ k d w. omega (arith, without-else k (g .slotted) d);
             lists = shrunk-listing fit g ∙ ap (λ (r : Pair). without (r .hash) (r .key) (listing h)) n;
           } in
           record {
             after = without (j .hash) (j .key) (listing h);
             undone = insertLine kind (subst (λ (r : Entry). In r (listing h)) is (stands-listed h x z));
-            left = subst (λ (v : Live). Left t v (without (j .hash) (j .key) (listing h))) (stays-is (a .1)) left;
+            left = subst (λ (i : ℕ). Left h u i (without (j .hash) (j .key) (listing h))) (frees x kind s)
+                (subst (λ (v : Live). Left h v x (without (j .hash) (j .key) (listing h))) (stays-is (a .1)) left);
           }
 
   -- What a return asks, and what it leaves behind a slot y of the chain, or at the front.
   record Returned (y : ℕ) (u : Live) : Type 0 where
     can : CanReturn (slotsOf (t .names)) j (listing h)
-    front : y ≡ null → Left t u (lineEntry j ∷ listing h)
-    behind-one : (priorHash priorKey : ℕ) → y ≢ null → pairOf (t .names) y ≡ pair priorHash priorKey → Left t u (behind priorHash priorKey (lineEntry j) (listing h))
+    front : y ≡ null → Left h u (freedBy t j) (lineEntry j ∷ listing h)
+    behind-one : (priorHash priorKey : ℕ) → y ≢ null → pairOf (t .names) y ≡ pair priorHash priorKey → Left h u (freedBy t j) (behind priorHash priorKey (lineEntry j) (listing h))
 
-  returned : (u : Live) (y : ℕ) → (y ≡ null) ⊎ Stands y (h .tree) → putBack t (soughtIn t (j .hash) (j .key)) j y ≡ stays u → Returned y u
+  returned : (u : Live) (y : ℕ) → (y ≡ null) ⊎ Stands y (h .tree) → putBack t (lowestFree t) (soughtIn t (j .hash) (j .key)) j y ≡ stays u → Returned y u
   returned u y seat e = go (seen fit h (j .hash) (j .key))
     where
-      sits : (y ≡ null) ⊎ Stands y (h .tree) → (y ≡ null) ⊎ (1 ≤ Rattle.tree_rules.specs.Tree.times y (h .chain))
+      sits : (y ≡ null) ⊎ Stands y (h .tree) → (y ≡ null) ⊎ (1 ≤ times y (h .chain))
       sits (inl q) = inl q
       sits (inr z) = inr (in-chain h y z)
 
-      placed : (Has (t .names) (h .tree) (j .hash) (j .key) → ⊥) → Dec (lowestFree t ≡ null) → putBack t none j y ≡ stays u → Returned y u
+      placed : (Has (t .names) (h .tree) (j .hash) (j .key) → ⊥) → Dec (lowestFree t ≡ null) → putBack t (lowestFree t) none j y ≡ stays u → Returned y u
       placed n (yes d) q = absurd (not-stays (rw (eq-eqb (lowestFree t) null d) at q))
       placed n (no d) q =
           let a = pick-stays _ _ (rw (ne-eqb (lowestFree t) null d) at q) in
           let f = lowest-free t d in
           let g = grown-sound fit h (lowestFree t) y (j .hash) (j .key) (j .place) (f .inside) (f .unused) (sits seat) n in
-          let left : (l : List Entry) → listing (g .sound) ≡ l → Left t u l =
-          λ l w. subst (λ (v : Live). Left t v l) (stays-is (a .1)) (record {
+          let left : (l : List Entry) → listing (g .sound) ≡ l → Left h u (freedBy t j) l =
+          λ l w. subst (λ (v : Live). Left h v (freedBy t j) l) (stays-is (a .1)) (record {
             fit = grown-fit fit h (lowestFree t) y (j .hash) (j .key) (j .place) (f .inside) (f .unused) (sits seat) n;
             sound = g .sound;
             capacity = grown-capacity t (lowestFree t) y (j .hash) (j .key) (j .place);
+            keeps = λ k d z. still-there (g .slotted) k z;
             lists = w;
           }) in
           record {
@@ -180,12 +198,12 @@ module _ {t : Live} (fit : Fit t) (h : Sound t) (j : JournalLine) where
       go (there x z n s) = absurd (not-stays (rw s at e))
       go (absent n s) = placed n (ℕ-discrete (lowestFree t) null) (rw s at e)
 
-  gave-back : (u : Live) → j .kind ≡ removeKind → putBack t (soughtIn t (j .hash) (j .key)) j null ≡ stays u → Stepped h j u
+  gave-back : (u : Live) → j .kind ≡ removeKind → putBack t (lowestFree t) (soughtIn t (j .hash) (j .key)) j null ≡ stays u → Stepped h j u
   gave-back u kind e =
       let r = returned u null (inl refl) e in
       record { after = lineEntry j ∷ listing h; undone = removeLine kind (r .can); left = r .front refl }
 
-  gave-behind : (u : Live) → j .kind ≡ notedKind → putBehind t (soughtIn t (j .priorHash) (j .priorKey)) (soughtIn t (j .hash) (j .key)) j ≡ stays u → Stepped h j u
+  gave-behind : (u : Live) → j .kind ≡ notedKind → putBehind t (lowestFree t) (soughtIn t (j .priorHash) (j .priorKey)) (soughtIn t (j .hash) (j .key)) j ≡ stays u → Stepped h j u
   gave-behind u kind e = go (seen fit h (j .priorHash) (j .priorKey))
     where
       go : Seen h (j .priorHash) (j .priorKey) → Stepped h j u
@@ -218,21 +236,22 @@ module _ {t : Live} (fit : Fit t) (h : Sound t) (j : JournalLine) where
           let p : cell (t .cells) x place ≡ new-half = eqb-true _ _ (a .0) in
           let is : entryOf t x ≡ entry (j .hash) (j .key) new-half = λ i. entry (n i .hash) (n i .key) (p i) in
           let g = placed-sound fit h x old-half z in
-          let left : Left t (placedAt t x old-half) (withPlace (j .hash) (j .key) old-half (listing h)) =
+          let left : Left h (placedAt t x old-half) (freedBy t j) (withPlace (j .hash) (j .key) old-half (listing h)) =
           record {
             fit = g .fit;
             sound = g .sound;
             capacity = ap (λ (l : List ℕ). slotsOf l) (g .only .names);
+            keeps = λ k d w. subst (λ (v : Tree). Stands k v) (sym (g .tree)) w;
             lists = placed-listing fit g z (j .hash) (j .key) n;
           } in
           record {
             after = withPlace (j .hash) (j .key) old-half (listing h);
             undone = replaceLine {new = new-half} {old = old-half} kind (omega arith) (omega arith) (ltb-true _ _ (b .0)) (subst (λ (r : Entry). In r (listing h)) is (stands-listed h x z));
-            left = subst (λ (v : Live). Left t v (withPlace (j .hash) (j .key) old-half (listing h))) (stays-is (b .1)) left;
+            left = subst (λ (v : Live). Left h v (freedBy t j) (withPlace (j .hash) (j .key) old-half (listing h))) (stays-is (b .1)) left;
           }
 
   pub undone-step : (u : Live) → undone t j ≡ stays u → Stepped h j u
-  unfolding undone
+  unfolding undoneInto
   undone-step u e =
       go (ℕ-discrete (j .kind) insertKind) (ℕ-discrete (j .kind) removeKind) (ℕ-discrete (j .kind) notedKind) (ℕ-discrete (j .kind) replaceKind) e
     where
@@ -262,7 +281,7 @@ module _ {t : Live} (fit : Fit t) (h : Sound t) (j : JournalLine) where
 
   -- A line that fits is undone.
   pub undone-fits : {l : List Entry} → UndoneTo (slotsOf (t .names)) j (listing h) l → (u : Live) × (undone t j ≡ stays u)
-  unfolding undone
+  unfolding undoneInto
   undone-fits (insertLine kind i) =
       let s = sought-slot i in
       (shrunk t (s .0), rw (eq-eqb (j .kind) insertKind kind, s .1, eq-eqb (cell (t .cells) (s .0) place) (j .place) (s .2)))

@@ -27,7 +27,9 @@ use Rattle.index_rules.specs.Ranks.{kths, positions}
 use Rattle.index_rules.specs.Fresh.{FitLengths, freshes}
 use Rattle.index_rules.specs.Contents.{Entry, entry, contents, listing, HoldSame, put, without, withPlace, In, StandsAt}
 use Rattle.index_rules.specs.Undoing.{Undoes, Fits}
-use Rattle.index_rules.specs.Calls.{Call, after, Allowed, Places, Lowest, NoneFree, Takes, Frees, OnlyPlace, Notes, OneLine, BackTo}
+use Rattle.index_rules.specs.Checked.{NoneBelow, floorAfter, insertsSound, removesSound, replacesSound, rollsSound}
+use Rattle.index_rules.specs.Batch.{FitCalls, batched, batches, singly, acceptedIn, answeredWith}
+use Rattle.index_rules.specs.Calls.{Call, called, after, Allowed, Places, Lowest, NoneFree, Takes, Frees, OnlyPlace, Notes, OneLine, BackTo}
 
 -- find on any words, for any pair.
 pub record Finds (t : Unsized) (hash key : ℕ) : Type 0 where
@@ -173,6 +175,29 @@ pub record Rolls (ix : Index) (m : ℕ) : Type 0 where
       × Undoes (slotsOf (ix .live .names)) (ix .lines) m (lengthOf (ix .lines)) (listing h) (listing g)
       × BackTo m (ix .lines) (rolls ix m .left .lines) × (slotsOf ((rolls ix m .left .live) .names) ≡ slotsOf (ix .live .names))
 
+-- One check for many calls, on an index that it said yes to.
+pub record OnceChecked (ix : Index) (fit : FitIndex ix) (h : Sound (ix .live)) : Type 0 where
+  -- after an accepted or a refused call the check would say yes again
+  pub again : (c : Call) → FitIndex (called c ix .left) × Sound (called c ix .left .live)
+  -- so the next call needs none: without it a call comes to the same, a search for a free slot from a floor below which none is free too
+  pub insert : (f hash key p : ℕ) → NoneBelow f (ix .live) → insertsSound f ix hash key p ≡ inserts ix hash key p
+  pub remove : (hash key : ℕ) → removesSound ix hash key ≡ removes ix hash key
+  pub replace : (hash key p : ℕ) → replacesSound ix hash key p ≡ replaces ix hash key p
+  pub rollback : (m : ℕ) → rollsSound ix m ≡ rolls ix m
+  -- and the floor that goes along is one again
+  pub floor : (c : Call) (f : ℕ) → NoneBelow f (ix .live) → NoneBelow (floorAfter c (called c ix .answer) f) (called c ix .left .live)
+
+-- A batch on any words: "Answers, tree and journal are those of the same calls made singly".
+pub record Batches (ix : Index) (calls answers : List ℕ) : Type 0 where
+  pub one : (batches ix calls answers .answer ≡ refused 1) ↔ ((FitIndex ix × FitCalls calls answers) → ⊥)
+  pub two : (batches ix calls answers .answer ≡ refused 2) ↔ ((FitIndex ix × FitCalls calls answers) × (Sound (ix .live) → ⊥))
+  -- "nothing is done"
+  pub nothing-written : batches ix calls answers .answer .number ≢ 0 → batches ix calls answers ≡ batched (batches ix calls answers .answer) ix answers
+  -- else it answers how many calls were accepted, each of which has its line
+  pub done : FitIndex ix → Sound (ix .live) → (c : FitCalls calls answers)
+      → (batches ix calls answers ≡ batched (given (acceptedIn (singly (c .made) ix))) (after (c .made) ix) (answeredWith (singly (c .made) ix) answers))
+      × (lengthOf (after (c .made) ix .lines) ≡ lengthOf (ix .lines) + acceptedIn (singly (c .made) ix))
+
 -- The k-th call on any words.
 pub record Kths (t : Live) (k : ℕ) : Type 0 where
   pub one : (kths t k ≡ refused 1) ↔ (Fit t → ⊥)
@@ -229,6 +254,8 @@ pub record Claims : Type 0 where
   pub remove : (ix : Index) (hash key : ℕ) → Removes ix hash key
   pub replace : (ix : Index) (hash key p : ℕ) → Replaces ix hash key p
   pub rollback : (ix : Index) (m : ℕ) → Rolls ix m
+  pub once-checked : (ix : Index) (fit : FitIndex ix) (h : Sound (ix .live)) → OnceChecked ix fit h
+  pub batch : (ix : Index) (calls answers : List ℕ) → Batches ix calls answers
   pub kth : (t : Live) (k : ℕ) → Kths t k
   pub position : (t : Live) (hash key : ℕ) → Positions t hash key
   pub fresh : (ix : Index) → Freshes ix

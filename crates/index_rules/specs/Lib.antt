@@ -13,4 +13,6 @@ pub mod Contents
 pub mod Undoing
 pub mod Calls
 pub mod Ranks
+pub mod Checked
+pub mod Batch
 pub mod Claims

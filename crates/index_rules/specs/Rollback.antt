@@ -22,18 +22,16 @@ abbrev pub takenBack : Live → Value → ℕ → Undo
 takenBack t (some x) p = pick (eqb (cell (t .cells) x place) p) (stays (shrunk t x)) misfit
 takenBack t none p = misfit
 
--- A remove line is undone by an insert: its pair is not there, and there is a free slot. A place is a 32-bit word. It goes right behind the
--- slot y, to the front where y is null.
-abbrev pub putBack : Live → Value → JournalLine → ℕ → Undo
-putBack t (some x) j y = misfit
-putBack t none j y =
-    pick (eqb (lowestFree t) null) misfit
-    (pick (ltb (j .place) 4294967296) (stays (grown t (lowestFree t) y (j .hash) (j .key) (j .place))) misfit)
+-- A remove line is undone by an insert into the free slot x: its pair is not there, and there is such a slot. A place is a 32-bit word. It
+-- goes right behind the slot y, to the front where y is null.
+abbrev pub putBack : Live → ℕ → Value → JournalLine → ℕ → Undo
+putBack t x (some own) j y = misfit
+putBack t x none j y = pick (eqb x null) misfit (pick (ltb (j .place) 4294967296) (stays (grown t x y (j .hash) (j .key) (j .place))) misfit)
 
 -- A remove line that notes a pair: "undoing it puts the pair back right behind that one".
-abbrev pub putBehind : Live → Value → Value → JournalLine → Undo
-putBehind t (some y) own j = putBack t own j y
-putBehind t none own j = misfit
+abbrev pub putBehind : Live → ℕ → Value → Value → JournalLine → Undo
+putBehind t x (some y) own j = putBack t x own j y
+putBehind t x none own j = misfit
 
 -- A replace line is undone by the old place: its pair is there with the new one. A place is a 32-bit word.
 abbrev pub placedBack : Live → Value → ℕ → Undo
@@ -41,14 +39,17 @@ placedBack t (some x) w =
     pick (eqb (cell (t .cells) x place) (w % 4294967296)) (pick (ltb (w / 4294967296) 4294967296) (stays (placedAt t x (w / 4294967296))) misfit) misfit
 placedBack t none w = misfit
 
--- A line undone on the tree t: "no other kind occurs".
-unfoldable pub undone : Live → JournalLine → Undo
-undone t j =
+-- A line undone on the tree t, where a pair that comes back takes the slot x: "no other kind occurs".
+unfoldable pub undoneInto : ℕ → Live → JournalLine → Undo
+undoneInto x t j =
     let own = soughtIn t (j .hash) (j .key) in
     pick (eqb (j .kind) insertKind) (takenBack t own (j .place))
-    (pick (eqb (j .kind) removeKind) (putBack t own j null)
-    (pick (eqb (j .kind) notedKind) (putBehind t (soughtIn t (j .priorHash) (j .priorKey)) own j)
+    (pick (eqb (j .kind) removeKind) (putBack t x own j null)
+    (pick (eqb (j .kind) notedKind) (putBehind t x (soughtIn t (j .priorHash) (j .priorKey)) own j)
     (pick (eqb (j .kind) replaceKind) (placedBack t own (j .place)) misfit)))
+
+abbrev pub undone : Live → JournalLine → Undo
+undone t j = undoneInto (lowestFree t) t j
 
 -- So many lines above m undone, from the last down.
 unfoldable pub unrolled : ℕ → Live → List ℕ → ℕ → Undo

@@ -3,12 +3,12 @@ use mathlib.Core.Path.{_≡_}
 use mathlib.Core.Logic.{_≢_, _⊎_, _↔_}
 use mathlib.Core.List.{List}
 use mathlib.Core.Bool.{true}
-use Prim.Native.Nat.{ℕ, _<_}
+use Prim.Native.Nat.{ℕ, _+_, _*_, _<_}
 use lib.Dec.{eqb}
 use lib.ListN.{length, getD, set}
 use Rattle.slots.specs.Words.{pick, state, black, red, code, fields, parts, word, store, cell, write, nameOf, rename, roomy}
 use Rattle.slots.specs.Pairs.{Pair, pair, Less, before}
-use Rattle.slots.specs.Answers.{given, nothing, refused, OneAnswer}
+use Rattle.slots.specs.Answers.{given, nothing, refused, wordOf, answerWord, OneAnswer}
 use Rattle.slots.specs.Coded.{answerOf}
 use Rattle.slots.specs.declared.answer.Answer.{Answer}
 
@@ -41,6 +41,9 @@ pub record Claims : Type 0 where
   pub given-one : (value : ℕ) → OneAnswer (λ r. answerOf r ≡ given value)
   pub nothing-one : OneAnswer (λ r. answerOf r ≡ nothing)
   pub refused-one : (number : ℕ) → OneAnswer (λ r. answerOf r ≡ refused number)
+  pub packed-one : (number value : ℕ) → OneAnswer (λ r. r ≡ value + 4294967296 * number)
+  pub word-with-one : (bare : ℕ) (a : Answer) → OneAnswer (λ r. r ≡ wordOf bare (answerOf a))
+  pub answer-word-one : (a : Answer) → OneAnswer (λ r. r ≡ answerWord (answerOf a))
   pub word-one : (words : List ℕ) (k none : ℕ) → OneAnswer (λ r. r ≡ getD words k none)
   pub put-word-one : (words : List ℕ) (k v : ℕ) → OneAnswer (λ l. l ≡ set words k v)
   pub wide-one : (words : List ℕ) (k : ℕ) → OneAnswer (λ r. r ≡ getD words k 0)

@@ -5,7 +5,8 @@ use native.Mathlib.Omega.{arith}
 use denote.Ref.{now}
 use Rattle.tree_rules.specs.Find.{Counted}
 use Rattle.set_rules.specs.Words.{lentSet}
-use Rattle.exports.specs.Words.{answerWord, searchWord}
+use Rattle.slots.specs.Answers.{answerWord}
+use Rattle.exports.specs.Words.{searchWord}
 use Rattle.exports.proofs.Answering.{lookups-plain, lookups-looks, answer-below}
 use borrow.Author.Needs.{needs}
 use Rattle.exports.proofs.frozen.oz_lookup.Statement.{statement}

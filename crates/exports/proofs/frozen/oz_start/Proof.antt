@@ -3,7 +3,7 @@ use mathlib.Core.Path.{ap, _∙_}
 use Rattle.exports.specs.Cursors.{startedInto}
 use Rattle.exports.proofs.Keeping.{short, long}
 use denote.Ref.{now}
-use Rattle.exports.specs.Words.{answerWord}
+use Rattle.slots.specs.Answers.{answerWord}
 use borrow.Author.Needs.{needs}
 use Rattle.exports.proofs.frozen.oz_start.Statement.{statement}
 use Rattle.exports.proofs.frozen.oz_start.Tie as tie
@@ -21,8 +21,8 @@ start-requires c κs = search needs
 answer-requires : tie.Need-answer-requires
 answer-requires c κs = search needs
 
-word-requires : tie.Need-word-requires
-word-requires c κs = search needs
+answer-word-requires : tie.Need-answer-word-requires
+answer-word-requires c κs = search needs
 
 keep-requires : tie.Need-keep-requires
 keep-requires c κs = search needs
@@ -38,7 +38,7 @@ returns-2 c =
     let at-answer = at-word .before in
     let at-start = at-answer .before .before in
     let a = at-start .before .before .before .before .before .before .before .before .args in
-    long (now (a .cursor)) (at-start .before .if1 .left) (at-word .word .ensures ∙ ap answerWord (at-answer .answer .ensures)) (at-start .start .ensures) (at-keep .keep .ensures)
+    long (now (a .cursor)) (at-start .before .if1 .left) (at-word .answer-word .ensures ∙ ap answerWord (at-answer .answer .ensures)) (at-start .start .ensures) (at-keep .keep .ensures)
 
 pub oz-start-spec : {M : Type 1} → statement M
 oz-start-spec =
@@ -48,7 +48,7 @@ oz-start-spec =
     returns
     start-requires
     answer-requires
-    word-requires
+    answer-word-requires
     keep-requires
     same-length
     returns-2)

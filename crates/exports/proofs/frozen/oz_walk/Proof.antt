@@ -4,7 +4,7 @@ use Rattle.set_rules.specs.Walk.{nexts}
 use Rattle.exports.specs.Cursors.{walkedInto}
 use Rattle.exports.proofs.Keeping.{short, long}
 use denote.Ref.{now}
-use Rattle.exports.specs.Words.{answerWord}
+use Rattle.slots.specs.Answers.{answerWord}
 use borrow.Author.Needs.{needs}
 use Rattle.exports.proofs.frozen.oz_walk.Statement.{statement}
 use Rattle.exports.proofs.frozen.oz_walk.Tie as tie
@@ -25,8 +25,8 @@ next-requires c κs = search needs
 answer-requires : tie.Need-answer-requires
 answer-requires c κs = search needs
 
-word-requires : tie.Need-word-requires
-word-requires c κs = search needs
+answer-word-requires : tie.Need-answer-word-requires
+answer-word-requires c κs = search needs
 
 keep-requires : tie.Need-keep-requires
 keep-requires c κs = search needs
@@ -43,7 +43,7 @@ returns-2 c =
     let at-next = at-answer .before .before in
     let at-read = at-next .before in
     let a = at-read .before .before .before .before .before .before .before .before .before .args in
-    long (now (a .cursor)) (at-read .before .before .if1 .left) (at-word .word .ensures ∙ ap answerWord (at-answer .answer .ensures)) (at-next .next .ensures ∙ ap (nexts _) (at-read .read .ensures)) (at-keep .keep .ensures)
+    long (now (a .cursor)) (at-read .before .before .if1 .left) (at-word .answer-word .ensures ∙ ap answerWord (at-answer .answer .ensures)) (at-next .next .ensures ∙ ap (nexts _) (at-read .read .ensures)) (at-keep .keep .ensures)
 
 pub oz-walk-spec : {M : Type 1} → statement M
 oz-walk-spec =
@@ -54,7 +54,7 @@ oz-walk-spec =
     read-requires
     next-requires
     answer-requires
-    word-requires
+    answer-word-requires
     keep-requires
     same-length
     returns-2)

@@ -1,6 +1,6 @@
 -- The library answers what the model does, and its word is that answer's.
 use mathlib.Core.Path.{ap, _∙_}
-use Rattle.exports.specs.Words.{answerWord}
+use Rattle.slots.specs.Answers.{answerWord}
 use borrow.Author.Needs.{needs}
 use Rattle.exports.proofs.reads.oz_position.Statement.{statement}
 use Rattle.exports.proofs.reads.oz_position.Tie as tie
@@ -11,11 +11,11 @@ position-requires c κs = search needs
 answer-requires : tie.Need-answer-requires
 answer-requires c κs = search needs
 
-word-requires : tie.Need-word-requires
-word-requires c κs = search needs
+answer-word-requires : tie.Need-answer-word-requires
+answer-word-requires c κs = search needs
 
 returns : tie.Need-returns
-returns c = c .word .ensures ∙ ap answerWord (c .before .answer .ensures ∙ c .before .before .position .ensures)
+returns c = c .answer-word .ensures ∙ ap answerWord (c .before .answer .ensures ∙ c .before .before .position .ensures)
 
 pub oz-position-spec : {M : Type 1} → statement M
-oz-position-spec = tie.close (tie.spec position-requires answer-requires word-requires returns)
+oz-position-spec = tie.close (tie.spec position-requires answer-requires answer-word-requires returns)

@@ -1,6 +1,6 @@
 -- The library comes to what the model does, and its word is that answer's.
 use mathlib.Core.Path.{ap, _∙_}
-use Rattle.exports.specs.Words.{answerWord}
+use Rattle.slots.specs.Answers.{answerWord}
 use borrow.Author.Needs.{needs}
 use Rattle.exports.proofs.Telling.{tells}
 use Rattle.exports.proofs.writes.oz_insert.Statement.{statement}
@@ -12,8 +12,8 @@ insert-requires c κs = search needs
 answer-requires : tie.Need-answer-requires
 answer-requires c κs = search needs
 
-word-requires : tie.Need-word-requires
-word-requires c κs = search needs
+answer-word-requires : tie.Need-answer-word-requires
+answer-word-requires c κs = search needs
 
 same-length : tie.Need-same-length
 same-length c = search needs
@@ -34,7 +34,7 @@ returns : tie.Need-returns
 returns c =
     let c1 = c .before in
     let c2 = c1 .before .before .before .before .before .before .before .before .before .before .before in
-    tells (c .word .ensures ∙ ap answerWord (c1 .answer .ensures)) (c2 .insert .ensures)
+    tells (c .answer-word .ensures ∙ ap answerWord (c1 .answer .ensures)) (c2 .insert .ensures)
 
 pub oz-insert-spec : {M : Type 1} → statement M
 oz-insert-spec =
@@ -42,7 +42,7 @@ oz-insert-spec =
     (tie.spec
     insert-requires
     answer-requires
-    word-requires
+    answer-word-requires
     same-length
     same-length-2
     same-length-3

@@ -1,26 +1,21 @@
 -- The loop's invariant: the search from here finds what the search from the start finds.
-use mathlib.Core.Path.{_≡_, ap}
-use Prim.Native.Nat.{ℕ, _≤_, _-_}
-use native.Mathlib.Omega.{arith}
+use mathlib.Core.Path.{_≡_, refl}
+use Prim.Native.Nat.{_-_}
 use denote.Ref.{now}
 use borrow.Author.Needs.{needs}
-use Rattle.slots.specs.Words.{null}
 use Rattle.index_rules.specs.Insert.{freeFrom}
 use Rattle.index.proofs.Growing.{free-here, free-on, free-end}
 use Rattle.index.proofs.grow.lowest_free.Statement.{statement}
 use Rattle.index.proofs.grow.lowest_free.Tie as tie
 
 abbrev Inv-loop : tie.InvT-loop
-Inv-loop cells n k₀ k = (freeFrom (n - k) cells k ≡ freeFrom n cells 0) × (k ≤ n)
+Inv-loop cells n floor k₀ k = freeFrom (n - k) cells k ≡ freeFrom (n - floor) cells floor
 
 abbrev μ-loop : tie.MeasureT-loop
-μ-loop cells n k₀ k = n - k
+μ-loop cells n floor k₀ k = n - k
 
 loop-holds : tie.Need-loop-holds Inv-loop μ-loop
-loop-holds c =
-    let a = c .before .args in
-    let z : a .n - 0 ≡ a .n = omega arith in
-    (ap (λ (m : ℕ). freeFrom m (now (a .cells)) 0) z, search needs)
+loop-holds c = refl
 
 get-requires : tie.Need-get-requires Inv-loop μ-loop
 get-requires c κs = search needs
@@ -31,8 +26,7 @@ returns c =
     let c2 = c1 .before in
     let c3 = c2 .before in
     let a = c3 .before .before .args in
-    let most : a .n ≤ null = omega arith in
-    free-here (now (a .cells)) (a .n) (c3 .loop .k) (c3 .loop .inv .0) (c2 .loop-test .taken) most (c1 .get .ensures) (c .if1 .taken)
+    free-here (now (a .cells)) (a .n) (c3 .loop .k) (c3 .loop .inv) (c2 .loop-test .taken) (c1 .get .ensures) (c .if1 .taken)
 
 add-k : tie.Need-add-k Inv-loop μ-loop
 add-k c = search needs
@@ -45,16 +39,14 @@ loop-again c =
     let c1 = c .before in
     let c2 = c1 .before in
     let c3 = c2 .before in
-    let a = c3 .before .before .args in (
-      free-on (now (a .cells)) (a .n) (c3 .loop .k) (c3 .loop .inv .0) (c2 .loop-test .taken) (c1 .get .ensures) (c .if1 .left),
-      search needs,
-    )
+    let a = c3 .before .before .args in
+    free-on (now (a .cells)) (a .n) (c3 .loop .k) (c3 .loop .inv) (c2 .loop-test .taken) (c1 .get .ensures) (c .if1 .left)
 
 returns-2 : tie.Need-returns-2 Inv-loop μ-loop
 returns-2 c =
     let c1 = c .before in
     let a = c1 .before .before .args in
-    free-end (now (a .cells)) (a .n) (c1 .loop .k) (c1 .loop .inv .0) (c .loop-test .left)
+    free-end (now (a .cells)) (a .n) (c1 .loop .k) (c1 .loop .inv) (c .loop-test .left)
 
 pub lowest-free-spec : {M : Type 1} → statement M
 lowest-free-spec =

@@ -1,10 +1,10 @@
--- Each way out closes by the search and the tests that led there.
-use mathlib.Core.Path.{sym, ap, _∙_}
-use Rattle.index.specs.Frees.{freeOf}
+-- Each way out closes by the search and the tests that led there; no slot is freed.
+use Prim.{tt}
+use mathlib.Core.Path.{refl, _∙_}
+use Rattle.index_rules.specs.Index.{lineMade}
 use Rattle.index.proofs.Room.{grown-is}
 use Rattle.index.proofs.Asking.{sought-at, sought-not}
 use Rattle.index.proofs.Undoing.{put-there, put-full, put-wide, put-done}
-use Rattle.index_rules.specs.Index.{lineMade}
 use borrow.Author.Needs.{needs}
 use Rattle.index.proofs.lines.put_back.Statement.{statement}
 use Rattle.index.proofs.lines.put_back.Tie as tie
@@ -18,18 +18,6 @@ find-tree-node-requires c κs = search needs
 enum-told : tie.Need-enum-told
 enum-told c = search needs
 
-cast-lowest-free : tie.Need-cast-lowest-free
-cast-lowest-free c = search needs
-
-lowest-free-requires : tie.Need-lowest-free-requires
-lowest-free-requires c κs = search needs
-
-enum-known-free : tie.Need-enum-known-free
-enum-known-free c = search needs
-
-enum-told-2 : tie.Need-enum-told-2
-enum-told-2 c = search needs
-
 same-length : tie.Need-same-length
 same-length c = search needs
 
@@ -40,15 +28,12 @@ same-length-3 : tie.Need-same-length-3
 same-length-3 c = search needs
 
 returns : tie.Need-returns
-returns c kind prehash prekey =
-    let c1 = c .before .before in
-    let c2 = c1 .before .before in
-    let c3 = c2 .before in
-    let c4 = c3 .before .before .before in
-    let a = c4 .before .before .before .before .before .before .args in
-    put-full _ (lineMade kind (a .hash) (a .key) (a .place) prehash prekey) (a .y)
-    (sought-not _ _ _ (c4 .word .ensures) (c3 .find-tree-node .result) (c3 .find-tree-node .ensures) (c2 .match .keys2))
-    (ap freeOf (sym (c .enum-told2 .given .1)) ∙ c1 .lowest-free .ensures)
+returns c =
+    let c1 = c .before in
+    let c2 = c1 .before in
+    let c3 = c2 .before .before .before in
+    let a = c3 .before .before .before .before .before .before .args in
+    (λ kind prehash prekey. put-full _ (lineMade kind (a .hash) (a .key) (a .place) prehash prekey) (a .x) (a .y) (sought-not _ _ _ (c3 .word .ensures) (c2 .find-tree-node .result) (c2 .find-tree-node .ensures) (c1 .match .keys2)) (c .if1 .taken), tt)
 
 same-length-4 : tie.Need-same-length-4
 same-length-4 c = search needs
@@ -60,17 +45,13 @@ same-length-6 : tie.Need-same-length-6
 same-length-6 c = search needs
 
 returns-2 : tie.Need-returns-2
-returns-2 c kind prehash prekey =
-    let c1 = c .before .before in
-    let c2 = c1 .before .before in
-    let c3 = c2 .before .before in
-    let c4 = c3 .before in
-    let c5 = c4 .before .before .before in
-    let a = c5 .before .before .before .before .before .before .args in
-    put-wide _ (lineMade kind (a .hash) (a .key) (a .place) prehash prekey) (a .y)
-    (sought-not _ _ _ (c5 .word .ensures) (c4 .find-tree-node .result) (c4 .find-tree-node .ensures) (c3 .match .keys2))
-    (ap freeOf (sym (c1 .free .given .1)) ∙ c2 .lowest-free .ensures)
-    (c .if1 .taken)
+returns-2 c =
+    let c1 = c .before in
+    let c2 = c1 .before in
+    let c3 = c2 .before in
+    let c4 = c3 .before .before .before in
+    let a = c4 .before .before .before .before .before .before .args in
+    (λ kind prehash prekey. put-wide _ (lineMade kind (a .hash) (a .key) (a .place) prehash prekey) (a .x) (a .y) (sought-not _ _ _ (c4 .word .ensures) (c3 .find-tree-node .result) (c3 .find-tree-node .ensures) (c2 .match .keys2)) (c1 .if1 .left) (c .if2 .taken), tt)
 
 cast-grow : tie.Need-cast-grow
 cast-grow c = search needs
@@ -91,21 +72,19 @@ same-length-10 : tie.Need-same-length-10
 same-length-10 c = search needs
 
 returns-3 : tie.Need-returns-3
-returns-3 c kind prehash prekey =
-    let c1 = c .before .before .before .before .before .before .before .before in
-    let c2 = c1 .before .before .before .before .before in
-    let c3 = c2 .before .before in
-    let c4 = c3 .before .before in
-    let c5 = c4 .before .before in
-    let c6 = c5 .before in
-    let c7 = c6 .before .before .before in
-    let c8 = c7 .before .before .before .before .before .before in
-    let a = c8 .args in
-    put-done _ (lineMade kind (a .hash) (a .key) (a .place) prehash prekey) (a .y)
-    (sought-not _ _ _ (c7 .word .ensures) (c6 .find-tree-node .result) (c6 .find-tree-node .ensures) (c5 .match .keys2))
-    (ap freeOf (sym (c3 .free .given .1)) ∙ c4 .lowest-free .ensures)
-    (c2 .if1 .left)
-    (c1 .grow .ensures ∙ grown-is _ (c8 .pre .0) _ _ _ _ _ (c8 .pre .1))
+returns-3 c =
+    let c5 = c .before .before .before .before .before .before .before .before in
+    let c6 = c5 .before .before .before .before .before in
+    let c7 = c6 .before in
+    let c8 = c7 .before in
+    let c9 = c8 .before in
+    let c10 = c9 .before .before .before in
+    let c11 = c10 .before .before .before .before .before .before in
+    let a = c11 .args in (
+      λ kind prehash prekey. put-done _ (lineMade kind (a .hash) (a .key) (a .place) prehash prekey) (a .x) (a .y) (sought-not _ _ _ (c10 .word .ensures) (c9 .find-tree-node .result) (c9 .find-tree-node .ensures) (c8 .match .keys2)) (c7 .if1 .left) (c6 .if2 .left)
+          (c5 .grow .ensures ∙ grown-is _ (c11 .pre .0) _ _ _ _ _ (c11 .pre .1)),
+      refl,
+    )
 
 same-length-11 : tie.Need-same-length-11
 same-length-11 c = search needs
@@ -117,12 +96,11 @@ same-length-13 : tie.Need-same-length-13
 same-length-13 c = search needs
 
 returns-4 : tie.Need-returns-4
-returns-4 c kind prehash prekey =
-    let c1 = c .before .before in
-    let c2 = c1 .before .before .before in
-    let a = c2 .before .before .before .before .before .before .args in
-    put-there _ (lineMade kind (a .hash) (a .key) (a .place) prehash prekey) (a .y)
-    (sought-at _ _ _ (c2 .word .ensures) (c1 .find-tree-node .result) (c1 .find-tree-node .ensures) (c .enum-told .given .1))
+returns-4 c =
+    let c2 = c .before .before in
+    let c3 = c2 .before .before .before in
+    let a = c3 .before .before .before .before .before .before .args in
+    (λ kind prehash prekey. put-there _ (lineMade kind (a .hash) (a .key) (a .place) prehash prekey) (a .x) (a .y) (sought-at _ _ _ (c3 .word .ensures) (c2 .find-tree-node .result) (c2 .find-tree-node .ensures) (c .enum-told .given .1)), tt)
 
 pub put-back-spec : {M : Type 1} → statement M
 put-back-spec =
@@ -131,10 +109,6 @@ put-back-spec =
     word-requires
     find-tree-node-requires
     enum-told
-    cast-lowest-free
-    lowest-free-requires
-    enum-known-free
-    enum-told-2
     same-length
     same-length-2
     same-length-3

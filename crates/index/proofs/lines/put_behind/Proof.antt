@@ -1,4 +1,5 @@
 -- The noted pair is not there, or the pair comes back behind it.
+use Prim.{tt}
 use Rattle.index.proofs.Asking.{sought-at, sought-not}
 use Rattle.index.proofs.Undoing.{behind-none, behind-some}
 use borrow.Author.Needs.{needs}
@@ -29,10 +30,10 @@ same-length-3 : tie.Need-same-length-3
 same-length-3 c = search needs
 
 returns : tie.Need-returns
-returns c kind =
+returns c =
     let c1 = c .before in
     let c2 = c1 .before .before .before in
-    behind-none _ _ _ _ _ (sought-not _ _ _ (c2 .word .ensures) (c1 .find-tree-node .result) (c1 .find-tree-node .ensures) (c .match .keys2))
+    (λ kind. behind-none _ _ _ _ _ _ (sought-not _ _ _ (c2 .word .ensures) (c1 .find-tree-node .result) (c1 .find-tree-node .ensures) (c .match .keys2)), tt)
 
 put-back-requires : tie.Need-put-back-requires
 put-back-requires c κs = search needs
@@ -50,14 +51,14 @@ same-length-7 : tie.Need-same-length-7
 same-length-7 c = search needs
 
 returns-2 : tie.Need-returns-2
-returns-2 c kind =
+returns-2 c =
     let c1 = c .before .before .before .before .before .before .before .before in
     let c2 = c1 .before .before .before .before .before .before in
     let c3 = c2 .before .before in
     let c4 = c3 .before .before .before in
     let a = c4 .before .before .before .before .before .before .args in
-    behind-some _ _ _ _ _ (sought-at _ _ _ (c4 .word .ensures) (c3 .find-tree-node .result) (c3 .find-tree-node .ensures) (c2 .found .given .1))
-    (c1 .put-back .ensures kind (a .prehash) (a .prekey))
+    let s = sought-at _ _ _ (c4 .word .ensures) (c3 .find-tree-node .result) (c3 .find-tree-node .ensures) (c2 .found .given .1) in
+    (λ kind. behind-some _ _ _ _ _ _ s (c1 .put-back .ensures .0 kind (a .prehash) (a .prekey)), c1 .put-back .ensures .1)
 
 pub put-behind-spec : {M : Type 1} → statement M
 put-behind-spec =

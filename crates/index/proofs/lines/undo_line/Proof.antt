@@ -1,17 +1,11 @@
 -- The line's kind decides which of the drivers undoes it.
+use Prim.{tt}
 use denote.Ref.{now}
 use Rattle.index_rules.specs.Live.{lentTree}
-use Rattle.index.proofs.Undoing.{line-insert, line-remove, line-noted, line-replace, line-other}
+use Rattle.index.proofs.Undoing.{line-insert, line-remove, line-noted, line-replace, line-other, frees-own, frees-none}
 use borrow.Author.Needs.{needs}
 use Rattle.index.proofs.lines.undo_line.Statement.{statement}
 use Rattle.index.proofs.lines.undo_line.Tie as tie
-use Rattle.index.proofs.lines.undo_line.Reads as reads
-use Rattle.index.proofs.lines.undo_line.Lts as lts
-use Rattle.index.proofs.journal.line_word.Reads as line-word-reads
-use Rattle.index.proofs.lines.place_back.Reads as place-back-reads
-use Rattle.index.proofs.lines.put_back.Reads as put-back-reads
-use Rattle.index.proofs.lines.put_behind.Reads as put-behind-reads
-use Rattle.index.proofs.lines.take_back.Reads as take-back-reads
 
 line-word-requires : tie.Need-line-word-requires
 line-word-requires c κs = search needs
@@ -48,14 +42,16 @@ returns c =
     let c4 = c3 .before in
     let c5 = c4 .before in
     let c6 = c5 .before in
-    let a = c6 .before .before .before .before .before .before .args in
-    line-insert (lentTree (now (a .names)) (now (a .cells)) (now (a .head)) (now (a .sizes))) (now (a .lines)) (a .k)
-    (c6 .line-word .ensures)
-    (c5 .line-word2 .ensures)
-    (c4 .line-word3 .ensures)
-    (c3 .line-word4 .ensures)
-    (c2 .if1 .taken)
-    (c1 .take-back .ensures)
+    let a = c6 .before .before .before .before .before .before .args in (
+      line-insert (lentTree (now (a .names)) (now (a .cells)) (now (a .head)) (now (a .sizes))) (now (a .lines)) (a .k) (a .x)
+          (c6 .line-word .ensures)
+          (c5 .line-word2 .ensures)
+          (c4 .line-word3 .ensures)
+          (c3 .line-word4 .ensures)
+          (c2 .if1 .taken)
+          (c1 .take-back .ensures .0),
+      frees-own (lentTree (now (a .names)) (now (a .cells)) (now (a .head)) (now (a .sizes))) (now (a .lines)) (a .k) (c6 .line-word .ensures) (c5 .line-word2 .ensures) (c4 .line-word3 .ensures) (c1 .take-back .result) (c2 .if1 .taken) (c1 .take-back .ensures .1),
+    )
 
 put-back-requires : tie.Need-put-back-requires
 put-back-requires c κs = search needs
@@ -81,15 +77,17 @@ returns-2 c =
     let c5 = c4 .before in
     let c6 = c5 .before in
     let c7 = c6 .before in
-    let a = c7 .before .before .before .before .before .before .args in
-    line-remove (lentTree (now (a .names)) (now (a .cells)) (now (a .head)) (now (a .sizes))) (now (a .lines)) (a .k)
-    (c7 .line-word .ensures)
-    (c6 .line-word2 .ensures)
-    (c5 .line-word3 .ensures)
-    (c4 .line-word4 .ensures)
-    (c3 .if1 .left)
-    (c2 .if2 .taken)
-    (c1 .put-back .ensures)
+    let a = c7 .before .before .before .before .before .before .args in (
+      line-remove (lentTree (now (a .names)) (now (a .cells)) (now (a .head)) (now (a .sizes))) (now (a .lines)) (a .k) (a .x)
+          (c7 .line-word .ensures)
+          (c6 .line-word2 .ensures)
+          (c5 .line-word3 .ensures)
+          (c4 .line-word4 .ensures)
+          (c3 .if1 .left)
+          (c2 .if2 .taken)
+          (c1 .put-back .ensures .0),
+      frees-none (lentTree (now (a .names)) (now (a .cells)) (now (a .head)) (now (a .sizes))) (now (a .lines)) (a .k) (c7 .line-word .ensures) (c6 .line-word2 .ensures) (c5 .line-word3 .ensures) (c1 .put-back .result) (c3 .if1 .left) (c1 .put-back .ensures .1),
+    )
 
 line-word-requires-5 : tie.Need-line-word-requires-5
 line-word-requires-5 c κs = search needs
@@ -124,18 +122,20 @@ returns-3 c =
     let c8 = c7 .before in
     let c9 = c8 .before in
     let c10 = c9 .before in
-    let a = c10 .before .before .before .before .before .before .args in
-    line-noted (lentTree (now (a .names)) (now (a .cells)) (now (a .head)) (now (a .sizes))) (now (a .lines)) (a .k)
-    (c10 .line-word .ensures)
-    (c9 .line-word2 .ensures)
-    (c8 .line-word3 .ensures)
-    (c7 .line-word4 .ensures)
-    (c6 .if1 .left)
-    (c5 .if2 .left)
-    (c4 .if3 .taken)
-    (c3 .line-word5 .ensures)
-    (c2 .line-word6 .ensures)
-    (c1 .put-behind .ensures)
+    let a = c10 .before .before .before .before .before .before .args in (
+      line-noted (lentTree (now (a .names)) (now (a .cells)) (now (a .head)) (now (a .sizes))) (now (a .lines)) (a .k) (a .x)
+          (c10 .line-word .ensures)
+          (c9 .line-word2 .ensures)
+          (c8 .line-word3 .ensures)
+          (c7 .line-word4 .ensures)
+          (c6 .if1 .left)
+          (c5 .if2 .left)
+          (c4 .if3 .taken)
+          (c3 .line-word5 .ensures)
+          (c2 .line-word6 .ensures)
+          (c1 .put-behind .ensures .0),
+      frees-none (lentTree (now (a .names)) (now (a .cells)) (now (a .head)) (now (a .sizes))) (now (a .lines)) (a .k) (c10 .line-word .ensures) (c9 .line-word2 .ensures) (c8 .line-word3 .ensures) (c1 .put-behind .result) (c6 .if1 .left) (c1 .put-behind .ensures .1),
+    )
 
 place-back-requires : tie.Need-place-back-requires
 place-back-requires c κs = search needs
@@ -163,17 +163,19 @@ returns-4 c =
     let c7 = c6 .before in
     let c8 = c7 .before in
     let c9 = c8 .before in
-    let a = c9 .before .before .before .before .before .before .args in
-    line-replace (lentTree (now (a .names)) (now (a .cells)) (now (a .head)) (now (a .sizes))) (now (a .lines)) (a .k)
-    (c9 .line-word .ensures)
-    (c8 .line-word2 .ensures)
-    (c7 .line-word3 .ensures)
-    (c6 .line-word4 .ensures)
-    (c5 .if1 .left)
-    (c4 .if2 .left)
-    (c3 .if3 .left)
-    (c2 .if4 .taken)
-    (c1 .place-back .ensures)
+    let a = c9 .before .before .before .before .before .before .args in (
+      line-replace (lentTree (now (a .names)) (now (a .cells)) (now (a .head)) (now (a .sizes))) (now (a .lines)) (a .k) (a .x)
+          (c9 .line-word .ensures)
+          (c8 .line-word2 .ensures)
+          (c7 .line-word3 .ensures)
+          (c6 .line-word4 .ensures)
+          (c5 .if1 .left)
+          (c4 .if2 .left)
+          (c3 .if3 .left)
+          (c2 .if4 .taken)
+          (c1 .place-back .ensures .0),
+      frees-none (lentTree (now (a .names)) (now (a .cells)) (now (a .head)) (now (a .sizes))) (now (a .lines)) (a .k) (c9 .line-word .ensures) (c8 .line-word2 .ensures) (c7 .line-word3 .ensures) (c1 .place-back .result) (c5 .if1 .left) (c1 .place-back .ensures .1),
+    )
 
 returns-5 : tie.Need-returns-5
 returns-5 c =
@@ -184,16 +186,18 @@ returns-5 c =
     let c5 = c4 .before in
     let c6 = c5 .before in
     let c7 = c6 .before in
-    let a = c7 .before .before .before .before .before .before .args in
-    line-other (lentTree (now (a .names)) (now (a .cells)) (now (a .head)) (now (a .sizes))) (now (a .lines)) (a .k)
-    (c7 .line-word .ensures)
-    (c6 .line-word2 .ensures)
-    (c5 .line-word3 .ensures)
-    (c4 .line-word4 .ensures)
-    (c3 .if1 .left)
-    (c2 .if2 .left)
-    (c1 .if3 .left)
-    (c .if4 .left)
+    let a = c7 .before .before .before .before .before .before .args in (
+      line-other (lentTree (now (a .names)) (now (a .cells)) (now (a .head)) (now (a .sizes))) (now (a .lines)) (a .k) (a .x)
+          (c7 .line-word .ensures)
+          (c6 .line-word2 .ensures)
+          (c5 .line-word3 .ensures)
+          (c4 .line-word4 .ensures)
+          (c3 .if1 .left)
+          (c2 .if2 .left)
+          (c1 .if3 .left)
+          (c .if4 .left),
+      tt,
+    )
 
 pub undo-line-spec : {M : Type 1} → statement M
 undo-line-spec =

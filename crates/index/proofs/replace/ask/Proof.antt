@@ -1,6 +1,6 @@
 -- The tests that replace shares with remove settle its own answer.
 use mathlib.Core.Path.{ap, sym, _∙_}
-use Rattle.index_rules.specs.Replace.{replaces}
+use Rattle.index_rules.specs.Checked.{replacesSound}
 use Rattle.index.specs.Calls.{presenceOf}
 use borrow.Author.Needs.{needs}
 use Rattle.index.proofs.replace.ask.Statement.{statement}
@@ -25,32 +25,32 @@ enum-told-4 : tie.Need-enum-told-4
 enum-told-4 c = search needs
 
 returns : tie.Need-returns
-unfolding replaces
+unfolding replacesSound
 returns c p =
     let c1 = c .before in
     let c3 = c1 .before .before in
     ap presenceOf (sym (c1 .presence .given .1)) ∙ c3 .present .ensures _
 
 returns-2 : tie.Need-returns-2
-unfolding replaces
+unfolding replacesSound
 returns-2 c p =
     let c2 = c .before .before in
     ap presenceOf (sym (c .enum-told .given .1)) ∙ c2 .present .ensures _
 
 returns-3 : tie.Need-returns-3
-unfolding replaces
+unfolding replacesSound
 returns-3 c p =
     let c2 = c .before .before in
     ap presenceOf (sym (c .enum-told2 .given .1)) ∙ c2 .present .ensures _
 
 returns-4 : tie.Need-returns-4
-unfolding replaces
+unfolding replacesSound
 returns-4 c p =
     let c2 = c .before .before in
     ap presenceOf (sym (c .enum-told3 .given .1)) ∙ c2 .present .ensures _
 
 returns-5 : tie.Need-returns-5
-unfolding replaces
+unfolding replacesSound
 returns-5 c p =
     let c2 = c .before .before in
     ap presenceOf (sym (c .enum-told4 .given .1)) ∙ c2 .present .ensures _

@@ -1,18 +1,18 @@
--- A refusal leaves all as it is; else the slot has the new place and the journal takes a line with both, as the model says.
-use mathlib.Core.Path.{sym, ap, _∙_}
-use Rattle.index.proofs.Room.{appended-is}
-use Rattle.index.specs.Calls.{replacedOf}
-use Rattle.index.proofs.Asking.{kept, done, lines-most}
-use Rattle.index.proofs.Replacing.{settled, moved, not-at}
+-- The two tests, and then the call where they have said yes.
+use Rattle.index.proofs.Asking.{is-fit, is-unfit, tree-fits, is-sound, not-sound}
+use Rattle.index.proofs.Singly.{replace-unfit, replace-damaged, replace-goes}
 use borrow.Author.Needs.{needs}
 use Rattle.index.proofs.replace.replace.Statement.{statement}
 use Rattle.index.proofs.replace.replace.Tie as tie
 
-ask-requires : tie.Need-ask-requires
-ask-requires c κs = search needs
+fit-index-requires : tie.Need-fit-index-requires
+fit-index-requires c κs = search needs
 
-enum-known-asked : tie.Need-enum-known-asked
-enum-known-asked c = search needs
+enum-told : tie.Need-enum-told
+enum-told c = search needs
+
+enum-told-2 : tie.Need-enum-told-2
+enum-told-2 c = search needs
 
 same-length : tie.Need-same-length
 same-length c = search needs
@@ -22,21 +22,15 @@ same-length-2 c = search needs
 
 returns : tie.Need-returns
 returns c =
-    let c1 = c .before in
-    let a = c1 .before .before .before .before .before .before .before .before .args in
-    kept _ _ _ (settled _ (a .hash) (a .key) (a .place)) _ (not-at (c1 .ask .result) (c .match .keys2)) (c1 .ask .ensures (a .place))
+    let c2 = c .before .before in
+    let a = c2 .before .before .before .before .before .before .before .before .args in
+    replace-unfit _ (is-unfit _ (c2 .fit-index .ensures) (c .enum-told2 .given .1)) (a .hash) (a .key) (a .place)
 
-get-requires : tie.Need-get-requires
-get-requires c κs = search needs
+sound-requires : tie.Need-sound-requires
+sound-requires c κs = search needs
 
-put-requires : tie.Need-put-requires
-put-requires c κs = search needs
-
-both-places-requires : tie.Need-both-places-requires
-both-places-requires c κs = search needs
-
-append-requires : tie.Need-append-requires
-append-requires c κs = search needs
+enum-told-3 : tie.Need-enum-told-3
+enum-told-3 c = search needs
 
 same-length-3 : tie.Need-same-length-3
 same-length-3 c = search needs
@@ -46,34 +40,49 @@ same-length-4 c = search needs
 
 returns-2 : tie.Need-returns-2
 returns-2 c =
-    let c1 = c .before .before in
-    let c2 = c1 .before in
-    let c3 = c2 .before .before .before .before in
+    let c1 = c .before in
+    let c2 = c1 .before .before in
+    let c4 = c2 .before .before in
+    let a = c4 .before .before .before .before .before .before .before .before .args in
+    let f = is-fit _ (c4 .fit-index .ensures) (c2 .enum-told .given .1) in
+    replace-damaged _ f (not-sound _ (tree-fits _ f) (c1 .sound .result) (c1 .sound .ensures) (c .match2 .keys2)) (a .hash) (a .key) (a .place)
+
+replace-sound-requires : tie.Need-replace-sound-requires
+replace-sound-requires c κs = search needs
+
+same-length-5 : tie.Need-same-length-5
+same-length-5 c = search needs
+
+same-length-6 : tie.Need-same-length-6
+same-length-6 c = search needs
+
+returns-3 : tie.Need-returns-3
+returns-3 c =
+    let c1 = c .before .before .before .before in
+    let c2 = c1 .before .before .before in
+    let c3 = c2 .before .before in
     let c4 = c3 .before .before in
-    let c5 = c4 .before .before .before in
-    let c6 = c5 .before .before in
+    let c6 = c4 .before .before in
     let a = c6 .before .before .before .before .before .before .before .before .args in
-    let d = done _ _ _ (settled _ (a .hash) (a .key) (a .place)) _ (ap replacedOf (sym (c5 .asked .given .1)) ∙ c6 .ask .ensures (a .place)) in
-    moved _ _ _ _
-    (c4 .get .ensures)
-    (c3 .put .ensures)
-    (c2 .both-places .ensures)
-    (c1 .append .ensures ∙ appended-is _ _ (lines-most d))
-    (d .left)
+    let f = is-fit _ (c6 .fit-index .ensures) (c4 .enum-told .given .1) in
+    replace-goes _ f (is-sound _ (tree-fits _ f) (c3 .sound .result) (c3 .sound .ensures) (c2 .enum-told3 .given .1)) (a .hash) (a .key) (a .place) (c1 .replace-sound .ensures)
 
 pub replace-spec : {M : Type 1} → statement M
 replace-spec =
     tie.close
     (tie.spec
-    ask-requires
-    enum-known-asked
+    fit-index-requires
+    enum-told
+    enum-told-2
     same-length
     same-length-2
     returns
-    get-requires
-    put-requires
-    both-places-requires
-    append-requires
+    sound-requires
+    enum-told-3
     same-length-3
     same-length-4
-    returns-2)
+    returns-2
+    replace-sound-requires
+    same-length-5
+    same-length-6
+    returns-3)

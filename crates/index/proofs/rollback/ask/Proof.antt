@@ -1,7 +1,7 @@
 -- The tests in the rules' order settle the model's, and the answer is the one that they come to.
 use native.Mathlib.Omega.{arith}
 use Rattle.index_rules.proofs.Journal.{fits-index}
-use Rattle.index.proofs.Asking.{is-fit, is-unfit, tree-fits, is-sound, not-sound}
+use Rattle.index.proofs.Asking.{is-fit, is-unfit, holds, fails}
 use Rattle.index.proofs.Rolling.{unfit, damaged, bad-mark, good-mark}
 use borrow.Author.Needs.{needs}
 use Rattle.index.proofs.rollback.ask.Statement.{statement}
@@ -21,19 +21,15 @@ returns c =
     let c2 = c .before .before in
     unfit _ _ (is-unfit _ (c2 .fit-index .ensures) (c .enum-told2 .given .1))
 
-sound-requires : tie.Need-sound-requires
-sound-requires c κs = search needs
-
-enum-told-3 : tie.Need-enum-told-3
-enum-told-3 c = search needs
+can-count-requires : tie.Need-can-count-requires
+can-count-requires c κs = search needs
 
 returns-2 : tie.Need-returns-2
 returns-2 c =
     let c1 = c .before in
     let c2 = c1 .before in
-    let c3 = c2 .before .before in
-    let f = is-fit _ (c3 .fit-index .ensures) (c2 .enum-told .given .1) in
-    damaged _ _ f (not-sound _ (tree-fits _ f) (c1 .sound .result) (c1 .sound .ensures) (c .match2 .keys2))
+    let c4 = c2 .before .before in
+    damaged _ _ (is-fit _ (c4 .fit-index .ensures) (c2 .enum-told .given .1)) (fails (c1 .can-count .ensures) (c .if1 .taken))
 
 length-of-requires : tie.Need-length-of-requires
 length-of-requires c κs = search needs
@@ -42,14 +38,12 @@ returns-3 : tie.Need-returns-3
 returns-3 c =
     let c1 = c .before in
     let c2 = c1 .before in
-    let c4 = c2 .before .before in
-    let c5 = c4 .before in
-    let c6 = c5 .before .before in
-    let f = is-fit _ (c6 .fit-index .ensures) (c5 .enum-told .given .1) in
-    bad-mark _ _ f
-    (is-sound _ (tree-fits _ f) (c4 .sound .result) (c4 .sound .ensures) (c2 .enum-told3 .given .1))
-    (c1 .length-of .ensures)
-    (c .if1 .taken)
+    let c3 = c2 .before in
+    let c4 = c3 .before in
+    let c6 = c4 .before .before in
+    let f = is-fit _ (c6 .fit-index .ensures) (c4 .enum-told .given .1) in
+    let n = holds (c3 .can-count .ensures) (c2 .if1 .left) in
+    bad-mark _ _ f n (c1 .length-of .ensures) (c .if2 .taken)
 
 sub-t12 : tie.Need-sub-t12
 sub-t12 c = search needs
@@ -57,23 +51,21 @@ sub-t12 c = search needs
 cast-t13 : tie.Need-cast-t13
 cast-t13 c =
     let c1 = c .before in
-    let c5 = c1 .before .before .before .before in
-    let c6 = c5 .before .before in
-    let h = fits-index _ (is-fit _ (c6 .fit-index .ensures) (c5 .enum-told .given .1)) in
+    let c4 = c1 .before .before .before in
+    let c6 = c4 .before .before in
+    let h = fits-index _ (is-fit _ (c6 .fit-index .ensures) (c4 .enum-told .given .1)) in
     omega (arith, h .most, h .within, c1 .length-of .ensures)
 
 returns-4 : tie.Need-returns-4
 returns-4 c =
     let c1 = c .before in
     let c2 = c1 .before in
-    let c4 = c2 .before .before in
-    let c5 = c4 .before in
-    let c6 = c5 .before .before in
-    let f = is-fit _ (c6 .fit-index .ensures) (c5 .enum-told .given .1) in
-    good-mark _ _ f
-    (is-sound _ (tree-fits _ f) (c4 .sound .result) (c4 .sound .ensures) (c2 .enum-told3 .given .1))
-    (c1 .length-of .ensures)
-    (c .if1 .left)
+    let c3 = c2 .before in
+    let c4 = c3 .before in
+    let c6 = c4 .before .before in
+    let f = is-fit _ (c6 .fit-index .ensures) (c4 .enum-told .given .1) in
+    let n = holds (c3 .can-count .ensures) (c2 .if1 .left) in
+    good-mark _ _ f n (c1 .length-of .ensures) (c .if2 .left)
 
 pub ask-spec : {M : Type 1} → statement M
 ask-spec =
@@ -83,8 +75,7 @@ ask-spec =
     enum-told
     enum-told-2
     returns
-    sound-requires
-    enum-told-3
+    can-count-requires
     returns-2
     length-of-requires
     returns-3

@@ -4,12 +4,12 @@ use mathlib.Core.Logic.{_≢_}
 use Prim.Native.Nat.{ℕ, _+_, _*_}
 use borrow.Author.Tests.{ne-eqb}
 use lib.Dec.{eqb}
 use Rattle.slots.specs.Words.{pick}
 use Rattle.slots.specs.Coded.{valueOf}
-use Rattle.exports.specs.Words.{valueBeside}
+use Rattle.slots.specs.Answers.{valueBeside}
 use borrow.Author.Needs.{needs}
-use Rattle.exports.proofs.words.word_with.Statement.{statement}
-use Rattle.exports.proofs.words.word_with.Tie as tie
+use Rattle.slots.proofs.answer.word_with.Statement.{statement}
+use Rattle.slots.proofs.answer.word_with.Tie as tie
 
 bare-beside : (bare n : ℕ) → n ≡ 0 → bare + 4294967296 * 0 ≡ pick (eqb n 0) bare 0 + 4294967296 * n
 bare-beside bare n e = rw e

@@ -1,0 +1,47 @@
+-- Each case has its number and value.
+use mathlib.Core.Path.{sym, ap, _∙_}
+use Rattle.batch.specs.Calls.{batchOf}
+use borrow.Author.Needs.{needs}
+use Rattle.batch.proofs.batch.BatchMade.answer.Statement.{statement}
+use Rattle.batch.proofs.batch.BatchMade.answer.Tie as tie
+
+enum-known-self : tie.Need-enum-known-self
+enum-known-self c = search needs
+
+given-requires : tie.Need-given-requires
+given-requires c κs = search needs
+
+enum-told : tie.Need-enum-told
+enum-told c = search needs
+
+refused-requires : tie.Need-refused-requires
+refused-requires c κs = search needs
+
+enum-told-2 : tie.Need-enum-told-2
+enum-told-2 c = search needs
+
+refused-requires-2 : tie.Need-refused-requires-2
+refused-requires-2 c κs = search needs
+
+returns : tie.Need-returns
+returns c = c .given .ensures ∙ ap batchOf (sym (c .before .before .self .given .1))
+
+returns-2 : tie.Need-returns-2
+returns-2 c = c .refused .ensures ∙ ap batchOf (sym (c .before .enum-told .given .1))
+
+returns-3 : tie.Need-returns-3
+returns-3 c = c .refused2 .ensures ∙ ap batchOf (sym (c .before .enum-told2 .given .1))
+
+pub answer-spec : {M : Type 1} → statement M
+answer-spec =
+    tie.close
+    (tie.spec
+    enum-known-self
+    given-requires
+    enum-told
+    refused-requires
+    enum-told-2
+    refused-requires-2
+    returns
+    returns-2
+    returns-3)

@@ -1,0 +1,79 @@
+-- A refusal leaves all as it is; else the slot has the new place and the journal takes a line with both, as the model says.
+use mathlib.Core.Path.{sym, ap, _∙_}
+use Rattle.index.proofs.Room.{appended-is}
+use Rattle.index.specs.Calls.{replacedOf}
+use Rattle.index.proofs.Asking.{kept, done, lines-most}
+use Rattle.index.proofs.Replacing.{settled, moved, not-at}
+use borrow.Author.Needs.{needs}
+use Rattle.index.proofs.replace.replace_sound.Statement.{statement}
+use Rattle.index.proofs.replace.replace_sound.Tie as tie
+
+ask-requires : tie.Need-ask-requires
+ask-requires c κs = search needs
+
+enum-known-asked : tie.Need-enum-known-asked
+enum-known-asked c = search needs
+
+same-length : tie.Need-same-length
+same-length c = search needs
+
+same-length-2 : tie.Need-same-length-2
+same-length-2 c = search needs
+
+returns : tie.Need-returns
+returns c =
+    let c1 = c .before in
+    let a = c1 .before .before .before .before .before .before .before .before .args in
+    kept _ _ _ (settled _ (a .hash) (a .key) (a .place)) _ (not-at (c1 .ask .result) (c .match .keys2)) (c1 .ask .ensures (a .place))
+
+get-requires : tie.Need-get-requires
+get-requires c κs = search needs
+
+put-requires : tie.Need-put-requires
+put-requires c κs = search needs
+
+both-places-requires : tie.Need-both-places-requires
+both-places-requires c κs = search needs
+
+append-requires : tie.Need-append-requires
+append-requires c κs = search needs
+
+same-length-3 : tie.Need-same-length-3
+same-length-3 c = search needs
+
+same-length-4 : tie.Need-same-length-4
+same-length-4 c = search needs
+
+returns-2 : tie.Need-returns-2
+returns-2 c =
+    let c1 = c .before .before in
+    let c2 = c1 .before in
+    let c3 = c2 .before .before .before .before in
+    let c4 = c3 .before .before in
+    let c5 = c4 .before .before .before in
+    let c6 = c5 .before .before in
+    let a = c6 .before .before .before .before .before .before .before .before .args in
+    let d = done _ _ _ (settled _ (a .hash) (a .key) (a .place)) _ (ap replacedOf (sym (c5 .asked .given .1)) ∙ c6 .ask .ensures (a .place)) in
+    moved _ _ _ _
+    (c4 .get .ensures)
+    (c3 .put .ensures)
+    (c2 .both-places .ensures)
+    (c1 .append .ensures ∙ appended-is _ _ (lines-most d))
+    (d .left)
+
+pub replace-sound-spec : {M : Type 1} → statement M
+replace-sound-spec =
+    tie.close
+    (tie.spec
+    ask-requires
+    enum-known-asked
+    same-length
+    same-length-2
+    returns
+    get-requires
+    put-requires
+    both-places-requires
+    append-requires
+    same-length-3
+    same-length-4
+    returns-2)
