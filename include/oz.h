@@ -18,6 +18,12 @@
  *                         before is 0, 0. The place of a replace is the new place + 2^32 * the old one
  *   calls    u64, 4 each  of a batch, per call: kind (1 insert, 2 remove, 3 replace), hash, key, place
  *   answers  u64          of a batch: a word for each call, what the single call would answer
+ *   reader   u64, 8       of an upload: the caller keeps them between the calls and writes none. Sections that are whole;
+ *                         bytes of the next one's header, 0 to 2, or in its entries 3 and the bytes of the entry; entries
+ *                         to come in it, in the header the bytes of the count; the bytes of the entry's hash, and of its
+ *                         key; the mark of the start; the entries taken; and the note, 0 while nothing is noted, else 1 +
+ *                         the answer. docs/RULES.md, section 12, has their ranges
+ *   chunk    u8           of an upload: bytes of it, any number
  *   lengths  u32, 1 to 8  of a frozen set: the tables' lengths
  *   bins     u32          of a frozen set: all tables' bins in a row: 0 empty, 1 Moved, 2 + slot a list,
  *                         4098 + header a tree
@@ -30,8 +36,9 @@
  * OZ_NULL, 0; sizes all 0; lines all 0. oz_fresh writes it.
  *
  * Answers. An answer is value + 2^32 * number + 2^48 * looks; oz_value, oz_number and oz_looks take it apart. Number 0
- * is no refusal. 1 to 11 and 15 are refusals: the value is 0, with 3 a slot, and nothing was written. Where several
- * hold, the one that stands first in a routine's list below is given. A number above 100 is a failing test of oz_check.
+ * is no refusal. 1 to 13, 15 and 18 are refusals: the value is 0, with 3 a slot, and nothing was written, or an upload
+ * taken back. Where several hold, the one that stands first in a routine's list below is given. A number above 100 is a
+ * failing test of oz_check.
  * Looks are how many slots oz_find or oz_lookup read the hash of, on a hit, on OZ_NULL and on 9; every other answer has
  * 0.
  *
@@ -58,7 +65,10 @@ enum {
     OZ_LOST = 9,           /* a read came to a word that leads nowhere, or to more slots than there are */
     OZ_UNKNOWN_TABLE = 10, /* no such table */
     OZ_BAD_CURSOR = 11,    /* no cursor of this set */
+    OZ_SHORT = 12,         /* an upload ends before its section 4 is whole */
+    OZ_LONG = 13,          /* a byte of an upload comes after section 4 */
     OZ_OUT_OF_RANGE = 15,  /* there is no such position: it is not below the count */
+    OZ_WRONG_KIND = 18,    /* a section of an upload begins with another byte than its kind */
     OZ_TEST = 100          /* 100 + t: test t of 1 to 8 of oz_check fails; the value is the slot */
 };
 
@@ -112,6 +122,28 @@ uint64_t oz_rollback(uint64_t *names, size_t names_len, uint32_t *cells, size_t 
 uint64_t oz_batch(uint64_t *names, size_t names_len, uint32_t *cells, size_t cells_len, uint32_t *head,
                   size_t head_len, uint32_t *sizes, size_t sizes_len, uint64_t *lines, size_t lines_len,
                   const uint64_t *calls, size_t calls_len, uint64_t *answers, size_t answers_len);
+
+/* Begins an upload: writes the reader, whatever its words were, and nothing else, and answers 1. Refusals 1 (for a reader
+ * that is not 8 words, too), 2, each with the reader as it was. */
+uint64_t oz_read_start(const uint64_t *names, size_t names_len, const uint32_t *cells, size_t cells_len,
+                       const uint32_t *head, size_t head_len, const uint32_t *sizes, size_t sizes_len,
+                       const uint64_t *lines, size_t lines_len, uint64_t *reader, size_t reader_len);
+
+/* Takes the bytes of a chunk one after the other and inserts each entry at its last byte, with the offset of its first byte
+ * in the upload as place; answers the entries taken since the start. Wherever an upload is cut, the answers and all words
+ * are the same. Refusals 18, 13, and 3 with the slot, 5, 6 as oz_insert gives them: everything since the start is then rolled
+ * back, the answer is noted in the reader, and every later chunk and end call give it again and change nothing. 1, 2, 7 or 8
+ * where somebody else wrote the slices, so that the rollback is refused; 1 also for a reader that is not 8 words or whose
+ * words are out of their ranges, which is not noted and changes nothing. */
+uint64_t oz_read_chunk(uint64_t *names, size_t names_len, uint32_t *cells, size_t cells_len, uint32_t *head,
+                       size_t head_len, uint32_t *sizes, size_t sizes_len, uint64_t *lines, size_t lines_len,
+                       uint64_t *reader, size_t reader_len, const uint8_t *chunk, size_t chunk_len);
+
+/* The upload has ended: answers the entries taken, or refusal 12 where section 4 is not whole; the other refusals, and what
+ * they leave, as for a chunk. */
+uint64_t oz_read_end(uint64_t *names, size_t names_len, uint32_t *cells, size_t cells_len, uint32_t *head,
+                     size_t head_len, uint32_t *sizes, size_t sizes_len, uint64_t *lines, size_t lines_len,
+                     uint64_t *reader, size_t reader_len);
 
 /* The source's own check: 0 where it passes, slot + 2^32 * (100 + t) where its test t fails first, at that slot. A tree
  * that passes need not be sound. Refusals 1, 9. */

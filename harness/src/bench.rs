@@ -2,6 +2,7 @@
 use harness::oz::{Index, Set, NULL};
 use harness::rng::Rng;
 use harness::sets;
+use harness::uploads;
 use harness::source::{Bin, Tables, Walk};
 use std::collections::BTreeMap;
 use std::hint::black_box;
@@ -113,6 +114,56 @@ fn batch_rows(rng: &mut Rng) {
     row("the same after the check", whole - check, Some(source), Some(map_time));
     row("the one check of it", check, None, None);
     row("the same 500 inserts by single calls", single, Some(source), Some(map_time));
+}
+
+/// The entries of an upload, by a reader without checks of its own: each with the offset of its first byte.
+fn entries(bytes: &[u8], mut enter: impl FnMut(u64, u64, u32)) {
+    let mut at = 0;
+    for _ in 0..4 {
+        let count = u16::from_le_bytes([bytes[at + 1], bytes[at + 2]]);
+        at += 3;
+        for _ in 0..count {
+            let hash = u64::from_le_bytes(bytes[at..at + 8].try_into().unwrap());
+            let key = u64::from_le_bytes(bytes[at + 8..at + 16].try_into().unwrap());
+            enter(hash, key, at as u32);
+            at += 16;
+        }
+    }
+}
+
+/// An upload of 1,000 entries into an empty index, in chunks of 64 KiB and of 64 bytes; into the source's tree and a BTreeMap by a Rust
+/// program that reads the same bytes.
+fn upload_rows(rng: &mut Rng) {
+    let sections: Vec<Vec<(u64, u64)>> = (0..4).map(|_| (0..250).map(|_| (rng.next(), rng.next())).collect()).collect();
+    let bytes = uploads::bytes(&sections);
+    let empty = Index::new(4096, 1024);
+    let (mut source, mut map_time) = (f64::INFINITY, f64::INFINITY);
+    for _ in 0..ROUNDS {
+        let bin = Bin::new();
+        let from = Instant::now();
+        entries(&bytes, |h, k, p| drop(black_box(bin.insert(h, k, p))));
+        source = source.min(from.elapsed().as_nanos() as f64);
+        let mut map = BTreeMap::new();
+        let from = Instant::now();
+        entries(&bytes, |h, k, p| assert!(black_box(map.insert((h, k), p)).is_none()));
+        map_time = map_time.min(from.elapsed().as_nanos() as f64);
+    }
+    for (name, length) in [("64 KiB", 65536), ("64 bytes", 64)] {
+        let mut ours = f64::INFINITY;
+        for _ in 0..ROUNDS {
+            let mut ix = empty.clone();
+            let mut reader = [0; 8];
+            let from = Instant::now();
+            assert_eq!(ix.read_start(&mut reader).number, 0);
+            for chunk in bytes.chunks(length) {
+                black_box(ix.read_chunk(&mut reader, chunk));
+            }
+            let answer = ix.read_end(&mut reader);
+            ours = ours.min(from.elapsed().as_nanos() as f64);
+            assert_eq!((answer.number, answer.value), (0, 1000));
+        }
+        row(&format!("an upload of 1,000 entries in chunks of {name}"), ours, Some(source), Some(map_time));
+    }
 }
 
 fn main() {
@@ -246,6 +297,7 @@ fn main() {
         row(&format!("the position of a pair, with its full check (BTreeMap: counted along), {size} slots"), position, None, Some(before));
     }
     batch_rows(&mut rng);
+    upload_rows(&mut rng);
     let set = sets::draw(&mut rng, 3, 64, 4096, 0);
     let n = set.names.len() / 2;
     let tables = Tables::of_words(&set).expect("an accepted set");

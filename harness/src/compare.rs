@@ -2,6 +2,7 @@
 use harness::oz::{self, Index, NULL};
 use harness::rng::Rng;
 use harness::sets;
+use harness::uploads;
 use harness::source::{By, Removal, Tables, Tree, Walk};
 use harness::MESSAGES;
 use seize::trace;
@@ -202,6 +203,79 @@ fn batches(rng: &mut Rng, by: By, scripts: usize, length: usize, report: &mut Re
         }
     }
     (made, calls)
+}
+
+/// Uploads, drawn and damaged, cut anywhere, into indexes that hold some entries: the end call answers what the rules say, by a reader
+/// written apart; an accepted one leaves the words of the same entries inserted singly, and the source's tree; a refused one the entries,
+/// their order and the lines of before; and a later chunk and end call answer the same and change nothing. How many, and how many accepted.
+fn read_uploads(rng: &mut Rng, by: By, count: usize, report: &mut Report) -> (u64, u64) {
+    let (mut made, mut accepted) = (0, 0);
+    for _ in 0..count {
+        let slots = 1 + rng.below(14) as usize;
+        let lines = rng.below(14) as usize;
+        let mut pair = Pair { ours: Index::new(slots, lines), theirs: Tree::new(slots, by) };
+        for _ in 0..rng.below(slots as u64 + 1) {
+            let (h, k) = (rng.below(3), rng.below(9));
+            let answer = pair.ours.insert(h, k, 7);
+            if answer.number == 0 {
+                pair.theirs.insert(h, k, 7, answer.value);
+            }
+        }
+        let before = pair.ours.clone();
+        let held = before.listing();
+        let mark = before.lines[0] as usize;
+        let bytes = uploads::draw(rng);
+        let (number, entered) = uploads::told(&bytes, &held, slots, lines - mark);
+        let mut cuts = Vec::new();
+        let mut left = bytes.len() as u64;
+        for _ in 0..rng.below(6) {
+            let cut = rng.below(left + 1);
+            cuts.push(cut as usize);
+            left -= cut;
+        }
+        let mut reader = [rng.next(); 8];
+        let mut ours = |ix: &mut Index| {
+            ix.read_start(&mut reader);
+            let mut rest = &bytes[..];
+            for cut in &cuts {
+                let (chunk, more) = rest.split_at(*cut);
+                ix.read_chunk(&mut reader, chunk);
+                rest = more;
+            }
+            ix.read_chunk(&mut reader, rest);
+            let answer = ix.read_end(&mut reader);
+            let after = ix.clone();
+            let again = (ix.read_chunk(&mut reader, &[1, 2, 3]), ix.read_end(&mut reader));
+            (answer, again == (answer, answer) && after == *ix)
+        };
+        let (answer, same) = ours(&mut pair.ours);
+        made += 1;
+        let mut fine = same && answer.number == number && pair.ours.sizes == oz::climbed_sizes(&pair.ours.cells);
+        if number == 0 {
+            accepted += 1;
+            let mut single = before.clone();
+            for (h, k, place) in &entered {
+                let slot = single.insert(*h, *k, *place);
+                pair.theirs.insert(*h, *k, *place, slot.value);
+            }
+            fine &= answer.value as usize == entered.len() && single == pair.ours && pair.theirs.differs(&pair.ours).is_none();
+        } else {
+            let kept = 1 + oz::LINE_WORDS * mark;
+            fine &= pair.ours.listing() == held && pair.ours.sound().value == 1;
+            fine &= pair.ours.lines[..kept] == before.lines[..kept] && pair.ours.lines[kept..].iter().all(|w| *w == 0);
+            // 3 comes with the slot of the pair at that point.
+            let mut single = before.clone();
+            for (h, k, place) in &entered {
+                single.insert(*h, *k, *place);
+            }
+            fine &= number == 3 || answer.value == 0;
+            fine &= number != 3 || single.cells.get(7 * answer.value as usize + oz::STATE).is_some_and(|s| *s != 0);
+        }
+        if !fine {
+            report.differs("upload", bytes.len(), format!("{slots} slots, {lines} lines, {held:?}, {bytes:?}, {cuts:?}: {answer:?}, wanted {number}"));
+        }
+    }
+    (made, accepted)
 }
 
 fn run(slots: usize, by: By, script: &[Op], counts: &mut Counts) -> Result<(), (usize, String)> {
@@ -695,6 +769,10 @@ fn main() {
     for by in [By::Drivers, By::Bin] {
         let (made, calls) = batches(&mut Rng::new(6), by, many(4000), 12, &mut report);
         println!("{by:?}: {made} batches of {calls} calls, each held to the same calls made singly, word for word, and to the source");
+    }
+    for by in [By::Drivers, By::Bin] {
+        let (made, accepted) = read_uploads(&mut Rng::new(7), by, many(60_000), &mut report);
+        println!("{by:?}: {made} uploads cut anywhere, {accepted} accepted, held to a reader written apart, single inserts and the source");
     }
     let d = damaged(&mut Rng::new(2), many(200_000), &mut report);
     println!("damaged trees {} (sound still {})", d.trees, d.sound);

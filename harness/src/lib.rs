@@ -4,6 +4,7 @@
 pub mod oz;
 pub mod rng;
 pub mod sets;
+pub mod uploads;
 
 mod reclaim {
     include!(concat!(env!("OUT_DIR"), "/reclaim.rs"));

@@ -98,6 +98,50 @@ mod c {
             answers: *mut u64,
             answers_len: usize,
         ) -> u64;
+        pub fn oz_read_start(
+            names: *const u64,
+            names_len: usize,
+            cells: *const u32,
+            cells_len: usize,
+            head: *const u32,
+            head_len: usize,
+            sizes: *const u32,
+            sizes_len: usize,
+            lines: *const u64,
+            lines_len: usize,
+            reader: *mut u64,
+            reader_len: usize,
+        ) -> u64;
+        pub fn oz_read_chunk(
+            names: *mut u64,
+            names_len: usize,
+            cells: *mut u32,
+            cells_len: usize,
+            head: *mut u32,
+            head_len: usize,
+            sizes: *mut u32,
+            sizes_len: usize,
+            lines: *mut u64,
+            lines_len: usize,
+            reader: *mut u64,
+            reader_len: usize,
+            chunk: *const u8,
+            chunk_len: usize,
+        ) -> u64;
+        pub fn oz_read_end(
+            names: *mut u64,
+            names_len: usize,
+            cells: *mut u32,
+            cells_len: usize,
+            head: *mut u32,
+            head_len: usize,
+            sizes: *mut u32,
+            sizes_len: usize,
+            lines: *mut u64,
+            lines_len: usize,
+            reader: *mut u64,
+            reader_len: usize,
+        ) -> u64;
         pub fn oz_check(names: *const u64, names_len: usize, cells: *const u32, cells_len: usize, head: *const u32, head_len: usize)
             -> u64;
         pub fn oz_sound(
@@ -352,6 +396,87 @@ pub fn batch(
             calls.len(),
             answers.as_mut_ptr(),
             answers.len(),
+        )
+    })
+}
+
+pub fn read_start(
+    names: &[u64],
+    cells: &[u32],
+    head: &[u32],
+    sizes: &[u32],
+    lines: &[u64],
+    reader: &mut [u64],
+) -> Answer {
+    answer(unsafe {
+        c::oz_read_start(
+            names.as_ptr(),
+            names.len(),
+            cells.as_ptr(),
+            cells.len(),
+            head.as_ptr(),
+            head.len(),
+            sizes.as_ptr(),
+            sizes.len(),
+            lines.as_ptr(),
+            lines.len(),
+            reader.as_mut_ptr(),
+            reader.len(),
+        )
+    })
+}
+
+pub fn read_chunk(
+    names: &mut [u64],
+    cells: &mut [u32],
+    head: &mut [u32],
+    sizes: &mut [u32],
+    lines: &mut [u64],
+    reader: &mut [u64],
+    chunk: &[u8],
+) -> Answer {
+    answer(unsafe {
+        c::oz_read_chunk(
+            names.as_mut_ptr(),
+            names.len(),
+            cells.as_mut_ptr(),
+            cells.len(),
+            head.as_mut_ptr(),
+            head.len(),
+            sizes.as_mut_ptr(),
+            sizes.len(),
+            lines.as_mut_ptr(),
+            lines.len(),
+            reader.as_mut_ptr(),
+            reader.len(),
+            chunk.as_ptr(),
+            chunk.len(),
+        )
+    })
+}
+
+pub fn read_end(
+    names: &mut [u64],
+    cells: &mut [u32],
+    head: &mut [u32],
+    sizes: &mut [u32],
+    lines: &mut [u64],
+    reader: &mut [u64],
+) -> Answer {
+    answer(unsafe {
+        c::oz_read_end(
+            names.as_mut_ptr(),
+            names.len(),
+            cells.as_mut_ptr(),
+            cells.len(),
+            head.as_mut_ptr(),
+            head.len(),
+            sizes.as_mut_ptr(),
+            sizes.len(),
+            lines.as_mut_ptr(),
+            lines.len(),
+            reader.as_mut_ptr(),
+            reader.len(),
         )
     })
 }
@@ -640,6 +765,35 @@ impl Index {
     /// The calls of a slice, four words each, and a word for each answer.
     pub fn batch(&mut self, calls: &[u64], answers: &mut [u64]) -> Answer {
         batch(&mut self.names, &mut self.cells, &mut self.head, &mut self.sizes, &mut self.lines, calls, answers)
+    }
+
+    pub fn read_start(&self, reader: &mut [u64]) -> Answer {
+        read_start(&self.names, &self.cells, &self.head, &self.sizes, &self.lines, reader)
+    }
+
+    pub fn read_chunk(&mut self, reader: &mut [u64], chunk: &[u8]) -> Answer {
+        read_chunk(&mut self.names, &mut self.cells, &mut self.head, &mut self.sizes, &mut self.lines, reader, chunk)
+    }
+
+    pub fn read_end(&mut self, reader: &mut [u64]) -> Answer {
+        read_end(&mut self.names, &mut self.cells, &mut self.head, &mut self.sizes, &mut self.lines, reader)
+    }
+
+    /// A whole upload in chunks of these lengths, the last of which takes what is left: the end call's answer.
+    pub fn read(&mut self, bytes: &[u8], cuts: &[usize]) -> Answer {
+        let mut reader = [0; 8];
+        let started = self.read_start(&mut reader);
+        if started.number != 0 {
+            return started;
+        }
+        let mut rest = bytes;
+        for cut in cuts {
+            let (chunk, more) = rest.split_at(*cut);
+            self.read_chunk(&mut reader, chunk);
+            rest = more;
+        }
+        self.read_chunk(&mut reader, rest);
+        self.read_end(&mut reader)
     }
 
     /// The same calls made singly: the word of each answer.

@@ -402,6 +402,57 @@ fn batched(rng: &mut Rng, l: &mut Live) -> (oz::Answer, bool) {
     (answer, *l == single && answers.get() == told && answers.guarded(G64) && l.guarded() && answer.value == accepted)
 }
 
+/// A reader of drawn words, in range or not.
+fn reader_words(rng: &mut Rng) -> Vec<u64> {
+    let small = [rng.below(5), rng.below(19), rng.below(4), rng.next(), rng.next(), rng.below(4), rng.below(3), 0];
+    let mut words: Vec<u64> = small.to_vec();
+    match rng.below(6) {
+        0 => words[rng.below(8) as usize] = word64(rng, 20),
+        1 => words[7] = 1 + rng.below(4) + (rng.below(20) << 32),
+        2 => words.truncate(rng.below(8) as usize),
+        3 => words = vec![0, 0, 0, 0, 0, rng.below(3), 0, 0],
+        _ => (),
+    }
+    words
+}
+
+/// A chunk or the end call on any words with any reader: its answer, and whether the chunk cut in two comes to the same, a call that says 1 of
+/// the reader's words changes nothing, and no other word is touched.
+fn read_any(rng: &mut Rng, l: &mut Live) -> (&'static str, oz::Answer, bool) {
+    let mut reader = Lent::new(&reader_words(rng), G64);
+    if rng.below(4) == 0 {
+        let (before, words) = (l.clone(), reader.clone());
+        let answer = oz::read_start(l.names.get(), l.cells.get(), l.head.get(), l.sizes.get(), l.lines.get(), reader.lend());
+        let made = answer.number == 0 && reader.get() == [0, 0, 0, 0, 0, l.lines.get()[0], 0, 0];
+        let probe = before.clone().insert(0, 0, 0).number;
+        let wanted = if reader.len != 8 || probe == 1 { 1 } else if probe == 2 { 2 } else { 0 };
+        return ("read_start", answer, *l == before && reader.guarded(G64) && answer.number == wanted && (made || reader == words));
+    }
+    let bytes: Vec<u8> = (0..rng.below(50)).map(|_| if rng.below(3) == 0 { rng.next() as u8 } else { rng.below(5) as u8 }).collect();
+    let read = |l: &mut Live, reader: &mut Lent<u64>, chunk: &[u8]| {
+        let (head, sizes) = (l.head.lend(), l.sizes.lend());
+        oz::read_chunk(l.names.lend(), l.cells.lend(), head, sizes, l.lines.lend(), reader.lend(), chunk)
+    };
+    let end = |l: &mut Live, reader: &mut Lent<u64>| {
+        let (head, sizes) = (l.head.lend(), l.sizes.lend());
+        oz::read_end(l.names.lend(), l.cells.lend(), head, sizes, l.lines.lend(), reader.lend())
+    };
+    let (mut other, mut words) = (l.clone(), reader.clone());
+    let (start, kept) = (l.clone(), reader.clone());
+    if rng.below(4) == 0 {
+        let answer = end(l, &mut reader);
+        // An end call is noted, unless the reader is no reader: then nothing has changed.
+        let again = end(&mut l.clone(), &mut reader.clone());
+        let unread = *l == start && reader == kept;
+        return ("read_end", answer, again == answer && l.guarded() && reader.guarded(G64) && (answer.number != 1 || unread || reader != kept));
+    }
+    let at = rng.below(bytes.len() as u64 + 1) as usize;
+    let answer = read(l, &mut reader, &bytes);
+    read(&mut other, &mut words, &bytes[..at]);
+    let cut = read(&mut other, &mut words, &bytes[at..]);
+    ("read_chunk", answer, cut == answer && *l == other && reader == words && l.guarded() && reader.guarded(G64))
+}
+
 /// Batches of 1,100 drawn calls at the limits of slots and lines, the tree full but for one slot, each held to the same calls made singly:
 /// how many there were, and how many were not the same.
 fn limits(rng: &mut Rng) -> (u64, u64) {
@@ -436,7 +487,12 @@ fn live_calls(rng: &mut Rng, tally: &mut Tally) {
         let (h, k) = if rng.below(4) == 0 { (word64(rng, 3), word64(rng, 9)) } else { (rng.below(3), rng.below(8)) };
         let mark = word32(rng, 3);
         let mut as_single = true;
-        let (name, answer) = match rng.below(28) / 2 {
+        let (name, answer) = match rng.below(32) / 2 {
+            14 | 15 => {
+                let (name, answer, fine) = read_any(rng, &mut l);
+                as_single = fine;
+                (name, answer)
+            }
             12 => ("fresh", l.fresh()),
             13 => {
                 let (answer, fine) = batched(rng, &mut l);
@@ -467,6 +523,7 @@ fn live_calls(rng: &mut Rng, tally: &mut Tally) {
         };
         let writes = matches!(name, "fresh" | "insert" | "remove" | "replace" | "rollback" | "batch") && answer.number == 0;
         let fine = match name {
+            "read_start" | "read_chunk" | "read_end" => as_single,
             "replace" if writes => l.guarded() && placed(&before, &l, answer.value),
             "remove" if writes => l.guarded() && l.sized() && noted(&before, &l, h, k),
             "batch" if !as_single => false,
@@ -477,7 +534,7 @@ fn live_calls(rng: &mut Rng, tally: &mut Tally) {
         if name == "rollback" {
             tally.foretell(&before, &l, mark, answer);
         }
-        if writes {
+        if writes || name.starts_with("read_") {
             before = l.clone();
         }
     }

@@ -1,4 +1,5 @@
 pub mod Telling
 pub mod Keeping
+pub mod Reading
 pub mod Answering
 pub mod Claims

@@ -27,6 +27,7 @@ use Rattle.set_rules.specs.Cursor.{Cursor}
 use Rattle.set_rules.specs.Walk.{nexts}
 use Rattle.slots.specs.Answers.{answerWord}
 use Rattle.exports.specs.Words.{searchWord, checkWord, Worded, worded, BatchWorded, batchWorded}
+use Rattle.exports.specs.Readers.{ReadWorded, startedReader, chunkRead, endedReader}
 use Rattle.exports.specs.Cursors.{cursorIn, Kept, startedInto, walkedInto}
 
 -- The word of an answer tells which it is: a slot given is below 4,096, so that null is Nothing or Done alone.
@@ -65,6 +66,9 @@ pub record Claims : Type 0 where
   pub fresh-one : (ix : Index) → OneAnswer (λ (r : Worded). r ≡ worded (freshes ix))
   pub rollback-one : (ix : Index) (mark : ℕ) → OneAnswer (λ (r : Worded). r ≡ worded (rolls ix mark))
   pub batch-one : (ix : Index) (calls answers : List ℕ) → OneAnswer (λ (r : BatchWorded). r ≡ batchWorded (batches ix calls answers))
+  pub read-start-one : (ix : Index) (reader : List ℕ) → OneAnswer (λ (r : ReadWorded). r ≡ startedReader ix reader)
+  pub read-chunk-one : (ix : Index) (reader chunk : List ℕ) → OneAnswer (λ (r : ReadWorded). r ≡ chunkRead ix reader chunk)
+  pub read-end-one : (ix : Index) (reader : List ℕ) → OneAnswer (λ (r : ReadWorded). r ≡ endedReader ix reader)
   pub accept-one : (s : Set) → OneAnswer (λ (r : ℕ). r ≡ answerWord (accepts s))
   pub lookup-one : (s : Set) (table hash key : ℕ) → OneAnswer (λ (r : ℕ). r ≡ searchWord (counted (lookups s table hash key)))
   pub start-one : (s : Set) (table : ℕ) (cursor : List ℕ) → OneAnswer (λ (r : Kept). r ≡ startedInto s table cursor)

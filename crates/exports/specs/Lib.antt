@@ -1,3 +1,5 @@
 pub mod Words
 pub mod Cursors
+pub mod Readers
+pub mod Coded
 pub mod Claims

@@ -2,5 +2,6 @@
 mod cursor;
 pub mod frozen;
 pub mod reads;
+pub mod uploads;
 mod words;
 pub mod writes;

@@ -1,0 +1,98 @@
+-- Each way out closes by the words and the tests that led there.
+use mathlib.Core.Path.{ap, _∙_}
+use denote.Ref.{now}
+use Rattle.reader.specs.Meanings.{noteOf}
+use Rattle.reader.specs.Notes.{noteAtOf, noteAt}
+use Rattle.exports.proofs.Reading.{not-eight, wide-mark, no-note, has-note, eight-read}
+use borrow.Author.Needs.{needs}
+use Rattle.exports.proofs.uploads.read_words.Statement.{statement}
+use Rattle.exports.proofs.uploads.read_words.Tie as tie
+
+returns : tie.Need-returns
+returns c = not-eight _ (c .if1 .taken)
+
+wide-requires : tie.Need-wide-requires
+wide-requires c κs = search needs
+
+returns-2 : tie.Need-returns-2
+returns-2 c = wide-mark _ (c .before .before .if1 .left) (c .before .wide .ensures) (c .if2 .taken)
+
+wide-requires-2 : tie.Need-wide-requires-2
+wide-requires-2 c κs = search needs
+
+of-word-requires : tie.Need-of-word-requires
+of-word-requires c κs = search needs
+
+enum-known-said : tie.Need-enum-known-said
+enum-known-said c = search needs
+
+enum-told : tie.Need-enum-told
+enum-told c = search needs
+
+returns-3 : tie.Need-returns-3
+returns-3 c =
+    let c2 = c .before .before in
+    let c3 = c2 .before in
+    let c4 = c3 .before in
+    let c5 = c4 .before in
+    let c6 = c5 .before in
+    no-note _ (c6 .if1 .left) (c5 .wide .ensures) (c4 .if2 .left) (c2 .of-word .ensures ∙ ap noteAt (c3 .wide2 .ensures)) (ap noteAtOf (c .enum-told .given .1))
+
+wide-requires-3 : tie.Need-wide-requires-3
+wide-requires-3 c κs = search needs
+
+wide-requires-4 : tie.Need-wide-requires-4
+wide-requires-4 c κs = search needs
+
+wide-requires-5 : tie.Need-wide-requires-5
+wide-requires-5 c κs = search needs
+
+wide-requires-6 : tie.Need-wide-requires-6
+wide-requires-6 c κs = search needs
+
+wide-requires-7 : tie.Need-wide-requires-7
+wide-requires-7 c κs = search needs
+
+cast-t13 : tie.Need-cast-t13
+cast-t13 c = search needs
+
+wide-requires-8 : tie.Need-wide-requires-8
+wide-requires-8 c κs = search needs
+
+returns-4 : tie.Need-returns-4
+returns-4 c =
+    let c1 = c .before in
+    let c2 = c1 .before in
+    let c3 = c2 .before in
+    let c4 = c3 .before in
+    let c5 = c4 .before in
+    let c7 = c5 .before .before in
+    let c9 = c7 .before .before in
+    let c10 = c9 .before in
+    let c11 = c10 .before in
+    let c12 = c11 .before in
+    let c13 = c12 .before in
+    let a = c13 .before .before .args in
+    has-note (now (a .words)) (c13 .if1 .left) (c12 .wide .ensures) (c11 .if2 .left) (c9 .of-word .ensures ∙ ap noteAt (c10 .wide2 .ensures)) (ap noteAtOf (c7 .said .given .1))
+    (eight-read (now (a .words)) (noteOf (c7 .said .given .0 .0)) (c5 .wide3 .ensures) (c4 .wide4 .ensures) (c3 .wide5 .ensures) (c2 .wide6 .ensures) (c1 .wide7 .ensures) (c12 .wide .ensures) (c .wide8 .ensures))
+
+pub read-words-spec : {M : Type 1} → statement M
+read-words-spec =
+    tie.close
+    (tie.spec
+    returns
+    wide-requires
+    returns-2
+    wide-requires-2
+    of-word-requires
+    enum-known-said
+    enum-told
+    returns-3
+    wide-requires-3
+    wide-requires-4
+    wide-requires-5
+    wide-requires-6
+    wide-requires-7
+    cast-t13
+    wide-requires-8
+    returns-4)

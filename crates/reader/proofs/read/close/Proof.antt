@@ -1,0 +1,61 @@
+-- Four sections are whole, or the upload is short.
+use native.Mathlib.Omega.{arith}
+use Rattle.reader.proofs.Ranging.{few-taken}
+use Rattle.reader.proofs.Coming.{end-whole, end-short}
+use Rattle.reader.proofs.Trusting.{unchecked}
+use borrow.Author.Needs.{needs}
+use Rattle.reader.proofs.read.close.Statement.{statement}
+use Rattle.reader.proofs.read.close.Tie as tie
+
+cast-t8 : tie.Need-cast-t8
+cast-t8 c =
+    let c1 = c .before .before .before .before .before .before .before .before in
+    let h = few-taken (c1 .pre) in
+    omega arith
+
+noting-requires : tie.Need-noting-requires
+noting-requires c κs = search needs
+
+returns : tie.Need-returns
+returns c =
+    let c1 = c .before .before in
+    end-whole _ _ (c1 .if1 .taken) (c .noting .ensures)
+
+turn-down-requires : tie.Need-turn-down-requires
+turn-down-requires c κs = unchecked
+
+same-length : tie.Need-same-length
+same-length c = search needs
+
+same-length-2 : tie.Need-same-length-2
+same-length-2 c = search needs
+
+same-length-3 : tie.Need-same-length-3
+same-length-3 c = search needs
+
+same-length-4 : tie.Need-same-length-4
+same-length-4 c = search needs
+
+same-length-5 : tie.Need-same-length-5
+same-length-5 c = search needs
+
+returns-2 : tie.Need-returns-2
+returns-2 c =
+    let c1 = c .before .before .before .before .before .before .before .before .before .before in
+    let c2 = c1 .before .before .before .before .before .before in
+    end-short _ _ (c2 .if1 .left) (c1 .turn-down .ensures)
+
+pub close-spec : {M : Type 1} → statement M
+close-spec =
+    tie.close
+    (tie.spec
+    cast-t8
+    noting-requires
+    returns
+    turn-down-requires
+    same-length
+    same-length-2
+    same-length-3
+    same-length-4
+    same-length-5
+    returns-2)

@@ -1,0 +1,120 @@
+-- The loop's invariant: the bytes left come to what all of them come to, and what was checked is ready.
+use mathlib.Core.Path.{sym, _∙_}
+use denote.Ref.{now}
+use Prim.Native.Nat.{_-_}
+use native.Mathlib.Omega.{arith}
+use lib.ListN.{length}
+use borrow.Author.Tests.{not-true, not-false}
+use Rattle.index_rules.specs.Index.{lent}
+use Rattle.upload_rules.specs.Reading.{session}
+use Rattle.upload_rules.proofs.Ranges.{range-in}
+use Rattle.reader.specs.Meanings.{wordsOf}
+use Rattle.reader.proofs.Coming.{chunk-out, chunk-in}
+use Rattle.reader.proofs.Trusting.{Turn, turn-start, turn-on, turn-end}
+use borrow.Author.Needs.{needs}
+use Rattle.reader.proofs.words.Reader.chunk.Statement.{statement}
+use Rattle.reader.proofs.words.Reader.chunk.Tie as tie
+
+abbrev Inv-loop : tie.InvT-loop
+Inv-loop names₀ cells₀ head₀ sizes₀ lines₀ chunk fits at₀ i₀ names cells head sizes lines at i =
+    Turn (session (wordsOf (at₀ .reader)) (lent names₀ cells₀ head₀ sizes₀ lines₀)) chunk
+    (wordsOf (at .reader)) (at .checked) (at .floor) (lent names cells head sizes lines) i
+
+abbrev μ-loop : tie.MeasureT-loop
+μ-loop names₀ cells₀ head₀ sizes₀ lines₀ chunk fits at₀ i₀ names cells head sizes lines at i = length chunk - i
+
+fits-reader-requires : tie.Need-fits-reader-requires Inv-loop μ-loop
+fits-reader-requires c κs = search needs
+
+returns : tie.Need-returns Inv-loop μ-loop
+returns c =
+    let c1 = c .before in
+    chunk-out _ (c1 .fits-reader .ensures) _ (not-true (c1 .fits-reader .result) (c .if1 .taken))
+
+loop-holds : tie.Need-loop-holds Inv-loop μ-loop
+loop-holds c =
+    let c1 = c .before in
+    turn-start _ _ _ (range-in _ (sym (c1 .fits-reader .ensures) ∙ not-false (c1 .fits-reader .result) (c .if1 .left)))
+
+shared-slice-read-take-byte : tie.Need-shared-slice-read-take-byte Inv-loop μ-loop
+shared-slice-read-take-byte c = search needs
+
+take-byte-requires : tie.Need-take-byte-requires Inv-loop μ-loop
+take-byte-requires c κs =
+    let c1 = c .before .before .before .before .before .before .before in
+    (c1 .loop .inv .fit, c1 .loop .inv .ready)
+
+add-i : tie.Need-add-i Inv-loop μ-loop
+add-i c =
+    let c1 = c .before .before .before .before .before .before .before .before .before .before .before .before .before .before .before .before .before in
+    let c2 = c1 .before .before .before .before .before .before .before .before .before .before in
+    let bytes = c2 .args .chunk in
+    let below = c1 .loop-test .taken in
+    search needs
+
+loop-less : tie.Need-loop-less Inv-loop μ-loop
+loop-less c = search needs
+
+loop-again : tie.Need-loop-again Inv-loop μ-loop
+loop-again c =
+    let c1 = c .before .before .before .before .before .before .before .before .before .before in
+    let c2 = c1 .before .before .before .before .before .before .before in
+    let c3 = c2 .before in
+    let c4 = c3 .before .before .before in
+    turn-on (c3 .loop .inv) (c2 .loop-test .taken) (omega (arith, c4 .shared-slice-known .given (c3 .loop .i))) (c1 .take-byte .ensures)
+    (c1 .take-byte .kept .0)
+    (c1 .take-byte .kept .1 .0)
+    (c1 .take-byte .kept .1 .1 .0)
+    (c1 .take-byte .kept .1 .1 .1 .0)
+    (c1 .take-byte .kept .1 .1 .1 .1 .0)
+
+reply-of-requires : tie.Need-reply-of-requires Inv-loop μ-loop
+reply-of-requires c κs =
+    let c1 = c .before .before in
+    c1 .loop .inv .fit
+
+same-length : tie.Need-same-length Inv-loop μ-loop
+same-length c = search needs
+
+same-length-2 : tie.Need-same-length-2 Inv-loop μ-loop
+same-length-2 c = search needs
+
+same-length-3 : tie.Need-same-length-3 Inv-loop μ-loop
+same-length-3 c = search needs
+
+same-length-4 : tie.Need-same-length-4 Inv-loop μ-loop
+same-length-4 c = search needs
+
+same-length-5 : tie.Need-same-length-5 Inv-loop μ-loop
+same-length-5 c = search needs
+
+returns-2 : tie.Need-returns-2 Inv-loop μ-loop
+returns-2 c =
+    let c1 = c .before .before in
+    let c2 = c1 .before in
+    let c3 = c2 .before in
+    let c4 = c3 .before in
+    let c5 = c4 .before .before .before .before .before .before .before in
+    chunk-in _ (c4 .fits-reader .ensures) (now (c5 .args .chunk)) (not-false (c4 .fits-reader .result) (c3 .if1 .left)) (turn-end (c2 .loop .inv) (c1 .loop-test .left)) (c .reply-of .ensures)
+
+pub chunk-spec : {M : Type 1} → statement M
+chunk-spec =
+    tie.close
+    (tie.spec
+    Inv-loop
+    μ-loop
+    fits-reader-requires
+    returns
+    loop-holds
+    shared-slice-read-take-byte
+    take-byte-requires
+    add-i
+    loop-less
+    loop-again
+    reply-of-requires
+    same-length
+    same-length-2
+    same-length-3
+    same-length-4
+    same-length-5
+    returns-2)

@@ -1,0 +1,4 @@
+pub mod Meanings
+pub mod Notes
+pub mod Trusting
+pub mod Claims

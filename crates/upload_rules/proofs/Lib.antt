@@ -1,0 +1,16 @@
+pub mod Endian
+pub mod Ranges
+pub mod Cutting
+pub mod Stepping
+pub mod Starting
+pub mod Restoring
+pub mod Sections
+pub mod Differing
+pub mod Entering
+pub mod Growing
+pub mod Moving
+pub mod Running
+pub mod Deciding
+pub mod Arriving
+pub mod Concluding
+pub mod Claims

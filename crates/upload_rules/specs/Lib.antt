@@ -1,0 +1,7 @@
+pub mod Upload
+pub mod Reader
+pub mod Reading
+pub mod Steps
+pub mod Parts
+pub mod Left
+pub mod Claims
