@@ -182,7 +182,8 @@ fn batches(rng: &mut Rng, by: By, scripts: usize, length: usize, report: &mut Re
             made += 1;
             calls += words.len() as u64;
             if answer != oz::Answer::plain(0, accepted) || answers != wanted || pair.ours != single {
-                report.differs("batch and single calls", drawn.len(), format!("{slots} slots, {lines} lines, {drawn:?}: {answer:?}, {answers:?} and {wanted:?}"));
+                let what = format!("{slots} slots, {lines} lines, {drawn:?}: {answer:?}, {answers:?} and {wanted:?}");
+                report.differs("batch and single calls", drawn.len(), what);
                 break;
             }
             for (call, word) in drawn.chunks(4).zip(&words) {
@@ -272,7 +273,8 @@ fn read_uploads(rng: &mut Rng, by: By, count: usize, report: &mut Report) -> (u6
             fine &= number != 3 || single.cells.get(7 * answer.value as usize + oz::STATE).is_some_and(|s| *s != 0);
         }
         if !fine {
-            report.differs("upload", bytes.len(), format!("{slots} slots, {lines} lines, {held:?}, {bytes:?}, {cuts:?}: {answer:?}, wanted {number}"));
+            let what = format!("{slots} slots, {lines} lines, {held:?}, {bytes:?}, {cuts:?}: {answer:?}, wanted {number}");
+            report.differs("upload", bytes.len(), what);
         }
     }
     (made, accepted)

@@ -416,8 +416,8 @@ fn reader_words(rng: &mut Rng) -> Vec<u64> {
     words
 }
 
-/// A chunk or the end call on any words with any reader: its answer, and whether the chunk cut in two comes to the same, a call that says 1 of
-/// the reader's words changes nothing, and no other word is touched.
+/// A chunk or the end call on any words with any reader: its answer, and whether the chunk cut in two comes to the same, a call that says
+/// 1 of the reader's words changes nothing, and no other word is touched.
 fn read_any(rng: &mut Rng, l: &mut Live) -> (&'static str, oz::Answer, bool) {
     let mut reader = Lent::new(&reader_words(rng), G64);
     if rng.below(4) == 0 {
@@ -444,7 +444,8 @@ fn read_any(rng: &mut Rng, l: &mut Live) -> (&'static str, oz::Answer, bool) {
         // An end call is noted, unless the reader is no reader: then nothing has changed.
         let again = end(&mut l.clone(), &mut reader.clone());
         let unread = *l == start && reader == kept;
-        return ("read_end", answer, again == answer && l.guarded() && reader.guarded(G64) && (answer.number != 1 || unread || reader != kept));
+        let noted = answer.number != 1 || unread || reader != kept;
+        return ("read_end", answer, again == answer && l.guarded() && reader.guarded(G64) && noted);
     }
     let at = rng.below(bytes.len() as u64 + 1) as usize;
     let answer = read(l, &mut reader, &bytes);
@@ -464,7 +465,10 @@ fn limits(rng: &mut Rng) -> (u64, u64) {
             ix.insert(k % 5, k, 1);
         }
         ix.lines = vec![0; 1 + LINE_WORDS * lines];
-        let call = |rng: &mut Rng| [[1, 1, 2, 3][rng.below(4) as usize], rng.below(5), rng.below(2 * slots as u64), rng.next() as u32 as u64];
+        let call = |rng: &mut Rng| {
+            let kind = [1, 1, 2, 3][rng.below(4) as usize];
+            [kind, rng.below(5), rng.below(2 * slots as u64), rng.next() as u32 as u64]
+        };
         let calls: Vec<u64> = (0..1100).flat_map(|_| call(rng)).collect();
         let mut single = ix.clone();
         let words = single.singly(&calls);

@@ -1,5 +1,5 @@
-// intake: reads an upload from standard input in chunks of up to 65,536 bytes into an empty index of 4,096 slots and 1,024 lines, and prints
-// the names that it holds then, or the number of the refusal.
+// intake: reads an upload from standard input in chunks of up to 65,536 bytes into an empty index of 4,096 slots and 1,024 lines, and
+// prints the names that it holds then, or the number of the refusal.
 use index::fresh::fresh;
 use libc::STDIN_FILENO;
 use libc::STDOUT_FILENO;

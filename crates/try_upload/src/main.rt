@@ -1,0 +1,55 @@
+// Reads uploads cut at every pair of bytes and holds each run against the one that is not cut; sees that a refusal leaves the index of
+// the start, that a planted name is noticed, and what comes of foreign writes between two chunks.
+mod cuts;
+mod ended;
+mod foreign;
+mod table;
+
+use cuts::whole_and_cut;
+use ended::try_ended;
+use foreign::try_foreign;
+use table::try_full;
+
+// The uploads, each of the name that its line has.
+const ACCEPTED: [u8; 44] =
+    *b"\x01\x01\0\x01\0\0\0\0\0\0\0\x02\0\0\0\0\0\0\0\x02\0\0\x03\0\0\x04\x01\0\x01\0\0\0\0\0\0\0\x03\0\0\0\0\0\0\0";
+
+const WRONG_AT_ONCE: [u8; 44] =
+    *b"\x02\x01\0\x01\0\0\0\0\0\0\0\x02\0\0\0\0\0\0\0\x02\0\0\x03\0\0\x04\x01\0\x01\0\0\0\0\0\0\0\x03\0\0\0\0\0\0\0";
+
+const WRONG_BEHIND: [u8; 22] = *b"\x01\x01\0\x01\0\0\0\0\0\0\0\x02\0\0\0\0\0\0\0\x03\0\0";
+
+const TWICE: [u8; 44] =
+    *b"\x01\x01\0\x01\0\0\0\0\0\0\0\x02\0\0\0\0\0\0\0\x02\0\0\x03\0\0\x04\x01\0\x01\0\0\0\0\0\0\0\x02\0\0\0\0\0\0\0";
+
+const WAS_THERE: [u8; 35] =
+    *b"\x01\x02\0\x01\0\0\0\0\0\0\0\x02\0\0\0\0\0\0\0\x09\0\0\0\0\0\0\0\x09\0\0\0\0\0\0\0";
+
+const IN_A_HEADER: [u8; 22] = *b"\x01\x01\0\x01\0\0\0\0\0\0\0\x02\0\0\0\0\0\0\0\x02\0\0";
+
+const IN_AN_ENTRY: [u8; 43] =
+    *b"\x01\x01\0\x01\0\0\0\0\0\0\0\x02\0\0\0\0\0\0\0\x02\0\0\x03\0\0\x04\x01\0\x01\0\0\0\0\0\0\0\x03\0\0\0\0\0\0";
+
+const A_BYTE_MORE: [u8; 45] =
+    *b"\x01\x01\0\x01\0\0\0\0\0\0\0\x02\0\0\0\0\0\0\0\x02\0\0\x03\0\0\x04\x01\0\x01\0\0\0\0\0\0\0\x03\0\0\0\0\0\0\0\0";
+
+fn main() {
+    whole_and_cut(b"accepted: ", &ACCEPTED);
+    whole_and_cut(b"wrong kind at once: ", &WRONG_AT_ONCE);
+    whole_and_cut(b"wrong kind behind an entry: ", &WRONG_BEHIND);
+    let mut third = ACCEPTED;
+    third[22] = 2;
+    whole_and_cut(b"wrong third kind: ", &third);
+    let mut fourth = ACCEPTED;
+    fourth[25] = 3;
+    whole_and_cut(b"wrong fourth kind: ", &fourth);
+    whole_and_cut(b"a pair twice: ", &TWICE);
+    whole_and_cut(b"a pair that was there: ", &WAS_THERE);
+    whole_and_cut(b"cut inside a header: ", &IN_A_HEADER);
+    whole_and_cut(b"cut inside an entry: ", &IN_AN_ENTRY);
+    whole_and_cut(b"nothing: ", b"");
+    whole_and_cut(b"a byte more: ", &A_BYTE_MORE);
+    try_ended(&ACCEPTED);
+    try_full();
+    try_foreign();
+}
