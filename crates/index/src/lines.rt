@@ -70,8 +70,8 @@ fn take_back(
     Undoing::Done(x)
 }
 
-// A remove line is undone by an insert into the free slot x, right behind the slot y, at the front where y is null: its pair is not there, and
-// there is a free slot. Misfit where that is not so, or where the place is wider than 32 bits.
+// A remove line is undone by an insert into the free slot x, right behind the slot y, at the front where y is null: its pair is not there,
+// and there is a free slot. Misfit where that is not so, or where the place is wider than 32 bits.
 fn put_back(
     names: &mut [u64],
     cells: &mut [u32],
