@@ -1,241 +1,6 @@
 //! The exports, behind slices. Each answers value + 2^32 * number + 2^48 * looks; only find and lookup have looks.
 pub const NULL: u32 = u32::MAX;
 
-mod c {
-    extern "C" {
-        pub fn oz_find(
-            names: *const u64,
-            names_len: usize,
-            cells: *const u32,
-            cells_len: usize,
-            head: *const u32,
-            head_len: usize,
-            hash: u64,
-            key: u64,
-        ) -> u64;
-        pub fn oz_fresh(
-            names: *mut u64,
-            names_len: usize,
-            cells: *mut u32,
-            cells_len: usize,
-            head: *mut u32,
-            head_len: usize,
-            sizes: *mut u32,
-            sizes_len: usize,
-            lines: *mut u64,
-            lines_len: usize,
-        ) -> u64;
-        pub fn oz_insert(
-            names: *mut u64,
-            names_len: usize,
-            cells: *mut u32,
-            cells_len: usize,
-            head: *mut u32,
-            head_len: usize,
-            sizes: *mut u32,
-            sizes_len: usize,
-            lines: *mut u64,
-            lines_len: usize,
-            hash: u64,
-            key: u64,
-            place: u32,
-        ) -> u64;
-        pub fn oz_remove(
-            names: *mut u64,
-            names_len: usize,
-            cells: *mut u32,
-            cells_len: usize,
-            head: *mut u32,
-            head_len: usize,
-            sizes: *mut u32,
-            sizes_len: usize,
-            lines: *mut u64,
-            lines_len: usize,
-            hash: u64,
-            key: u64,
-        ) -> u64;
-        pub fn oz_replace(
-            names: *const u64,
-            names_len: usize,
-            cells: *mut u32,
-            cells_len: usize,
-            head: *const u32,
-            head_len: usize,
-            sizes: *const u32,
-            sizes_len: usize,
-            lines: *mut u64,
-            lines_len: usize,
-            hash: u64,
-            key: u64,
-            place: u32,
-        ) -> u64;
-        pub fn oz_rollback(
-            names: *mut u64,
-            names_len: usize,
-            cells: *mut u32,
-            cells_len: usize,
-            head: *mut u32,
-            head_len: usize,
-            sizes: *mut u32,
-            sizes_len: usize,
-            lines: *mut u64,
-            lines_len: usize,
-            mark: u32,
-        ) -> u64;
-        pub fn oz_batch(
-            names: *mut u64,
-            names_len: usize,
-            cells: *mut u32,
-            cells_len: usize,
-            head: *mut u32,
-            head_len: usize,
-            sizes: *mut u32,
-            sizes_len: usize,
-            lines: *mut u64,
-            lines_len: usize,
-            calls: *const u64,
-            calls_len: usize,
-            answers: *mut u64,
-            answers_len: usize,
-        ) -> u64;
-        pub fn oz_read_start(
-            names: *const u64,
-            names_len: usize,
-            cells: *const u32,
-            cells_len: usize,
-            head: *const u32,
-            head_len: usize,
-            sizes: *const u32,
-            sizes_len: usize,
-            lines: *const u64,
-            lines_len: usize,
-            reader: *mut u64,
-            reader_len: usize,
-        ) -> u64;
-        pub fn oz_read_chunk(
-            names: *mut u64,
-            names_len: usize,
-            cells: *mut u32,
-            cells_len: usize,
-            head: *mut u32,
-            head_len: usize,
-            sizes: *mut u32,
-            sizes_len: usize,
-            lines: *mut u64,
-            lines_len: usize,
-            reader: *mut u64,
-            reader_len: usize,
-            chunk: *const u8,
-            chunk_len: usize,
-        ) -> u64;
-        pub fn oz_read_end(
-            names: *mut u64,
-            names_len: usize,
-            cells: *mut u32,
-            cells_len: usize,
-            head: *mut u32,
-            head_len: usize,
-            sizes: *mut u32,
-            sizes_len: usize,
-            lines: *mut u64,
-            lines_len: usize,
-            reader: *mut u64,
-            reader_len: usize,
-        ) -> u64;
-        pub fn oz_check(names: *const u64, names_len: usize, cells: *const u32, cells_len: usize, head: *const u32, head_len: usize)
-            -> u64;
-        pub fn oz_sound(
-            names: *const u64,
-            names_len: usize,
-            cells: *const u32,
-            cells_len: usize,
-            head: *const u32,
-            head_len: usize,
-            sizes: *const u32,
-            sizes_len: usize,
-        ) -> u64;
-        pub fn oz_kth(
-            names: *const u64,
-            names_len: usize,
-            cells: *const u32,
-            cells_len: usize,
-            head: *const u32,
-            head_len: usize,
-            sizes: *const u32,
-            sizes_len: usize,
-            k: u32,
-        ) -> u64;
-        pub fn oz_position(
-            names: *const u64,
-            names_len: usize,
-            cells: *const u32,
-            cells_len: usize,
-            head: *const u32,
-            head_len: usize,
-            sizes: *const u32,
-            sizes_len: usize,
-            hash: u64,
-            key: u64,
-        ) -> u64;
-        pub fn oz_accept(
-            lengths: *const u32,
-            lengths_len: usize,
-            bins: *const u32,
-            bins_len: usize,
-            heads: *const u32,
-            heads_len: usize,
-            names: *const u64,
-            names_len: usize,
-            cells: *const u32,
-            cells_len: usize,
-        ) -> u64;
-        pub fn oz_lookup(
-            lengths: *const u32,
-            lengths_len: usize,
-            bins: *const u32,
-            bins_len: usize,
-            heads: *const u32,
-            heads_len: usize,
-            names: *const u64,
-            names_len: usize,
-            cells: *const u32,
-            cells_len: usize,
-            table: u32,
-            hash: u64,
-            key: u64,
-        ) -> u64;
-        pub fn oz_start(
-            lengths: *const u32,
-            lengths_len: usize,
-            bins: *const u32,
-            bins_len: usize,
-            heads: *const u32,
-            heads_len: usize,
-            names: *const u64,
-            names_len: usize,
-            cells: *const u32,
-            cells_len: usize,
-            table: u32,
-            cursor: *mut u32,
-            cursor_len: usize,
-        ) -> u64;
-        pub fn oz_walk(
-            lengths: *const u32,
-            lengths_len: usize,
-            bins: *const u32,
-            bins_len: usize,
-            heads: *const u32,
-            heads_len: usize,
-            names: *const u64,
-            names_len: usize,
-            cells: *const u32,
-            cells_len: usize,
-            cursor: *mut u32,
-            cursor_len: usize,
-        ) -> u64;
-    }
-}
-
 /// An exported routine's word, taken apart. Looks are how many slots a find or a lookup has read the hash of.
 #[derive(Clone, Copy, PartialEq, Eq, Debug)]
 pub struct Answer {
@@ -255,340 +20,62 @@ fn answer(word: u64) -> Answer {
     Answer { number: (word >> 32) as u16 as u32, value: word as u32, looks: (word >> 48) as u32 }
 }
 
-pub fn find(names: &[u64], cells: &[u32], head: &[u32], hash: u64, key: u64) -> Answer {
-    answer(unsafe { c::oz_find(names.as_ptr(), names.len(), cells.as_ptr(), cells.len(), head.as_ptr(), head.len(), hash, key) })
+/// Declares an exported routine and ours over it: a slice goes as a pointer and a length, a number as it is.
+macro_rules! export {
+    (@ $routine:ident $ours:ident ($($params:tt)*) ($($types:tt)*) ($($given:tt)*)) => {
+        pub fn $ours($($params)*) -> Answer {
+            extern "C" {
+                fn $routine($($types)*) -> u64;
+            }
+            answer(unsafe { $routine($($given)*) })
+        }
+    };
+    (@ $routine:ident $ours:ident ($($p:tt)*) ($($t:tt)*) ($($g:tt)*) $name:ident: &mut [$word:ty], $($rest:tt)*) => {
+        export!(@ $routine $ours ($($p)* $name: &mut [$word],) ($($t)* _: *mut $word, _: usize,)
+            ($($g)* $name.as_mut_ptr(), $name.len(),) $($rest)*);
+    };
+    (@ $routine:ident $ours:ident ($($p:tt)*) ($($t:tt)*) ($($g:tt)*) $name:ident: &[$word:ty], $($rest:tt)*) => {
+        export!(@ $routine $ours ($($p)* $name: &[$word],) ($($t)* _: *const $word, _: usize,)
+            ($($g)* $name.as_ptr(), $name.len(),) $($rest)*);
+    };
+    (@ $routine:ident $ours:ident ($($p:tt)*) ($($t:tt)*) ($($g:tt)*) $name:ident: $number:ty, $($rest:tt)*) => {
+        export!(@ $routine $ours ($($p)* $name: $number,) ($($t)* _: $number,) ($($g)* $name,) $($rest)*);
+    };
+    ($routine:ident $ours:ident $($rest:tt)*) => {
+        export!(@ $routine $ours () () () $($rest)*);
+    };
 }
 
-pub fn fresh(names: &mut [u64], cells: &mut [u32], head: &mut [u32], sizes: &mut [u32], lines: &mut [u64]) -> Answer {
-    answer(unsafe {
-        c::oz_fresh(
-            names.as_mut_ptr(),
-            names.len(),
-            cells.as_mut_ptr(),
-            cells.len(),
-            head.as_mut_ptr(),
-            head.len(),
-            sizes.as_mut_ptr(),
-            sizes.len(),
-            lines.as_mut_ptr(),
-            lines.len(),
-        )
-    })
-}
-
-pub fn insert(
-    names: &mut [u64],
-    cells: &mut [u32],
-    head: &mut [u32],
-    sizes: &mut [u32],
-    lines: &mut [u64],
-    hash: u64,
-    key: u64,
-    place: u32,
-) -> Answer {
-    answer(unsafe {
-        c::oz_insert(
-            names.as_mut_ptr(),
-            names.len(),
-            cells.as_mut_ptr(),
-            cells.len(),
-            head.as_mut_ptr(),
-            head.len(),
-            sizes.as_mut_ptr(),
-            sizes.len(),
-            lines.as_mut_ptr(),
-            lines.len(),
-            hash,
-            key,
-            place,
-        )
-    })
-}
-
-pub fn remove(names: &mut [u64], cells: &mut [u32], head: &mut [u32], sizes: &mut [u32], lines: &mut [u64], hash: u64, key: u64) -> Answer {
-    answer(unsafe {
-        c::oz_remove(
-            names.as_mut_ptr(),
-            names.len(),
-            cells.as_mut_ptr(),
-            cells.len(),
-            head.as_mut_ptr(),
-            head.len(),
-            sizes.as_mut_ptr(),
-            sizes.len(),
-            lines.as_mut_ptr(),
-            lines.len(),
-            hash,
-            key,
-        )
-    })
-}
-
-pub fn replace(
-    names: &[u64],
-    cells: &mut [u32],
-    head: &[u32],
-    sizes: &[u32],
-    lines: &mut [u64],
-    hash: u64,
-    key: u64,
-    place: u32,
-) -> Answer {
-    answer(unsafe {
-        c::oz_replace(
-            names.as_ptr(),
-            names.len(),
-            cells.as_mut_ptr(),
-            cells.len(),
-            head.as_ptr(),
-            head.len(),
-            sizes.as_ptr(),
-            sizes.len(),
-            lines.as_mut_ptr(),
-            lines.len(),
-            hash,
-            key,
-            place,
-        )
-    })
-}
-
-pub fn rollback(names: &mut [u64], cells: &mut [u32], head: &mut [u32], sizes: &mut [u32], lines: &mut [u64], mark: u32) -> Answer {
-    answer(unsafe {
-        c::oz_rollback(
-            names.as_mut_ptr(),
-            names.len(),
-            cells.as_mut_ptr(),
-            cells.len(),
-            head.as_mut_ptr(),
-            head.len(),
-            sizes.as_mut_ptr(),
-            sizes.len(),
-            lines.as_mut_ptr(),
-            lines.len(),
-            mark,
-        )
-    })
-}
-
-pub fn batch(
-    names: &mut [u64],
-    cells: &mut [u32],
-    head: &mut [u32],
-    sizes: &mut [u32],
-    lines: &mut [u64],
-    calls: &[u64],
-    answers: &mut [u64],
-) -> Answer {
-    answer(unsafe {
-        c::oz_batch(
-            names.as_mut_ptr(),
-            names.len(),
-            cells.as_mut_ptr(),
-            cells.len(),
-            head.as_mut_ptr(),
-            head.len(),
-            sizes.as_mut_ptr(),
-            sizes.len(),
-            lines.as_mut_ptr(),
-            lines.len(),
-            calls.as_ptr(),
-            calls.len(),
-            answers.as_mut_ptr(),
-            answers.len(),
-        )
-    })
-}
-
-pub fn read_start(
-    names: &[u64],
-    cells: &[u32],
-    head: &[u32],
-    sizes: &[u32],
-    lines: &[u64],
-    reader: &mut [u64],
-) -> Answer {
-    answer(unsafe {
-        c::oz_read_start(
-            names.as_ptr(),
-            names.len(),
-            cells.as_ptr(),
-            cells.len(),
-            head.as_ptr(),
-            head.len(),
-            sizes.as_ptr(),
-            sizes.len(),
-            lines.as_ptr(),
-            lines.len(),
-            reader.as_mut_ptr(),
-            reader.len(),
-        )
-    })
-}
-
-pub fn read_chunk(
-    names: &mut [u64],
-    cells: &mut [u32],
-    head: &mut [u32],
-    sizes: &mut [u32],
-    lines: &mut [u64],
-    reader: &mut [u64],
-    chunk: &[u8],
-) -> Answer {
-    answer(unsafe {
-        c::oz_read_chunk(
-            names.as_mut_ptr(),
-            names.len(),
-            cells.as_mut_ptr(),
-            cells.len(),
-            head.as_mut_ptr(),
-            head.len(),
-            sizes.as_mut_ptr(),
-            sizes.len(),
-            lines.as_mut_ptr(),
-            lines.len(),
-            reader.as_mut_ptr(),
-            reader.len(),
-            chunk.as_ptr(),
-            chunk.len(),
-        )
-    })
-}
-
-pub fn read_end(
-    names: &mut [u64],
-    cells: &mut [u32],
-    head: &mut [u32],
-    sizes: &mut [u32],
-    lines: &mut [u64],
-    reader: &mut [u64],
-) -> Answer {
-    answer(unsafe {
-        c::oz_read_end(
-            names.as_mut_ptr(),
-            names.len(),
-            cells.as_mut_ptr(),
-            cells.len(),
-            head.as_mut_ptr(),
-            head.len(),
-            sizes.as_mut_ptr(),
-            sizes.len(),
-            lines.as_mut_ptr(),
-            lines.len(),
-            reader.as_mut_ptr(),
-            reader.len(),
-        )
-    })
-}
-
-pub fn check(names: &[u64], cells: &[u32], head: &[u32]) -> Answer {
-    answer(unsafe { c::oz_check(names.as_ptr(), names.len(), cells.as_ptr(), cells.len(), head.as_ptr(), head.len()) })
-}
-
-pub fn sound(names: &[u64], cells: &[u32], head: &[u32], sizes: &[u32]) -> Answer {
-    answer(unsafe {
-        c::oz_sound(names.as_ptr(), names.len(), cells.as_ptr(), cells.len(), head.as_ptr(), head.len(), sizes.as_ptr(), sizes.len())
-    })
-}
-
-pub fn kth(names: &[u64], cells: &[u32], head: &[u32], sizes: &[u32], k: u32) -> Answer {
-    answer(unsafe {
-        c::oz_kth(names.as_ptr(), names.len(), cells.as_ptr(), cells.len(), head.as_ptr(), head.len(), sizes.as_ptr(), sizes.len(), k)
-    })
-}
-
-pub fn position(names: &[u64], cells: &[u32], head: &[u32], sizes: &[u32], hash: u64, key: u64) -> Answer {
-    answer(unsafe {
-        c::oz_position(
-            names.as_ptr(),
-            names.len(),
-            cells.as_ptr(),
-            cells.len(),
-            head.as_ptr(),
-            head.len(),
-            sizes.as_ptr(),
-            sizes.len(),
-            hash,
-            key,
-        )
-    })
-}
-
-pub fn accept(lengths: &[u32], bins: &[u32], heads: &[u32], names: &[u64], cells: &[u32]) -> Answer {
-    answer(unsafe {
-        c::oz_accept(
-            lengths.as_ptr(),
-            lengths.len(),
-            bins.as_ptr(),
-            bins.len(),
-            heads.as_ptr(),
-            heads.len(),
-            names.as_ptr(),
-            names.len(),
-            cells.as_ptr(),
-            cells.len(),
-        )
-    })
-}
-
-pub fn lookup(lengths: &[u32], bins: &[u32], heads: &[u32], names: &[u64], cells: &[u32], table: u32, hash: u64, key: u64) -> Answer {
-    answer(unsafe {
-        c::oz_lookup(
-            lengths.as_ptr(),
-            lengths.len(),
-            bins.as_ptr(),
-            bins.len(),
-            heads.as_ptr(),
-            heads.len(),
-            names.as_ptr(),
-            names.len(),
-            cells.as_ptr(),
-            cells.len(),
-            table,
-            hash,
-            key,
-        )
-    })
-}
-
-pub fn start(lengths: &[u32], bins: &[u32], heads: &[u32], names: &[u64], cells: &[u32], table: u32, cursor: &mut [u32]) -> Answer {
-    answer(unsafe {
-        c::oz_start(
-            lengths.as_ptr(),
-            lengths.len(),
-            bins.as_ptr(),
-            bins.len(),
-            heads.as_ptr(),
-            heads.len(),
-            names.as_ptr(),
-            names.len(),
-            cells.as_ptr(),
-            cells.len(),
-            table,
-            cursor.as_mut_ptr(),
-            cursor.len(),
-        )
-    })
-}
-
-pub fn walk(lengths: &[u32], bins: &[u32], heads: &[u32], names: &[u64], cells: &[u32], cursor: &mut [u32]) -> Answer {
-    answer(unsafe {
-        c::oz_walk(
-            lengths.as_ptr(),
-            lengths.len(),
-            bins.as_ptr(),
-            bins.len(),
-            heads.as_ptr(),
-            heads.len(),
-            names.as_ptr(),
-            names.len(),
-            cells.as_ptr(),
-            cells.len(),
-            cursor.as_mut_ptr(),
-            cursor.len(),
-        )
-    })
-}
+export!(oz_find find names: &[u64], cells: &[u32], head: &[u32], hash: u64, key: u64,);
+export!(oz_fresh fresh names: &mut [u64], cells: &mut [u32], head: &mut [u32], sizes: &mut [u32], lines: &mut [u64],);
+export!(oz_insert insert
+    names: &mut [u64], cells: &mut [u32], head: &mut [u32], sizes: &mut [u32], lines: &mut [u64], hash: u64, key: u64, place: u32,
+);
+export!(oz_remove remove
+    names: &mut [u64], cells: &mut [u32], head: &mut [u32], sizes: &mut [u32], lines: &mut [u64], hash: u64, key: u64,
+);
+export!(oz_replace replace
+    names: &[u64], cells: &mut [u32], head: &[u32], sizes: &[u32], lines: &mut [u64], hash: u64, key: u64, place: u32,
+);
+export!(oz_rollback rollback names: &mut [u64], cells: &mut [u32], head: &mut [u32], sizes: &mut [u32], lines: &mut [u64], mark: u32,);
+export!(oz_batch batch
+    names: &mut [u64], cells: &mut [u32], head: &mut [u32], sizes: &mut [u32], lines: &mut [u64], calls: &[u64], answers: &mut [u64],
+);
+export!(oz_read_start read_start names: &[u64], cells: &[u32], head: &[u32], sizes: &[u32], lines: &[u64], reader: &mut [u64],);
+export!(oz_read_chunk read_chunk
+    names: &mut [u64], cells: &mut [u32], head: &mut [u32], sizes: &mut [u32], lines: &mut [u64], reader: &mut [u64], chunk: &[u8],
+);
+export!(oz_read_end read_end
+    names: &mut [u64], cells: &mut [u32], head: &mut [u32], sizes: &mut [u32], lines: &mut [u64], reader: &mut [u64],
+);
+export!(oz_check check names: &[u64], cells: &[u32], head: &[u32],);
+export!(oz_sound sound names: &[u64], cells: &[u32], head: &[u32], sizes: &[u32],);
+export!(oz_kth kth names: &[u64], cells: &[u32], head: &[u32], sizes: &[u32], k: u32,);
+export!(oz_position position names: &[u64], cells: &[u32], head: &[u32], sizes: &[u32], hash: u64, key: u64,);
+export!(oz_accept accept lengths: &[u32], bins: &[u32], heads: &[u32], names: &[u64], cells: &[u32],);
+export!(oz_lookup lookup lengths: &[u32], bins: &[u32], heads: &[u32], names: &[u64], cells: &[u32], table: u32, hash: u64, key: u64,);
+export!(oz_start start lengths: &[u32], bins: &[u32], heads: &[u32], names: &[u64], cells: &[u32], table: u32, cursor: &mut [u32],);
+export!(oz_walk walk lengths: &[u32], bins: &[u32], heads: &[u32], names: &[u64], cells: &[u32], cursor: &mut [u32],);
 
 pub const PLACE: usize = 0;
 pub const STATE: usize = 1;
