@@ -11,7 +11,8 @@ use Rattle.tree_rules.specs.Find.{slotsOf, Search, ends, found, decided, looked
 use Rattle.tree_rules.proofs.Searching.{at-null}
 use Rattle.tree_rules.specs.Chain.{chained, tally}
 use Rattle.tree_rules.specs.Check.{linksIn}
-use Rattle.tree_rules.specs.Rules.{stands, reached, follows, risen, allCalm, levelled, rises, coloured, level}
+use Rattle.tree_rules.specs.Rules.{stands, reached, follows, risen, allCalm, levelled, withParts, slotsBelow, rises, coloured, level, allSized}
+use Rattle.tree_rules.specs.Sizes.{hasSize}
 use Rattle.redblack.specs.Deletion.{capped, settled, tucked, eased, sunk, deletionTurn, balancedDeletion}
 use Rattle.redblack.specs.Hanging.{descended, hooked, inserted, spotted}
 use Rattle.redblack.specs.Insertion.{raised, straightened, lifted, insertionTurn, insertionTurns, balancedInsertion}
@@ -19,7 +20,7 @@ use Rattle.redblack.specs.Removal.{replaced, lowered, traded, replacement, spli
 use Rattle.redblack.specs.Rotate.{hung, recounted, turned, rotated}
 use Rattle.redblack.specs.Climbing.{climbed, swapped}
 use Rattle.index_rules.specs.Live.{Live, unsizedOf, Fit, rootOf, countOf, fitsUnsized, fits}
-use Rattle.index_rules.specs.Sound.{Sound, sound, isCleared, slotFine, slotsFine, rule1, rule2, rule3, rule4, rule5, rule6, rule7, sizeFine, sizesFine, rule8}
+use Rattle.index_rules.specs.Sound.{Sound, sound, isCleared, slotFine, slotsFine, rule1, rule2, rule3, rule4, rule5, rule6, rule7, freeFine, freesFine, rule8}
 use Rattle.index_rules.specs.Find.{finds}
 use Rattle.index_rules.specs.Index.{Index, FitIndex, index, outcome, lengthOf, wholeLines, fitsJournal, fitsIndex, lined, appended}
 use Rattle.index_rules.specs.Rollback.{rolls, unrolled, blanked}
@@ -72,7 +73,7 @@ unfolding tables listSlots cell begins doubling doubled fitTables setFits binOf 
 walk-done = refl
 
 pub claims : Claims
-unfolding empty zeros freeSlots drawn drawnFrom chainOf chainFrom cell write nameOf rename roomy chained tally linksIn decided looked searched found stands reached follows risen allCalm levelled rises coloured level capped settled tucked eased sunk deletionTurn balancedDeletion descended hooked inserted spotted raised straightened lifted insertionTurn insertionTurns balancedInsertion replaced lowered traded replacement spliced detached dropped leftmost removed hung recounted turned rotated climbed swapped sum after wholeLines fitsJournal fitsIndex lined appended freeFrom lowestFree soughtIn seated grown inserts fitsUnsized fits unchained wiped shrunk removalOf wherePresent afterRemove removes isCleared slotFine slotsFine rule1 rule2 rule3 rule4 rule5 rule6 rule7 sizeFine sizesFine rule8 sound
+unfolding empty zeros freeSlots drawn drawnFrom chainOf chainFrom cell write nameOf rename roomy chained tally linksIn decided looked searched found stands reached follows risen allCalm levelled withParts hasSize slotsBelow rises coloured level allSized capped settled tucked eased sunk deletionTurn balancedDeletion descended hooked inserted spotted raised straightened lifted insertionTurn insertionTurns balancedInsertion replaced lowered traded replacement spliced detached dropped leftmost removed hung recounted turned rotated climbed swapped sum after wholeLines fitsJournal fitsIndex lined appended freeFrom lowestFree soughtIn seated grown inserts fitsUnsized fits unchained wiped shrunk removalOf wherePresent afterRemove removes isCleared slotFine slotsFine rule1 rule2 rule3 rule4 rule5 rule6 rule7 freeFine freesFine rule8 sound
 claims =
     record {
       empty-find = empty-find;

@@ -1,4 +1,5 @@
-// The full check of a live tree: T1 to T8, where one walk of the tree answers for T3 to T6.
+// The full check of a live tree: T1 to T8, where one pass over the slots answers for T1 and for the sizes of free slots, and one walk of
+// the tree for T3 to T6 and the sizes of its own slots.
 use crate::fit::fit;
 use slots::COUNT;
 use slots::FIRST;
@@ -37,10 +38,10 @@ ghost use lib.Dec.{eqb};
 ghost use Rattle.slots.specs.Words.{null, pick, state, free, cell, mostNames};
 ghost use Rattle.tree_rules.specs.Chain.{tally};
 ghost use Rattle.index_rules.specs.Live.{lentTree};
-ghost use Rattle.index_rules.specs.Sound.{used, isCleared, slotFine, slotsFine, sizeFine, sizesFine, agree, sounds};
-ghost use Rattle.index_rules.specs.Sound.{rule1 as obeys1, rule2 as obeys2, rule7 as obeys7, rule8 as obeys8, sound as obeysAll};
+ghost use Rattle.index_rules.specs.Sound.{used, isCleared, slotsFine, agree, sounds};
+ghost use Rattle.index_rules.specs.Sound.{rule2 as obeys2, rule7 as obeys7, sound as obeysAll};
 ghost use Rattle.index.specs.Reads.{soundOf};
-ghost use Rattle.index.specs.Sound.{treeRules};
+ghost use Rattle.index.specs.Sound.{slotRule, slotRules, rule1AndFrees, treeRules};
 
 // Slot i is cleared: all zero with null links.
 fn is_cleared(names: &[u64], cells: &[u32], i: u32) -> bool
@@ -56,9 +57,10 @@ fn is_cleared(names: &[u64], cells: &[u32], i: u32) -> bool
         && get(cells, i, NEXT) == NULL
 }
 
-// T1 of slot i: its links are null or name one of n slots, its state is 0, 1 or 2, and it is cleared if it is free.
-fn slot_fine(names: &[u64], cells: &[u32], n: usize, i: u32) -> bool
-    ensures { λ r. ⌜ r ≡ slotFine n (lentTree (now (names .entry)) (now (cells .entry)) [] []) i ⌝ }
+// T1 of slot i: its links are null or name one of n slots, its state is 0, 1 or 2, and it is cleared if it is free; and T8 of a free
+// one: it has no size.
+fn slot_fine(names: &[u64], cells: &[u32], sizes: &[u32], n: usize, i: u32) -> bool
+    ensures { λ r. ⌜ r ≡ slotRule n (lentTree (now (names .entry)) (now (cells .entry)) [] (now (sizes .entry))) i ⌝ }
 {
     let named = links_in(n, cells, i);
     if !named {
@@ -66,24 +68,31 @@ fn slot_fine(names: &[u64], cells: &[u32], n: usize, i: u32) -> bool
     }
     let state = get(cells, i, STATE);
     if state == FREE {
-        return is_cleared(names, cells, i);
+        return is_cleared(names, cells, i) && word(sizes, i as usize, 0) == 0;
     }
     state <= RED
 }
 
-// T1 of each of the n slots.
-pub fn slots_fine(names: &[u64], cells: &[u32], n: u32) -> bool
-    ensures { λ r. ⌜ r ≡ slotsFine n n (lentTree (now (names .entry)) (now (cells .entry)) [] []) ⌝ }
+// T1 of each of the n slots, and T8 of the free ones.
+fn sized_slots_fine(names: &[u64], cells: &[u32], sizes: &[u32], n: u32) -> bool
+    ensures { λ r. ⌜ r ≡ slotRules n n (lentTree (now (names .entry)) (now (cells .entry)) [] (now (sizes .entry))) ⌝ }
 {
     let mut k = n;
     while 0 < k {
         k -= 1;
-        let fine = slot_fine(names, cells, n as usize, k);
+        let fine = slot_fine(names, cells, sizes, n as usize, k);
         if !fine {
             return false;
         }
     }
     true
+}
+
+// T1 of each of the n slots, which have no sizes.
+pub fn slots_fine(names: &[u64], cells: &[u32], n: u32) -> bool
+    ensures { λ r. ⌜ r ≡ slotsFine n n (lentTree (now (names .entry)) (now (cells .entry)) [] []) ⌝ }
+{
+    sized_slots_fine(names, cells, &cells[0..0], n)
 }
 
 // 1 for a slot that is not free, 0 for a free one.
@@ -111,13 +120,14 @@ pub fn used_slots(cells: &[u32], n: u32) -> u32
     count
 }
 
-// T1: links are null or name a slot; states are 0, 1 or 2; free slots are cleared; the count is the number of slots not free.
-fn rule1(names: &[u64], cells: &[u32], head: &[u32]) -> bool
+// T1: links are null or name a slot; states are 0, 1 or 2; free slots are cleared; the count is the number of slots not free. And T8 of
+// free slots.
+fn rules_of_the_slots(names: &[u64], cells: &[u32], head: &[u32], sizes: &[u32]) -> bool
     requires { ⌜ length (now names) ≤ mostNames ⌝ }
-    ensures { λ r. ⌜ ((sizes : List ℕ) → r ≡ obeys1 (lentTree (now (names .entry)) (now (cells .entry)) (now (head .entry)) sizes)) ⌝ }
+    ensures { λ r. ⌜ r ≡ rule1AndFrees (lentTree (now (names .entry)) (now (cells .entry)) (now (head .entry)) (now (sizes .entry))) ⌝ }
 {
     let n = names.len() / 2;
-    slots_fine(names, cells, n as u32)
+    sized_slots_fine(names, cells, sizes, n as u32)
         && in_range(n, word(head, ROOT, NULL))
         && in_range(n, word(head, FIRST, NULL))
         && word(head, COUNT, NULL) == used_slots(cells, n as u32)
@@ -141,12 +151,12 @@ fn rule2(head: &[u32]) -> bool
     null_if_none(word(head, ROOT, NULL), count) && null_if_none(word(head, FIRST, NULL), count)
 }
 
-// T3 to T6 in one walk: the tree from the root obeys them, and has as many slots as the count says.
-fn rules_of_the_tree(names: &[u64], cells: &[u32], head: &[u32]) -> bool
-    ensures { λ r. ⌜ ((sizes : List ℕ) → r ≡ treeRules (lentTree (now (names .entry)) (now (cells .entry)) (now (head .entry)) sizes)) ⌝ }
+// T3 to T6 and T8 of the tree's slots in one walk: the tree from the root obeys them, and has as many slots as the count says.
+fn rules_of_the_tree(names: &[u64], cells: &[u32], head: &[u32], sizes: &[u32]) -> bool
+    ensures { λ r. ⌜ r ≡ treeRules (lentTree (now (names .entry)) (now (cells .entry)) (now (head .entry)) (now (sizes .entry))) ⌝ }
 {
     let root = word(head, ROOT, NULL);
-    let size = tree_size(names, cells, root);
+    let size = tree_size(names, cells, sizes, root);
     let Size::Slots(m) = size else {
         return false;
     };
@@ -179,53 +189,15 @@ fn rule7(names: &[u64], cells: &[u32], head: &[u32]) -> bool
     n - rest == count as usize
 }
 
-// T8 of slot i: it has one more than its two children together, 0 if it is free.
-fn size_fine(cells: &[u32], sizes: &[u32], i: u32) -> bool
-    ensures { λ r. ⌜ r ≡ sizeFine (lentTree [] (now (cells .entry)) [] (now (sizes .entry))) i ⌝ }
-{
-    let own = word(sizes, i as usize, 0);
-    let state = get(cells, i, STATE);
-    if state == FREE {
-        return own == 0;
-    }
-    let one = word(sizes, get(cells, i, LEFT) as usize, 0);
-    let two = word(sizes, get(cells, i, RIGHT) as usize, 0);
-    own as u64 == 1 + one as u64 + two as u64
-}
-
-// T8 of each of the n slots.
-fn sizes_fine(cells: &[u32], sizes: &[u32], n: u32) -> bool
-    ensures { λ r. ⌜ r ≡ sizesFine n (lentTree [] (now (cells .entry)) [] (now (sizes .entry))) ⌝ }
-{
-    let mut k = n;
-    while 0 < k {
-        k -= 1;
-        let fine = size_fine(cells, sizes, k);
-        if !fine {
-            return false;
-        }
-    }
-    true
-}
-
-// T8: the stored size is the number of pairs in the subtree, 0 in a free slot.
-fn rule8(names: &[u64], cells: &[u32], sizes: &[u32]) -> bool
-    requires { ⌜ length (now names) ≤ mostNames ⌝ }
-    ensures { λ r. ⌜ ((head : List ℕ) → r ≡ obeys8 (lentTree (now (names .entry)) (now (cells .entry)) head (now (sizes .entry)))) ⌝ }
-{
-    sizes_fine(cells, sizes, (names.len() / 2) as u32)
-}
-
 // The tree obeys T1 to T8.
 fn is_sound(names: &[u64], cells: &[u32], head: &[u32], sizes: &[u32]) -> bool
     requires { ⌜ length (now names) ≤ mostNames ⌝ }
     ensures { λ r. ⌜ r ≡ obeysAll (lentTree (now (names .entry)) (now (cells .entry)) (now (head .entry)) (now (sizes .entry))) ⌝ }
 {
-    rule1(names, cells, head)
+    rules_of_the_slots(names, cells, head, sizes)
         && rule2(head)
-        && rules_of_the_tree(names, cells, head)
+        && rules_of_the_tree(names, cells, head, sizes)
         && rule7(names, cells, head)
-        && rule8(names, cells, sizes)
 }
 
 // What the full check answers.

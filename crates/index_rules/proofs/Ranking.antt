@@ -26,7 +26,7 @@ use Rattle.index_rules.specs.Ranks.{kths, ranked, positions}
 use Rattle.index_rules.specs.Contents.{Entry, entry, entryOf, contents, StandsAt}
 use Rattle.index_rules.specs.Claims.{Kths, Positions}
 use Rattle.index_rules.proofs.Fit.{fit-fits, fits-fit, half}
-use Rattle.index_rules.proofs.Rules.{small}
+use Rattle.index_rules.proofs.Rules.{small, ends}
 use Rattle.index_rules.proofs.Sounding.{sound-yes, yes-sound, unsound}
 use Rattle.index_rules.proofs.Holding.{map-append, contents-length}
 use Rattle.index_rules.proofs.Unrolling.{tree-one}
@@ -67,8 +67,8 @@ module _ {t : Live} (fit : Fit t) (h : Sound t) where
   abbrev nth : ℕ → ℕ
   nth k = getD (slots (h .tree)) k null
 
-  weighs : Weighs n (t .names) (t .cells) (t .sizes) (small fit) (fit .each ∙ sym (half fit)) (rootOf t) (h .tree)
-  weighs = claims .weighs n (t .names) (t .cells) (t .sizes) (small fit) (fit .each ∙ sym (half fit)) (rootOf t) (h .tree)
+  weighs : Weighs (t .names) (t .cells) (t .sizes) (small fit) (ends fit) (fit .each ∙ sym (half fit)) (rootOf t)
+  weighs = claims .weighs (t .names) (t .cells) (t .sizes) (small fit) (ends fit) (fit .each ∙ sym (half fit)) (rootOf t)
 
   many : length (slots (h .tree)) ≡ countOf t
   many = sym (length-map (slots (h .tree)) (entryOf t)) ∙ contents-length h

@@ -9,7 +9,7 @@ use Rattle.slots.specs.Words.{null, pick, place, state, parent, left, right, pr
 use Rattle.slots.specs.Answers.{Answer, Value, some, none, given, refused}
 use Rattle.tree_rules.specs.Check.{inRange, linksIn, Named, LinksNamed}
 use Rattle.tree_rules.specs.Tree.{Tree, slots, times, Rooted, Rising, Coloured, Level}
-use Rattle.tree_rules.specs.Rules.{reached, rises, coloured, level}
+use Rattle.tree_rules.specs.Rules.{reached, rises, coloured, level, allSized}
 use Rattle.tree_rules.specs.Chain.{Chain, chained, tally}
 use Rattle.tree_rules.specs.Sizes.{sizeWord, SizedBy}
 use Rattle.index_rules.specs.Live.{Live, rootOf, firstOf, countOf, fits}
@@ -139,18 +139,17 @@ rule7 t =
     (leaves n (countOf t) (chained n n (t .cells) null (firstOf t)))
     false
 
--- A slot of the tree has one more than its two children together, a free one 0.
-unfoldable pub sizeFine : Live → ℕ → Bool
-sizeFine t i =
-    eqb (sizeWord (t .sizes) i)
-    (pick (eqb (cell (t .cells) i state) free) 0 (1 + sizeWord (t .sizes) (cell (t .cells) i left) + sizeWord (t .sizes) (cell (t .cells) i right)))
+-- A free slot has no size.
+unfoldable pub freeFine : Live → ℕ → Bool
+freeFine t i = pick (eqb (cell (t .cells) i state) free) (eqb (sizeWord (t .sizes) i) 0) true
 
-unfoldable pub sizesFine : ℕ → Live → Bool
-sizesFine zero t = true
-sizesFine (suc k) t = sizeFine t k and sizesFine k t
+unfoldable pub freesFine : ℕ → Live → Bool
+freesFine zero t = true
+freesFine (suc k) t = freeFine t k and freesFine k t
 
+-- A slot of the tree has the number of its subtree, a free one 0.
 unfoldable pub rule8 : Live → Bool
-rule8 t = sizesFine (slotsOf (t .names)) t
+rule8 t = let n = slotsOf (t .names) in allSized n (t .cells) (t .sizes) (rootOf t) and freesFine n t
 
 unfoldable pub sound : Live → Bool
 sound t = rule1 t and rule2 t and rule3 t and rule4 t and rule5 t and rule6 t and rule7 t and rule8 t

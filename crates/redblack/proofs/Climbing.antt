@@ -15,7 +15,7 @@ use Rattle.redblack.specs.Sizes.{weight, weightWay, sizeBy, sizeAlong, S
 use Rattle.tree_rules.specs.Sizes.{only}
 use Rattle.redblack.proofs.Reading.{solid}
 use Rattle.redblack.proofs.Frames.{hit-same, cell-of}
-use Rattle.tree_rules.proofs.Adding.{only-same}
+use Rattle.tree_rules.proofs.Weighing.{only-same}
 use Rattle.redblack.proofs.Weights.{only-ne, only-miss, below-none, belowWay-none, below-plug, weight-plug, weight-cap, size-same, size-other}
 
 -- What d makes of a weight: one more, or one less.

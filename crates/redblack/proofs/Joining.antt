@@ -18,7 +18,7 @@ use Rattle.redblack.specs.Sizes.{weight, sizeBy, Sized, SizedAlong}
 use Rattle.redblack.proofs.Reading.{reads, roomy-cap}
 use Rattle.redblack.proofs.Frames.{hit-same, apart, count-plug, cell-of, way-frame, site-of, whole}
 use Rattle.redblack.proofs.Depth.{depth}
-use Rattle.tree_rules.proofs.Adding.{only-same}
+use Rattle.tree_rules.proofs.Weighing.{only-same}
 use Rattle.redblack.proofs.Weights.{only-ne, weight-plug, weight-cap, size-same, size-other}
 use Rattle.redblack.proofs.Hanging.{hooked-site, turns-first, planted}
 use Rattle.redblack.proofs.Steady.{Steady, sized-of, steady-insertionTurns}

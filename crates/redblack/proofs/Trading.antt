@@ -14,7 +14,7 @@ use Rattle.redblack.specs.Removal.{replaced, lowered, traded}
 use Rattle.redblack.specs.Sizes.{weight, weightWay, sizeBy, sizeAlong, Sized}
 use Rattle.tree_rules.specs.Sizes.{only}
 use Rattle.redblack.proofs.Frames.{hit-same, apart, cell-of, way-cell}
-use Rattle.tree_rules.proofs.Adding.{only-same}
+use Rattle.tree_rules.proofs.Weighing.{only-same}
 use Rattle.redblack.proofs.Weights.{only-ne, below-none, belowWay-none, below-plug, size-same, size-other}
 use Rattle.redblack.proofs.Sizing.{sizes-pick, by-two}
 use Rattle.redblack.proofs.Trade.{countWay-append, leads-on}

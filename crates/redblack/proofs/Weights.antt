@@ -19,7 +19,7 @@ use Rattle.redblack.specs.Sizes.{weight, weightWay, sizeBy, sizeAlong, S
 use Rattle.tree_rules.specs.Sizes.{only}
 use Rattle.redblack.proofs.Frames.{hit-same, apart, whole}
 use Rattle.redblack.proofs.Bridge.{site-holds}
-use Rattle.tree_rules.proofs.Adding.{only-same}
+use Rattle.tree_rules.proofs.Weighing.{only-same}
 
 pub only-ne : {k i : ℕ} (v : ℕ) → k ≢ i → only k i v ≡ 0
 unfolding only

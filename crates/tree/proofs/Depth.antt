@@ -15,28 +15,35 @@ use Rattle.slots.specs.Words.{null, pick, state, left, right, cell, Colour, bla
 use Rattle.slots.specs.Answers.{Value, none, some}
 use Rattle.slots.proofs.Laws.{some-is}
 use Rattle.tree_rules.specs.Find.{slotsOf}
-use Rattle.tree_rules.specs.Rules.{then, stands, reached, risen, allCalm, levelled, isCalm}
+use Rattle.tree_rules.specs.Rules.{then, stands, reached, risen, allCalm, levelled, slotsBelow, isCalm}
 use Rattle.tree_rules.specs.Tree.{Tree, leaf, node, colour, slots, Calm, nothing, darkly, redly, blacks, height}
 use Rattle.tree_rules.proofs.Reaching.{refuted, length-node}
 use Rattle.tree_rules.proofs.Height.{Even, bottom, above, even-size, even-height, higher-left, higher-right}
-use Rattle.tree.proofs.Ruling.{rise-null, calm-null, level-null}
+use Rattle.tree.proofs.Ruling.{rise-null, calm-null, level-null, weigh-null}
 use Rattle.tree.specs.Rules.{Judged, breaks, together, judged, deepestOf}
 
--- A rule broken breaks all four.
-pub no-rise : (reach : Value) (calm : Bool) (level : Value) → breaks ≡ together reach none calm level
-no-rise (some rest) calm level = refl
-no-rise none calm level = refl
+-- A rule broken breaks all five.
+pub no-rise : (reach : Value) (calm : Bool) (level weight : Value) → breaks ≡ together reach none calm level weight
+no-rise (some rest) calm level weight = refl
+no-rise none calm level weight = refl
 
-pub no-calm : (reach rise level : Value) → breaks ≡ together reach rise false level
-no-calm (some rest) (some last) level = refl
-no-calm (some rest) none level = refl
-no-calm none rise level = refl
+pub no-calm : (reach rise level weight : Value) → breaks ≡ together reach rise false level weight
+no-calm (some rest) (some last) level weight = refl
+no-calm (some rest) none level weight = refl
+no-calm none rise level weight = refl
 
-pub no-level : (reach rise : Value) (calm : Bool) → breaks ≡ together reach rise calm none
-no-level (some rest) (some last) true = refl
-no-level (some rest) (some last) false = refl
-no-level (some rest) none calm = refl
-no-level none rise calm = refl
+pub no-level : (reach rise : Value) (calm : Bool) (weight : Value) → breaks ≡ together reach rise calm none weight
+no-level (some rest) (some last) true weight = refl
+no-level (some rest) (some last) false weight = refl
+no-level (some rest) none calm weight = refl
+no-level none rise calm weight = refl
+
+pub no-weight : (reach rise : Value) (calm : Bool) (level : Value) → breaks ≡ together reach rise calm level none
+no-weight (some rest) (some last) true (some blacks) = refl
+no-weight (some rest) (some last) true none = refl
+no-weight (some rest) (some last) false level = refl
+no-weight (some rest) none calm level = refl
+no-weight none rise calm level = refl
 
 -- No way from the link i down meets more than d slots.
 data Low (cells : List ℕ) : ℕ → ℕ → Type 0 where
@@ -68,6 +75,12 @@ module _ (cells : List ℕ) where
   level-past (suc d) zero i h (at-slot n a b) = absurd (omega arith)
   level-past (suc d) (suc e) i h (at-slot n a b) = rw (level-past d e _ (omega arith) a, level-past d e _ (omega arith) b)
 
+  weigh-past : (sizes : List ℕ) (d e i : ℕ) → d ≤ e → Low cells d i → slotsBelow e cells sizes i ≡ slotsBelow d cells sizes i
+  unfolding slotsBelow
+  weigh-past sizes d e i h (at-null z) = sym (weigh-null cells sizes i e z) ∙ weigh-null cells sizes i d z
+  weigh-past sizes (suc d) zero i h (at-slot n a b) = absurd (omega arith)
+  weigh-past sizes (suc d) (suc e) i h (at-slot n a b) = rw (weigh-past sizes d e _ (omega arith) a, weigh-past sizes d e _ (omega arith) b)
+
   -- One level of T6 taken apart.
   record Evened (depth i b : ℕ) : Type 0 where
     half : ℕ
@@ -90,7 +103,7 @@ module _ (cells : List ℕ) where
       go (some k) x none y e = refuted e
       go (some k) x (some m) y e = same k m x y (eqb k m) refl e
 
-  null-or : (i : ℕ) {A : Type 0} → (i ≡ null → A) → (i ≢ null → A) → A
+  pub null-or : (i : ℕ) {A : Type 0} → (i ≡ null → A) → (i ≢ null → A) → A
   null-or i {A} f g = go (eqb i null) refl
     where
       go : (b : Bool) → eqb i null ≡ b → A
@@ -179,14 +192,14 @@ module _ (cells : List ℕ) where
 
 module _ (n : ℕ) (cells : List ℕ) where
   -- One visit of T3 taken apart.
-  record Stepped (q i v rest : ℕ) : Type 0 where
-    fuel : ℕ
-    between : ℕ
-    lefts : reached fuel n cells i (cell cells i left) (v - 1) ≡ some between
-    rights : reached fuel n cells i (cell cells i right) between ≡ some rest
-    spent : v ≢ 0
+  pub record Stepped (q i v rest : ℕ) : Type 0 where
+    pub fuel : ℕ
+    pub between : ℕ
+    pub lefts : reached fuel n cells i (cell cells i left) (v - 1) ≡ some between
+    pub rights : reached fuel n cells i (cell cells i right) between ≡ some rest
+    pub spent : v ≢ 0
 
-  stepped : (f q i v rest : ℕ) → i ≢ null → reached f n cells q i v ≡ some rest → Stepped q i v rest
+  pub stepped : (f q i v rest : ℕ) → i ≢ null → reached f n cells q i v ≡ some rest → Stepped q i v rest
   unfolding reached
   stepped zero q i v rest d e = refuted (rw (ne-eqb i null d) at e)
   stepped (suc f) q i v rest d e = go (ltb i n) (eqb v 0) refl (stands cells q i) (reached f n cells i (cell cells i left) (v - 1)) refl (rw (ne-eqb i null d) at e)
@@ -199,7 +212,7 @@ module _ (n : ℕ) (cells : List ℕ) where
       go true false x true none y e = refuted e
       go true false x true (some k) y e = record { fuel = f; between = k; lefts = y; rights = e; spent = eqb-false v 0 x }
 
-  at-once : (f q i v : ℕ) → i ≡ null → reached f n cells q i v ≡ some v
+  pub at-once : (f q i v : ℕ) → i ≡ null → reached f n cells q i v ≡ some v
   unfolding reached
   at-once zero q i v z = rw (eq-eqb i null z)
   at-once (suc f) q i v z = rw (eq-eqb i null z)
@@ -212,13 +225,20 @@ module _ (n : ℕ) (cells : List ℕ) where
       let t = stepped f q i v rest d r in
       omega (arith, t .spent, length-node (hue cells i) l i g, visited (t .fuel) i (cell cells i left) (v - 1) (t .between) x (t .lefts), visited (t .fuel) i (cell cells i right) (t .between) rest y (t .rights))
 
-module _ (names cells : List ℕ) (root visits : ℕ) (few : visits < 18446744073709551616) where
+module _ (names cells sizes : List ℕ) (root visits : ℕ) (few : visits < 18446744073709551616) where
   abbrev at : ℕ → Judged
-  at depth = judged names cells null null root depth visits
+  at depth = judged names cells sizes null null root depth visits
 
   -- Two depths that both suffice.
   both-deep : (d e : ℕ) → d ≤ e → Low cells d root → at d ≡ at e
-  both-deep d e h k = sym (rw (rise-past cells names d e root h k null, calm-past cells d e root h k, level-past cells d e root h k) refl)
+  both-deep d e h k =
+      sym (rw (
+        rise-past cells names d e root h k null,
+        calm-past cells d e root h k,
+        level-past cells d e root h k,
+        weigh-past cells sizes d e root h k,
+      )
+      refl)
 
   -- A number of 64 bits of visits, so no more than 64 black slots on a way.
   few-blacks : (b : ℕ) → 2 ^ b ≤ visits + 1 → b ≤ 64
@@ -240,12 +260,21 @@ module _ (names cells : List ℕ) (root visits : ℕ) (few : visits < 1844674407
   deep-enough n h =
       go (reached visits (slotsOf names) cells null root visits) refl (levelled 129 cells root) refl (levelled n cells root) refl (allCalm n cells root) refl
     where
+      unlevel : (d : ℕ)
+          → breaks
+          ≡ together (reached visits (slotsOf names) cells null root visits) (risen d names cells null root) (allCalm d cells root) none (slotsBelow d cells sizes root)
+      unlevel d =
+          no-level (reached visits (slotsOf names) cells null root visits) (risen d names cells null root) (allCalm d cells root) (slotsBelow d cells sizes root)
+
       go : (u : Value) → reached visits (slotsOf names) cells null root visits ≡ u → (w : Value) → levelled 129 cells root ≡ w
           → (x : Value) → levelled n cells root ≡ x → (c : Bool) → allCalm n cells root ≡ c → at 129 ≡ at n
       go u p (some b) q x y c z = both-deep 129 n h (level-low cells 129 root b q)
       go none p none q x y c z = rw p refl
-      go (some rest) p none q none y c z = rw (q, y) (sym (no-level (reached visits (slotsOf names) cells null root visits) (risen 129 names cells null root) (allCalm 129 cells root)) ∙ no-level (reached visits (slotsOf names) cells null root visits) (risen n names cells null root) (allCalm n cells root))
-      go (some rest) p none q (some b) y false z = rw (q, z) (sym (no-level (reached visits (slotsOf names) cells null root visits) (risen 129 names cells null root) (allCalm 129 cells root)) ∙ no-calm (reached visits (slotsOf names) cells null root visits) (risen n names cells null root) (levelled n cells root))
+      go (some rest) p none q none y c z = rw (q, y) (sym (unlevel 129) ∙ unlevel n)
+      go (some rest) p none q (some b) y false z =
+          rw (q, z)
+          (sym (unlevel 129)
+          ∙ no-calm (reached visits (slotsOf names) cells null root visits) (risen n names cells null root) (levelled n cells root) (slotsBelow n cells sizes root))
       go (some rest) p none q (some b) y true z = both-deep 129 n h (shallow n rest b p y z)
 
   pub deepest-enough : (n : ℕ) {depth : ℕ} → depth ≡ deepestOf n → at depth ≡ at n

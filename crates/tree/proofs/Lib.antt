@@ -2,5 +2,6 @@ pub mod Searching
 pub mod Visiting
 pub mod Ruling
 pub mod Depth
+pub mod Weights
 pub mod Judging
 pub mod Claims

@@ -11,7 +11,8 @@ use borrow.Author.Tests.{eq-eqb, ne-eqb}
 use Rattle.slots.specs.Words.{null, pick, state, left, right, cell}
 use Rattle.slots.specs.Answers.{Value, none, some}
 use Rattle.slots.proofs.Laws.{some-is}
-use Rattle.tree_rules.specs.Rules.{then, follows, risen, allCalm, levelled, isCalm}
+use Rattle.tree_rules.specs.Sizes.{hasSize}
+use Rattle.tree_rules.specs.Rules.{then, follows, risen, allCalm, levelled, withParts, slotsBelow, isCalm}
 use Rattle.tree_rules.proofs.Reaching.{refuted}
 
 module _ (names cells : List ℕ) (m i : ℕ) where
@@ -56,6 +57,24 @@ module _ (cells : List ℕ) (i : ℕ) where
   unfolding levelled
   level-on zero n d = absurd (d refl)
   level-on (suc depth) n d = rw (ne-eqb i null n, sub-one)
+
+module _ (cells sizes : List ℕ) (i : ℕ) where
+  pub weigh-null : (depth : ℕ) → i ≡ null → some 0 ≡ slotsBelow depth cells sizes i
+  unfolding slotsBelow
+  weigh-null zero e = simp (eq-eqb i null e)
+  weigh-null (suc depth) e = simp (eq-eqb i null e)
+
+  pub weigh-zero : i ≢ null → none ≡ slotsBelow 0 cells sizes i
+  unfolding slotsBelow
+  weigh-zero n = simp (ne-eqb i null n)
+
+  pub weigh-on : (depth : ℕ) → i ≢ null → depth ≢ 0
+      → slotsBelow depth cells sizes i
+      ≡ then (slotsBelow (depth - 1) cells sizes (cell cells i left))
+      (λ a. then (slotsBelow (depth - 1) cells sizes (cell cells i right)) (λ b. pick (hasSize sizes i (withParts a b)) (some (withParts a b)) none))
+  unfolding slotsBelow
+  weigh-on zero n d = absurd (d refl)
+  weigh-on (suc depth) n d = rw (ne-eqb i null n, sub-one)
 
 -- No way meets more black slots than it goes deep.
 pub level-bound : (cells : List ℕ) (depth i a : ℕ) → levelled depth cells i ≡ some a → a ≤ depth

@@ -31,7 +31,7 @@ pub record Claims : Type 0 where
   pub rest-one-to-one : (a b : Rest) → restOf a ≡ restOf b → a ≡ b
   pub size-one-to-one : (a b : Size) → sizeOf a ≡ sizeOf b → a ≡ b
   pub survey-one : (names cells : List ℕ) (root visits : ℕ) → OneAnswer (λ r. restOf r ≡ obeyed names cells root visits)
-  pub tree-size-one : (names cells : List ℕ) (root : ℕ) → OneAnswer (λ r. sizeOf r ≡ treeSize names cells root)
+  pub tree-size-one : (names cells sizes : List ℕ) (root : ℕ) → OneAnswer (λ r. sizeOf r ≡ treeSize names cells sizes root)
   pub chain-one : (n : ℕ) (cells : List ℕ) (first : ℕ) → OneAnswer (λ r. restOf r ≡ chained n n cells null first)
   pub in-range-one : (n link : ℕ) → OneAnswer (λ r. r ≡ inRange n link)
   pub links-in-one : (n : ℕ) (cells : List ℕ) (i : ℕ) → OneAnswer (λ r. r ≡ linksIn n cells i)

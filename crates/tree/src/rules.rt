@@ -1,4 +1,4 @@
-// The check of one tree from its root, T3 to T6 in one walk, and the number of its slots.
+// The check of one tree from its root, T3 to T6 and T8 of its slots in one walk, and the number of its slots.
 use slots::BLACK;
 use slots::HASH;
 use slots::KEY;
@@ -12,8 +12,10 @@ use slots::comes_before;
 use slots::get;
 use slots::is_red;
 use slots::name;
+use slots::word;
 ghost use mathlib.Core.Path.{_≡_};
-ghost use Rattle.tree_rules.specs.Rules.{stands, follows, obeyed, treeSize, inUse, isCalm};
+ghost use Rattle.tree_rules.specs.Rules.{stands, follows, obeyed, obeyedSized, treeSize, inUse, isCalm};
+ghost use Rattle.tree_rules.specs.Sizes.{hasSize};
 ghost use Rattle.tree.specs.Rules.{restOf, sizeOf, partOf, judged, deepestOf};
 
 // Slot i is black or red.
@@ -53,6 +55,13 @@ fn is_calm(cells: &[u32], i: u32) -> bool
         || (!is_red(cells, get(cells, i, LEFT)) && !is_red(cells, get(cells, i, RIGHT)))
 }
 
+// The size stored for slot i is m, where one is stored for it.
+fn has_size(sizes: &[u32], i: u32, m: usize) -> bool
+    ensures { λ r. ⌜ r ≡ hasSize (now (sizes .entry)) i m ⌝ }
+{
+    sizes.len() <= i as usize || word(sizes, i as usize, 0) as usize == m
+}
+
 // What a walk down from a link comes to: the visits left, the slot read last, and how many black slots every way down meets;
 // or that a rule is broken.
 enum Part {
@@ -60,18 +69,19 @@ enum Part {
     Breaks,
 }
 
-// T3 to T6 in one walk, since a slot's words are read once for all four: from the link i under q, where last was read last,
-// at most so deep and with so many visits.
+// T3 to T6 and T8 in one walk, since a slot's words are read once for all five: from the link i under q, where last was read
+// last, at most so deep and with so many visits. The visits that a slot's subtree took are the size that it is to have.
 fn walk(
     names: &[u64],
     cells: &[u32],
+    sizes: &[u32],
     q: u32,
     last: u32,
     i: u32,
     depth: usize,
     visits: usize,
 ) -> Part
-    ensures { λ r. ⌜ partOf r ≡ judged (now (names .entry)) (now (cells .entry)) q last i depth visits ⌝ }
+    ensures { λ r. ⌜ partOf r ≡ judged (now (names .entry)) (now (cells .entry)) (now (sizes .entry)) q last i depth visits ⌝ }
 {
     if i == NULL {
         return Part::Obeys(visits, last, 0);
@@ -94,7 +104,7 @@ fn walk(
         return Part::Breaks;
     }
     let l = get(cells, i, LEFT);
-    let lefts = walk(names, cells, i, last, l, depth - 1, visits - 1);
+    let lefts = walk(names, cells, sizes, i, last, l, depth - 1, visits - 1);
     let Part::Obeys(rest, m, a) = lefts else {
         return Part::Breaks;
     };
@@ -103,11 +113,15 @@ fn walk(
         return Part::Breaks;
     }
     let r = get(cells, i, RIGHT);
-    let rights = walk(names, cells, i, i, r, depth - 1, rest);
+    let rights = walk(names, cells, sizes, i, i, r, depth - 1, rest);
     let Part::Obeys(unspent, end, b) = rights else {
         return Part::Breaks;
     };
     if a != b {
+        return Part::Breaks;
+    }
+    let sized = has_size(sizes, i, visits - unspent);
+    if !sized {
         return Part::Breaks;
     }
     let red = is_red(cells, i);
@@ -134,20 +148,27 @@ fn deepest(n: usize) -> usize
     if n < DEEPEST { n } else { DEEPEST }
 }
 
-// T3 to T6 of the tree from root, with so many visits; the visits left.
-pub fn survey(names: &[u64], cells: &[u32], root: u32, visits: usize) -> Rest
-    ensures { λ r. ⌜ restOf r ≡ obeyed (now (names .entry)) (now (cells .entry)) root visits ⌝ }
+// T3 to T6 of the tree from root, and T8 of its slots, with so many visits; the visits left.
+fn survey_sized(names: &[u64], cells: &[u32], sizes: &[u32], root: u32, visits: usize) -> Rest
+    ensures { λ r. ⌜ restOf r ≡ obeyedSized (now (names .entry)) (now (cells .entry)) (now (sizes .entry)) root visits ⌝ }
 {
     let red = is_red(cells, root);
     if red {
         return Rest::Wrong;
     }
     let depth = deepest(names.len() / 2);
-    let whole = walk(names, cells, NULL, NULL, root, depth, visits);
+    let whole = walk(names, cells, sizes, NULL, NULL, root, depth, visits);
     match whole {
         Part::Obeys(rest, _, _) => Rest::Left(rest),
         Part::Breaks => Rest::Wrong,
     }
+}
+
+// The same of a tree that has no sizes: T3 to T6.
+pub fn survey(names: &[u64], cells: &[u32], root: u32, visits: usize) -> Rest
+    ensures { λ r. ⌜ restOf r ≡ obeyed (now (names .entry)) (now (cells .entry)) root visits ⌝ }
+{
+    survey_sized(names, cells, &cells[0..0], root, visits)
 }
 
 // The number of a tree's slots, or that it breaks a rule.
@@ -156,12 +177,12 @@ pub enum Size {
     Broken,
 }
 
-// The number of slots of the tree from root, where it obeys T3 to T6.
-pub fn tree_size(names: &[u64], cells: &[u32], root: u32) -> Size
-    ensures { λ r. ⌜ sizeOf r ≡ treeSize (now (names .entry)) (now (cells .entry)) root ⌝ }
+// The number of slots of the tree from root, where it obeys T3 to T6 and each has its size.
+pub fn tree_size(names: &[u64], cells: &[u32], sizes: &[u32], root: u32) -> Size
+    ensures { λ r. ⌜ sizeOf r ≡ treeSize (now (names .entry)) (now (cells .entry)) (now (sizes .entry)) root ⌝ }
 {
     let n = names.len() / 2;
-    let walked = survey(names, cells, root, n);
+    let walked = survey_sized(names, cells, sizes, root, n);
     match walked {
         Rest::Left(rest) => Size::Slots(n - rest),
         Rest::Wrong => Size::Broken,

@@ -22,9 +22,10 @@ use Rattle.tree_rules.proofs.Rising.{rises-rising}
 use Rattle.tree_rules.proofs.Colouring.{coloured-coloured}
 use Rattle.tree_rules.proofs.Levelling.{level-level}
 use Rattle.tree_rules.specs.Ranks.{kthFrom, rankFrom}
-use Rattle.tree_rules.proofs.Adding.{sizeIn-none, sized-adds, adds-sized}
+use Rattle.tree_rules.specs.Sizes.{SizedBy}
+use Rattle.tree_rules.proofs.Weighing.{Each, sized-each, sized-parts, all-sized}
 use Rattle.tree_rules.proofs.Positions.{kth-slot, rank-of}
-use Rattle.tree_rules.proofs.Sizing.{tree-size, obeyed-spent}
+use Rattle.tree_rules.proofs.Sizing.{tree-size, obeyed-spent, obeyed-unsized}
 
 search-claims : (names cells : List ℕ) (root hash key : ℕ) → Finds names cells root hash key
 search-claims names cells root hash key =
@@ -39,7 +40,6 @@ search-claims names cells root hash key =
 rule-claims : (names cells : List ℕ) (few : slotsOf names ≤ null) (ends : length cells ≤ 7 * null) (root : ℕ) → Rules names cells few ends root
 rule-claims names cells few ends root =
     record {
-      size = λ m. tree-size names cells few ends root m;
       spent = λ v rest. obeyed-spent names cells few ends root v rest;
       reaches = reached-rooted (slotsOf names) cells few root;
       reached-all = rooted-reached (slotsOf names) cells few root;
@@ -72,18 +72,37 @@ looks-squared names cells root hash key {t} r c l = le-trans (pow-mono (found-mo
 shallow-claims : (names cells : List ℕ) (root hash key : ℕ) (t : Tree) → Shallow names cells root hash key t
 shallow-claims names cells root hash key t = record { height-most = not-deep t; looks-most = found-most names cells root hash key }
 
-weigh-claims : (n : ℕ) (names cells sizes : List ℕ) (few : n ≤ null) (long : length sizes ≡ n) (root : ℕ) (t : Tree) → Weighs n names cells sizes few long root t
-weigh-claims n names cells sizes few long root t =
+weigh-claims : (names cells sizes : List ℕ) (few : slotsOf names ≤ null) (ends : length cells ≤ 7 * null) (long : length sizes ≡ slotsOf names) (root : ℕ)
+    → Weighs names cells sizes few ends long root
+weigh-claims names cells sizes few ends long root =
     record {
-      found = λ h. (λ z. (sized-adds small t (h .once) z, λ k e. z k ∙ sizeIn-none k t e), λ a. adds-sized small t (h .once) (a .0) (a .1));
-      kth = λ h z k l. ap (λ (i : ℕ). kthFrom n cells sizes i k) (h .from) ∙ kth-slot cells sizes small n k (h .hangs) (sized-adds small t (h .once) z) (rooted-most n cells few root h) l;
-      rank = λ h z up k l. (let x = getD (slots t) k null in
-          ap (λ (i : ℕ). rankFrom n names cells sizes i (nameOf names x hashPart) (nameOf names x keyPart) 0) (h .from)
-          ∙ rank-of names cells sizes small n k 0 few (h .hangs) (sized-adds small t (h .once) z) up (rooted-most n cells few root h) l (omega (arith, rooted-most n cells few root h)) ∙ ap some (omega arith));
+      eight = λ h. all-sized (slotsOf names) cells sizes few long root h;
+      parts = sized-parts sizes;
+      size = tree-size names cells sizes few ends long root;
+      kth = λ {t} h z k l.
+          ap (λ (i : ℕ). kthFrom (slotsOf names) cells sizes i k) (h .from) ∙ kth-slot cells sizes small (slotsOf names) k (h .hangs) (slot-sizes h z) (rooted-most (slotsOf names) cells few root h) l;
+      rank = λ {t} h z up k l. (let x = getD (slots t) k null in
+          ap (λ (i : ℕ). rankFrom (slotsOf names) names cells sizes i (nameOf names x hashPart) (nameOf names x keyPart) 0) (h .from)
+          ∙ rank-of names cells sizes small (slotsOf names) k 0 few (h .hangs) (slot-sizes h z) up (rooted-most (slotsOf names) cells few root h) l
+          (omega (arith, rooted-most (slotsOf names) cells few root h)) ∙ ap some (omega arith));
     }
   where
     small : length sizes ≤ null
-    small = omega arith
+    small = omega (arith, long, few)
+
+    slot-sizes : {t : Tree} → Rooted (slotsOf names) cells root t → SizedBy sizes t → Each sizes t
+    slot-sizes {t} h z = sized-each t (h .once) (sized-parts sizes t .0 z .0)
 
 pub claims : Claims
-claims = record { looks = look-claims; finds = search-claims; tests = test-claims; checks = check-claims; rules = rule-claims; chains = chain-claims; shallow = shallow-claims; weighs = weigh-claims }
+claims =
+    record {
+      looks = look-claims;
+      finds = search-claims;
+      tests = test-claims;
+      checks = check-claims;
+      rules = rule-claims;
+      chains = chain-claims;
+      shallow = shallow-claims;
+      weighs = weigh-claims;
+      unsized = obeyed-unsized;
+    }

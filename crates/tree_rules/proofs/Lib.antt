@@ -14,8 +14,8 @@ pub mod Chaining
 pub mod Rising
 pub mod Colouring
 pub mod Levelling
+pub mod Weighing
 pub mod Sizing
 pub mod Order
-pub mod Adding
 pub mod Positions
 pub mod Claims

@@ -18,12 +18,12 @@ use Rattle.slots.proofs.Laws.{none-some}
 use Rattle.slots.proofs.Order.{less-irreflexive, less-transitive, less-total, before-less}
 use Rattle.tree_rules.specs.Tree.{Tree, node, top, slots, times, Rising}
 use Rattle.tree_rules.specs.Tree as Plain
-use Rattle.tree_rules.specs.Sizes.{sizeWord, Adds, nothing, adds}
+use Rattle.tree_rules.specs.Sizes.{sizeWord}
 use Rattle.tree_rules.specs.Ranks.{kthFrom, rankFrom}
 use Rattle.tree_rules.proofs.Reaching.{length-node}
 use Rattle.tree_rules.proofs.Counting.{times-append, times-head, times-rest, times-cases}
 use Rattle.tree_rules.proofs.Order.{rising-before, rising-after, rising-front, rising-back, rising-tail}
-use Rattle.tree_rules.proofs.Adding.{whole-size}
+use Rattle.tree_rules.proofs.Weighing.{Each, nothing, each, whole-size}
 
 -- The slots of a node, by position.
 module _ (c : Colour) (l : Tree) (i : ℕ) (r : Tree) where
@@ -60,12 +60,12 @@ module _ (cells sizes : List ℕ) (small : length sizes ≤ null) where
           (g _ (omega (arith, length-node c l i r)) ∙ sym (slot-right c l i r (k - (length (slots l) + 1))) ∙ ap (λ (j : ℕ). getD (slots (node c l i r)) j null) (sym p))
 
   -- Down a subtree that hangs in the links, with the sizes added up: the k-th of its slots in order.
-  pub kth-slot : {n q : ℕ} {t : Tree} (m k : ℕ) → Plain.Hangs n cells q t → Adds sizes t → length (slots t) ≤ m → k < length (slots t)
+  pub kth-slot : {n q : ℕ} {t : Tree} (m k : ℕ) → Plain.Hangs n cells q t → Each sizes t → length (slots t) ≤ m → k < length (slots t)
       → kthFrom m cells sizes (top t) k ≡ getD (slots t) k null
   unfolding slots
   kth-slot m k Plain.none nothing d h = absurd (omega arith)
-  kth-slot zero k (Plain.some x y z) (adds e a b) d h = absurd (omega arith)
-  kth-slot (suc m) k (Plain.some {c = c} {l} {i} {r} x y z) (adds e a b) d h =
+  kth-slot zero k (Plain.some x y z) (each e a b) d h = absurd (omega arith)
+  kth-slot (suc m) k (Plain.some {c = c} {l} {i} {r} x y z) (each e a b) d h =
       at-node m c l i r k (x .lefts) (x .rights) (whole-size small a) h
       (λ j u. kth-slot m j y a (omega (arith, length-node c l i r)) u) (λ j u. kth-slot m j z b (omega (arith, length-node c l i r)) u)
 
@@ -167,12 +167,12 @@ module _ (names cells sizes : List ℕ) (small : length sizes ≤ null) where
           ∙ (λ q. ranked fuel (er q) x (s q)) ∙ g j inside ∙ ap some (omega arith)
 
   -- The number of slots before the one at position k is k.
-  pub rank-of : {n q : ℕ} {t : Tree} (fuel k m : ℕ) → n ≤ null → Plain.Hangs n cells q t → Adds sizes t → Rising names (slots t) → length (slots t) ≤ fuel
+  pub rank-of : {n q : ℕ} {t : Tree} (fuel k m : ℕ) → n ≤ null → Plain.Hangs n cells q t → Each sizes t → Rising names (slots t) → length (slots t) ≤ fuel
       → k < length (slots t) → m + length (slots t) < 4294967296 → ranked fuel (top t) (getD (slots t) k null) m ≡ some (m + k)
   unfolding slots
   rank-of fuel k m few Plain.none nothing up d h b = absurd (omega arith)
-  rank-of zero k m few (Plain.some x y z) (adds e a u) up d h b = absurd (omega arith)
-  rank-of (suc fuel) k m few (Plain.some {c = c} {l} {i} {r} x y z) (adds e a u) up d h b =
+  rank-of zero k m few (Plain.some x y z) (each e a u) up d h b = absurd (omega arith)
+  rank-of (suc fuel) k m few (Plain.some {c = c} {l} {i} {r} x y z) (each e a u) up d h b =
       rank-node fuel k m c l i r (omega (arith, x .inside)) (x .lefts) (x .rights) (whole-size small a) up h b
       (λ j v. rank-of fuel j m few y a (rising-front (slots l) (i ∷ slots r) up) (omega (arith, length-node c l i r)) v (omega (arith, length-node c l i r)))
       (λ j v. rank-of fuel j (m + length (slots l) + 1) few z u (rising-tail (rising-back (slots l) (i ∷ slots r) up)) (omega (arith, length-node c l i r)) v (omega (arith, length-node c l i r)))

@@ -1,8 +1,9 @@
--- Four rules asked at once are the four; and the size of a tree is given where the words hold one that obeys T3 to T6: the walk of T3 finds it, and the others are asked of that one.
+-- Four rules asked at once are the four; and the size of a tree is given where the words hold one that obeys T3 to T6 and whose slots have
+-- their sizes: the walk of T3 finds it, and the others are asked of that one.
 use mathlib.Core.Path.{_≡_, refl, ap, _∙_}
 use mathlib.Core.Logic.{_↔_}
 use mathlib.Core.Bool.{Bool, true, false}
-use mathlib.Core.List.{List}
+use mathlib.Core.List.{List, []}
 use Prim.Native.Nat.{ℕ, _+_, _-_, _*_, _≤_}
 use native.Mathlib.Omega.{arith}
 use lib.ListN.{length}
@@ -10,11 +11,14 @@ use Rattle.slots.specs.Words.{null, pick}
 use Rattle.slots.specs.Answers.{Value, none, some}
 use Rattle.tree_rules.specs.Find.{slotsOf}
 use Rattle.tree_rules.specs.Tree.{slots, Shaped}
-use Rattle.tree_rules.specs.Rules.{then, reached, rises, coloured, level, obeyed, treeSize}
+use Rattle.slots.proofs.Laws.{some-is}
+use Rattle.tree_rules.specs.Sizes.{SizedSlots}
+use Rattle.tree_rules.specs.Rules.{then, reached, rises, coloured, level, allSized, obeyed, obeyedSized, treeSize}
 use Rattle.tree_rules.proofs.Reaching.{refuted, reached-tree, tree-reached, rooted-most}
 use Rattle.tree_rules.proofs.Rising.{rises-rising}
 use Rattle.tree_rules.proofs.Colouring.{coloured-coloured}
 use Rattle.tree_rules.proofs.Levelling.{level-level}
+use Rattle.tree_rules.proofs.Weighing.{all-sized, level-sized}
 
 -- The four rules are obeyed where each is.
 pub record Obeyed (names cells : List ℕ) (root v rest : ℕ) : Type 0 where
@@ -73,25 +77,60 @@ module _ (names cells : List ℕ) (small : slotsOf names ≤ null) (ends : lengt
   pub obeyed-spent : (obeyed names cells root v ≡ some rest) ↔ ((m : ℕ) × Shaped names cells root m × (m + rest ≡ v))
   obeyed-spent = (obeyed-shaped, shaped-obeyed)
 
-module _ (names cells : List ℕ) (small : slotsOf names ≤ null) (ends : length cells ≤ 7 * null) (root m : ℕ) where
-  size-shaped : treeSize names cells root ≡ some m → Shaped names cells root m
-  unfolding treeSize
-  size-shaped e = go (obeyed names cells root (slotsOf names)) refl e
+-- Where no size is stored, T8 asks nothing.
+pub obeyed-unsized : (names cells : List ℕ) (root v : ℕ) → obeyedSized names cells [] root v ≡ obeyed names cells root v
+unfolding obeyedSized
+obeyed-unsized names cells root v = go (obeyed names cells root v) refl
+  where
+    none-either : (b : Bool) → pick b none none ≡ none
+    none-either true = refl
+    none-either false = refl
+
+    go : (o : Value) → obeyed names cells root v ≡ o → pick (allSized (slotsOf names) cells [] root) o none ≡ o
+    go none p = none-either (allSized (slotsOf names) cells [] root)
+    go (some rest) p = rw (level-sized cells (slotsOf names) root (obeyed-each names cells root v rest p .even))
+
+-- T8 with the others.
+module _ (names cells sizes : List ℕ) (root v rest : ℕ) where
+  pub sized-both : obeyedSized names cells sizes root v ≡ some rest
+      → (allSized (slotsOf names) cells sizes root ≡ true) × (obeyed names cells root v ≡ some rest)
+  unfolding obeyedSized
+  sized-both e = go (allSized (slotsOf names) cells sizes root) e
     where
-      go : (o : Value) → obeyed names cells root (slotsOf names) ≡ o → then o (λ rest. some (slotsOf names - rest)) ≡ some m → Shaped names cells root m
+      go : (b : Bool) → pick b (obeyed names cells root v) none ≡ some rest → (b ≡ true) × (obeyed names cells root v ≡ some rest)
+      go true e = (refl, e)
+      go false e = refuted e
+
+  pub both-sized : allSized (slotsOf names) cells sizes root ≡ true → obeyed names cells root v ≡ some rest
+      → obeyedSized names cells sizes root v ≡ some rest
+  unfolding obeyedSized
+  both-sized w o = rw (w, o)
+
+module _ (names cells sizes : List ℕ) (small : slotsOf names ≤ null) (ends : length cells ≤ 7 * null) (long : length sizes ≡ slotsOf names)
+    (root m : ℕ) where
+  size-shaped : treeSize names cells sizes root ≡ some m → (s : Shaped names cells root m) × SizedSlots sizes (s .tree)
+  unfolding treeSize
+  size-shaped e = go (obeyedSized names cells sizes root (slotsOf names)) refl e
+    where
+      go : (o : Value) → obeyedSized names cells sizes root (slotsOf names) ≡ o → then o (λ rest. some (slotsOf names - rest)) ≡ some m
+          → (s : Shaped names cells root m) × SizedSlots sizes (s .tree)
       go none p e = refuted e
       go (some rest) p e =
-          let k = obeyed-shaped names cells small ends root (slotsOf names) rest p in
-          let s : slotsOf names - rest ≡ m = cc in
-          let z : k .0 ≡ m = omega (arith, k .2, s) in
-          rw (← z) (k .1)
+          let b = sized-both names cells sizes root (slotsOf names) rest p in
+          let k = obeyed-shaped names cells small ends root (slotsOf names) rest (b .1) in
+          let f : slotsOf names - rest ≡ m = some-is e in
+          let z : k .0 ≡ m = omega (arith, k .2, f) in
+          let s : Shaped names cells root m = rw (← z) (k .1) in
+          (s, all-sized (slotsOf names) cells sizes small long root (s .rooted) .0 (b .0))
 
-  shaped-size : Shaped names cells root m → treeSize names cells root ≡ some m
+  shaped-size : (s : Shaped names cells root m) × SizedSlots sizes (s .tree) → treeSize names cells sizes root ≡ some m
   unfolding treeSize
-  shaped-size h =
+  shaped-size p =
+      let h = p .0 in
       let most = rooted-most (slotsOf names) cells small root (h .rooted) in
-      rw (shaped-obeyed names cells small ends root (slotsOf names) (slotsOf names - m) (m, h, omega (arith, most, h .size)))
-      (ap some (omega (arith, most, h .size)))
+      let w = all-sized (slotsOf names) cells sizes small long root (h .rooted) .1 (p .1) in
+      let o = shaped-obeyed names cells small ends root (slotsOf names) (slotsOf names - m) (m, h, omega (arith, most, h .size)) in
+      rw (both-sized names cells sizes root (slotsOf names) (slotsOf names - m) w o) (ap some (omega (arith, most, h .size)))
 
-  pub tree-size : (treeSize names cells root ≡ some m) ↔ Shaped names cells root m
+  pub tree-size : (treeSize names cells sizes root ≡ some m) ↔ ((s : Shaped names cells root m) × SizedSlots sizes (s .tree))
   tree-size = (size-shaped, shaped-size)

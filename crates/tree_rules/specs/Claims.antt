@@ -1,7 +1,7 @@
 -- What crate `tree_rules` proves of its models, in one record. Every statement of the crate stands here.
 use mathlib.Core.Path.{_≡_}
 use mathlib.Core.Logic.{_≢_, _↔_}
-use mathlib.Core.List.{List}
+use mathlib.Core.List.{List, []}
 use mathlib.Core.Bool.{true, false}
 use Prim.Native.Nat.{ℕ, _+_, _-_, _*_, _^_, _<_, _≤_}
 use lib.ListN.{length, getD}
@@ -11,9 +11,9 @@ use Rattle.tree_rules.specs.Find.{here, on, decided, slotsOf, found, Fol
 use Rattle.tree_rules.specs.Looks.{LooksAt}
 use Rattle.tree_rules.specs.Check.{test, firstFailing, passed, failed, strayed, checked, Back, Child, LeftHash, RightHash, NotAllRed, Walks}
 use Rattle.tree_rules.specs.Tree.{Tree, slots, times, Rooted, Rising, Coloured, Level, Shaped, height}
-use Rattle.tree_rules.specs.Rules.{reached, rises, coloured, level, obeyed, treeSize}
+use Rattle.tree_rules.specs.Rules.{reached, rises, coloured, level, allSized, obeyed, obeyedSized, treeSize}
 use Rattle.tree_rules.specs.Chain.{Chain, chained}
-use Rattle.tree_rules.specs.Sizes.{sizeWord, SizedBy, Adds}
+use Rattle.tree_rules.specs.Sizes.{sizeWord, SizedBy, SizedSlots}
 use Rattle.tree_rules.specs.Ranks.{kthFrom, rankFrom}
 
 -- "Find is find_tree_node": what a look at a slot says, clause by clause. `at` and `own` are the slot's hash and key, l and r its children.
@@ -66,10 +66,9 @@ pub record Checks (names cells : List ℕ) (root : ℕ) : Type 0 where
   pub fails : (t i : ℕ) → (checked names cells root ≡ record { number = 100 + t; value = some i }) ↔ Walks names cells root (slotsOf names) (failed t i)
   pub nine : (checked names cells root ≡ refused 9) ↔ Walks names cells root (slotsOf names) strayed
 
--- The rules of one tree, on words in which slot null has no word: the check gives the number of slots exactly of a tree that obeys T3 to T6.
+-- The rules of one tree, on words in which slot null has no word: T3 to T6 are obeyed exactly of a tree that has all four.
 pub record Rules (names cells : List ℕ) (few : slotsOf names ≤ null) (ends : length cells ≤ 7 * null) (root : ℕ) : Type 0 where
-  pub size : (m : ℕ) → (treeSize names cells root ≡ some m) ↔ Shaped names cells root m
-  -- so with any number of visits: a visit a slot
+  -- with any number of visits: a visit a slot
   pub spent : (v rest : ℕ) → (obeyed names cells root v ≡ some rest) ↔ ((m : ℕ) × Shaped names cells root m × (m + rest ≡ v))
   -- T3 alone, with the visits that its walk leaves; and the tree is the only one
   pub reaches : (rest : ℕ) → reached (slotsOf names) (slotsOf names) cells null root (slotsOf names) ≡ some rest
@@ -94,14 +93,21 @@ pub record Shallow (names cells : List ℕ) (root hash key : ℕ) (t : Tree) : T
   pub height-most : Coloured t → Level t → 2 ^ height t ≤ (length (slots t) + 1) * (length (slots t) + 1)
   pub looks-most : Rooted (slotsOf names) cells root t → length (found names cells root hash key .looks) ≤ height t
 
--- The stored sizes of a tree over n slots.
-pub record Weighs (n : ℕ) (names cells sizes : List ℕ) (few : n ≤ null) (long : length sizes ≡ n) (root : ℕ) (t : Tree) : Type 0 where
-  -- what one compare a slot finds out: each slot of the tree has one more than its two children together, and every other slot has 0
-  pub found : Rooted n cells root t → SizedBy sizes t ↔ (Adds sizes t × ((k : ℕ) → times k (slots t) ≡ 0 → sizeWord sizes k ≡ 0))
+-- The stored sizes of a tree, one word a slot.
+pub record Weighs (names cells sizes : List ℕ) (few : slotsOf names ≤ null) (ends : length cells ≤ 7 * null) (long : length sizes ≡ slotsOf names)
+    (root : ℕ) : Type 0 where
+  -- T8 of the slots of a tree, by its own test: one compare a slot finds it out
+  pub eight : {t : Tree} → Rooted (slotsOf names) cells root t → (allSized (slotsOf names) cells sizes root ≡ true) ↔ SizedSlots sizes t
+  -- T8 whole is that, and 0 in every other slot
+  pub parts : (t : Tree) → SizedBy sizes t ↔ (SizedSlots sizes t × ((k : ℕ) → times k (slots t) ≡ 0 → sizeWord sizes k ≡ 0))
+  -- the check gives the number of slots exactly of a tree that obeys T3 to T6 and whose slots have their sizes
+  pub size : (m : ℕ) → (treeSize names cells sizes root ≡ some m) ↔ ((s : Shaped names cells root m) × SizedSlots sizes (s .tree))
   -- the way down to a position finds the k-th of the slots in order, and the way down to its pair finds k
-  pub kth : Rooted n cells root t → SizedBy sizes t → (k : ℕ) → k < length (slots t) → kthFrom n cells sizes root k ≡ getD (slots t) k null
-  pub rank : Rooted n cells root t → SizedBy sizes t → Rising names (slots t) → (k : ℕ) → k < length (slots t)
-      → rankFrom n names cells sizes root (nameOf names (getD (slots t) k null) hashPart) (nameOf names (getD (slots t) k null) keyPart) 0 ≡ some k
+  pub kth : {t : Tree} → Rooted (slotsOf names) cells root t → SizedBy sizes t → (k : ℕ) → k < length (slots t)
+      → kthFrom (slotsOf names) cells sizes root k ≡ getD (slots t) k null
+  pub rank : {t : Tree} → Rooted (slotsOf names) cells root t → SizedBy sizes t → Rising names (slots t) → (k : ℕ) → k < length (slots t)
+      → rankFrom (slotsOf names) names cells sizes root (nameOf names (getD (slots t) k null) hashPart) (nameOf names (getD (slots t) k null) keyPart) 0
+      ≡ some k
 
 pub record Claims : Type 0 where
   pub looks : (at own l r hash key : ℕ) → Looks at own l r hash key
@@ -111,4 +117,7 @@ pub record Claims : Type 0 where
   pub rules : (names cells : List ℕ) (few : slotsOf names ≤ null) (ends : length cells ≤ 7 * null) (root : ℕ) → Rules names cells few ends root
   pub chains : (n : ℕ) (cells : List ℕ) (few : n ≤ null) (first : ℕ) → Chains n cells few first
   pub shallow : (names cells : List ℕ) (root hash key : ℕ) (t : Tree) → Shallow names cells root hash key t
-  pub weighs : (n : ℕ) (names cells sizes : List ℕ) (few : n ≤ null) (long : length sizes ≡ n) (root : ℕ) (t : Tree) → Weighs n names cells sizes few long root t
+  pub weighs : (names cells sizes : List ℕ) (few : slotsOf names ≤ null) (ends : length cells ≤ 7 * null) (long : length sizes ≡ slotsOf names) (root : ℕ)
+      → Weighs names cells sizes few ends long root
+  -- a frozen set "carries no sizes": where none is stored, T8 asks nothing, on any words
+  pub unsized : (names cells : List ℕ) (root v : ℕ) → obeyedSized names cells [] root v ≡ obeyed names cells root v

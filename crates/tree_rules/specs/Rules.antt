@@ -1,4 +1,4 @@
--- The check of one tree from its root: T3 to T6, a model for each rule, and the number of its slots.
+-- The check of one tree from its root: T3 to T6 and T8, a model for each rule, and the number of its slots.
 -- The walk of T3 takes a visit a slot; the others go at most so deep, and are asked only of what T3's walk has passed.
 use mathlib.Core.Bool.{Bool, true, false}
 use mathlib.Core.List.{List}
@@ -8,6 +8,7 @@ use Rattle.slots.specs.Words.{null, pick, state, parent, left, right, cell, nam
 use Rattle.slots.specs.Answers.{Value, none, some}
 use Rattle.tree_rules.specs.Find.{slotsOf}
 use Rattle.slots.specs.Pairs.{before}
+use Rattle.tree_rules.specs.Sizes.{hasSize}
 
 -- What comes after a number, where there is one.
 abbrev pub then : Value → (ℕ → Value) → Value
@@ -78,6 +79,19 @@ levelled (suc depth) cells i =
     (λ a. then (levelled depth cells (cell cells i right))
     (λ b. pick (eqb a b) (some (pick (eqb (cell cells i state) 2) a (a + 1))) none)))
 
+-- A slot and the slots of its two parts.
+unfoldable pub withParts : ℕ → ℕ → ℕ
+withParts a b = 1 + a + b
+
+-- T8: the number of slots from the link i down, or none where the size stored for one of them is not its number.
+unfoldable pub slotsBelow : ℕ → List ℕ → List ℕ → ℕ → Value
+slotsBelow zero cells sizes i = pick (eqb i null) (some 0) none
+slotsBelow (suc depth) cells sizes i =
+    pick (eqb i null) (some 0)
+    (then (slotsBelow depth cells sizes (cell cells i left))
+    (λ a. then (slotsBelow depth cells sizes (cell cells i right))
+    (λ b. pick (hasSize sizes i (withParts a b)) (some (withParts a b)) none)))
+
 abbrev pub isSome : Value → Bool
 isSome (some v) = true
 isSome none = false
@@ -92,6 +106,9 @@ coloured n cells root = pick (eqb (cell cells root state) 2) false (allCalm n ce
 unfoldable pub level : ℕ → List ℕ → ℕ → Bool
 level n cells root = isSome (levelled n cells root)
 
+unfoldable pub allSized : ℕ → List ℕ → List ℕ → ℕ → Bool
+allSized n cells sizes root = isSome (slotsBelow n cells sizes root)
+
 -- T3 to T6 of the tree from root, with v visits: the visits left, or none where one of the four is broken.
 unfoldable pub obeyed : List ℕ → List ℕ → ℕ → ℕ → Value
 obeyed names cells root v =
@@ -100,6 +117,10 @@ obeyed names cells root v =
     (pick (coloured (slotsOf names) cells root) (pick (level (slotsOf names) cells root) (some rest) none) none)
     none)
 
--- The number of slots of the tree from root where it obeys T3 to T6, else none.
-unfoldable pub treeSize : List ℕ → List ℕ → ℕ → Value
-treeSize names cells root = then (obeyed names cells root (slotsOf names)) (λ rest. some (slotsOf names - rest))
+-- The same with T8 of its slots.
+unfoldable pub obeyedSized : List ℕ → List ℕ → List ℕ → ℕ → ℕ → Value
+obeyedSized names cells sizes root v = pick (allSized (slotsOf names) cells sizes root) (obeyed names cells root v) none
+
+-- The number of slots of the tree from root where it obeys T3 to T6 and its slots have their sizes, else none.
+unfoldable pub treeSize : List ℕ → List ℕ → List ℕ → ℕ → Value
+treeSize names cells sizes root = then (obeyedSized names cells sizes root (slotsOf names)) (λ rest. some (slotsOf names - rest))

@@ -1,11 +1,12 @@
 -- T8 of one tree: "the stored size is that number, 0 in a free slot".
 use mathlib.Core.Path.{_≡_}
+use mathlib.Core.Bool.{Bool, true}
 use mathlib.Core.List.{List}
-use Prim.Native.Nat.{ℕ, _+_}
+use Prim.Native.Nat.{ℕ, _+_, _≤_}
 use lib.ListN.{length, getD}
-use lib.Dec.{eqb}
-use Rattle.slots.specs.Words.{pick, Colour}
-use Rattle.tree_rules.specs.Tree.{Tree, leaf, node, top, slots}
+use lib.Dec.{eqb, leb}
+use Rattle.slots.specs.Words.{pick}
+use Rattle.tree_rules.specs.Tree.{Tree, leaf, node, slots, times}
 
 -- The stored size of a slot, 0 where there is none, as at null.
 abbrev pub sizeWord : List ℕ → ℕ → ℕ
@@ -24,8 +25,10 @@ sizeIn k (node c l i r) = only k i (length (slots (node c l i r))) + sizeIn k l 
 abbrev pub SizedBy : List ℕ → Tree → Type 0
 SizedBy sizes t = (k : ℕ) → sizeWord sizes k ≡ sizeIn k t
 
--- What one compare a slot asks: every slot of the tree has one more than its two children together.
-pub data Adds (sizes : List ℕ) : Tree → Type 0 where
-  nothing : Adds sizes leaf
-  adds : {c : Colour} {l : Tree} {i : ℕ} {r : Tree} → sizeWord sizes i ≡ 1 + sizeWord sizes (top l) + sizeWord sizes (top r) → Adds sizes l → Adds sizes r
-      → Adds sizes (node c l i r)
+-- Every slot of the tree has the number of slots of its own subtree: T8 but for the slots that are none of it.
+abbrev pub SizedSlots : List ℕ → Tree → Type 0
+SizedSlots sizes t = (k : ℕ) → 1 ≤ times k (slots t) → sizeWord sizes k ≡ sizeIn k t
+
+-- The size stored for slot i is m, where one is stored for it: frozen sets have none.
+unfoldable pub hasSize : List ℕ → ℕ → ℕ → Bool
+hasSize sizes i m = pick (leb (length sizes) i) true (eqb (sizeWord sizes i) m)

@@ -21,11 +21,11 @@ enum-told : tie.Need-enum-told
 enum-told c = search needs
 
 returns : tie.Need-returns
-returns c sizes =
+returns c =
     let at-size = c .before .before in
     let at-root = at-size .before in
-    let a = at-root .before .before .before .before .args in
-    no-size (lentTree (now (a .names)) (now (a .cells)) (now (a .head)) sizes) (at-root .word .ensures) (ap sizeOf (sym (c .enum-told .given .1)) ∙ at-size .tree-size .ensures)
+    let a = at-root .before .before .before .before .before .args in
+    no-size (lentTree (now (a .names)) (now (a .cells)) (now (a .head)) (now (a .sizes))) (at-root .word .ensures) (ap sizeOf (sym (c .enum-told .given .1)) ∙ at-size .tree-size .ensures)
 
 word-requires-2 : tie.Need-word-requires-2
 word-requires-2 c κs = search needs
@@ -34,12 +34,12 @@ cast-result : tie.Need-cast-result
 cast-result c = search needs
 
 returns-2 : tie.Need-returns-2
-returns-2 c sizes =
+returns-2 c =
     let at-told = c .before .before in
     let at-size = at-told .before .before in
     let at-root = at-size .before in
-    let a = at-root .before .before .before .before .args in
-    by-count (lentTree (now (a .names)) (now (a .cells)) (now (a .head)) sizes)
+    let a = at-root .before .before .before .before .before .args in
+    by-count (lentTree (now (a .names)) (now (a .cells)) (now (a .head)) (now (a .sizes)))
     (at-root .word .ensures)
     (ap sizeOf (sym (at-told .size .given .1)) ∙ at-size .tree-size .ensures)
     (c .word2 .ensures)

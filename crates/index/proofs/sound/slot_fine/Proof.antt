@@ -1,7 +1,8 @@
 -- Each way out closes by the reads and the tests that led there.
-use Rattle.index_rules.specs.Sound.{isCleared, slotFine}
+use Rattle.index_rules.specs.Sound.{isCleared, slotFine, freeFine}
 use borrow.Author.Tests.{eq-eqb, ne-eqb, not-false, not-true}
 use borrow.Author.Needs.{needs}
+use Rattle.index.proofs.Slots.{and-true}
 use Rattle.index.proofs.sound.slot_fine.Statement.{statement}
 use Rattle.index.proofs.sound.slot_fine.Tie as tie
 
@@ -9,10 +10,8 @@ links-in-requires : tie.Need-links-in-requires
 links-in-requires c κs = search needs
 
 returns : tie.Need-returns
-unfolding slotFine isCleared
-returns c =
-    let c1 = c .before in
-    rw (← c1 .links-in .ensures, not-true (c1 .links-in .result) (c .if1 .taken))
+unfolding slotFine
+returns c = rw (← c .before .links-in .ensures, not-true (c .before .links-in .result) (c .if1 .taken))
 
 get-requires : tie.Need-get-requires
 get-requires c κs = search needs
@@ -20,24 +19,54 @@ get-requires c κs = search needs
 is-cleared-requires : tie.Need-is-cleared-requires
 is-cleared-requires c κs = search needs
 
+word-requires : tie.Need-word-requires
+word-requires c κs = search needs
+
 returns-2 : tie.Need-returns-2
-unfolding slotFine isCleared
+unfolding slotFine freeFine isCleared
 returns-2 c =
     let c1 = c .before in
     let c2 = c1 .before in
     let c3 = c2 .before in
     let c4 = c3 .before in
-    rw (← c4 .links-in .ensures, not-false (c4 .links-in .result) (c3 .if1 .left), ← c2 .get .ensures, eq-eqb _ _ (c1 .if2 .taken), ← c .is-cleared .ensures)
+    let c5 = c4 .before in
+    let c6 = c5 .before in
+    rw (
+      ← c6 .links-in .ensures,
+      not-false (c6 .links-in .result) (c5 .if1 .left),
+      ← c4 .get .ensures,
+      eq-eqb _ _ (c3 .if2 .taken),
+      ← c2 .is-cleared .ensures,
+      c1 .if3 .taken,
+      ← c .word .ensures,
+    )
 
 returns-3 : tie.Need-returns-3
-unfolding slotFine isCleared
+unfolding slotFine freeFine isCleared
 returns-3 c =
     let c1 = c .before in
     let c2 = c1 .before in
     let c3 = c2 .before in
-    rw (← c3 .links-in .ensures, not-false (c3 .links-in .result) (c2 .if1 .left), ← c1 .get .ensures, ne-eqb _ _ (c .if2 .left))
+    let c4 = c3 .before in
+    let c5 = c4 .before in
+    rw (
+      ← c5 .links-in .ensures,
+      not-false (c5 .links-in .result) (c4 .if1 .left),
+      ← c3 .get .ensures,
+      eq-eqb _ _ (c2 .if2 .taken),
+      ← c1 .is-cleared .ensures,
+      c .if3 .left,
+    )
+
+returns-4 : tie.Need-returns-4
+unfolding slotFine freeFine isCleared
+returns-4 c =
+    let c1 = c .before in
+    let c2 = c1 .before in
+    let c3 = c2 .before in
+    rw (← c3 .links-in .ensures, not-false (c3 .links-in .result) (c2 .if1 .left), ← c1 .get .ensures, ne-eqb _ _ (c .if2 .left), and-true)
 
 pub slot-fine-spec : {M : Type 1} → statement M
 slot-fine-spec =
     tie.close
-    (tie.spec links-in-requires returns get-requires is-cleared-requires returns-2 returns-3)
+    (tie.spec links-in-requires returns get-requires is-cleared-requires word-requires returns-2 returns-3 returns-4)

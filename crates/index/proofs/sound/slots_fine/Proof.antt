@@ -1,82 +1,34 @@
--- The loop's invariant: what is left of the slots decides the whole.
-use mathlib.Core.Path.{_≡_, _∙_}
-use mathlib.Core.List.{[]}
+-- The same pass over slots that have no sizes.
+use mathlib.Core.Path.{_∙_}
 use denote.Ref.{now}
-use Prim.Native.Nat.{_≤_}
+use Rattle.index.proofs.Slots.{unsized}
 use borrow.Author.Needs.{needs}
-use borrow.Author.Tests.{not-true, not-false}
-use Rattle.index_rules.specs.Live.{lentTree}
-use Rattle.index_rules.specs.Sound.{slotsFine}
-use Rattle.index.proofs.Slots.{fine-none, fine-not, fine-on}
 use Rattle.index.proofs.sound.slots_fine.Statement.{statement}
 use Rattle.index.proofs.sound.slots_fine.Tie as tie
 
-abbrev Inv-loop : tie.InvT-loop
-Inv-loop names cells n k₀ k =
-    (slotsFine k n (lentTree names cells [] []) ≡ slotsFine n n (lentTree names cells [] [])) × (k ≤ n)
+sub-sized-slots-fine : tie.Need-sub-sized-slots-fine
+sub-sized-slots-fine c = search needs
 
-abbrev μ-loop : tie.MeasureT-loop
-μ-loop names cells n k₀ k = k
+part-sized-slots-fine-start : tie.Need-part-sized-slots-fine-start
+part-sized-slots-fine-start c = search needs
 
-loop-holds : tie.Need-loop-holds Inv-loop μ-loop
-loop-holds c = search needs
+part-sized-slots-fine-end : tie.Need-part-sized-slots-fine-end
+part-sized-slots-fine-end c = search needs
 
-sub-k : tie.Need-sub-k Inv-loop μ-loop
-sub-k c = search needs
+sized-slots-fine-requires : tie.Need-sized-slots-fine-requires
+sized-slots-fine-requires c κs = search needs
 
-slot-fine-requires : tie.Need-slot-fine-requires Inv-loop μ-loop
-slot-fine-requires c κs = search needs
-
-returns : tie.Need-returns Inv-loop μ-loop
+returns : tie.Need-returns
 returns c =
-    let at-fine = c .before in
-    let at-loop = at-fine .before .before in
-    let a = at-loop .before .before .before .args in
-    fine-not
-    (a .n)
-    (lentTree (now (a .names)) (now (a .cells)) [] [])
-    (at-loop .loop .k)
-    (at-fine .before .loop-test .taken)
-    (at-fine .slot-fine .ensures)
-    (not-true (at-fine .slot-fine .result) (c .if1 .taken))
-    ∙ at-loop .loop .inv .0
-
-loop-less : tie.Need-loop-less Inv-loop μ-loop
-loop-less c = search needs
-
-loop-again : tie.Need-loop-again Inv-loop μ-loop
-loop-again c =
-    let at-fine = c .before in
-    let at-loop = at-fine .before .before in
-    let a = at-loop .before .before .before .args in (
-      fine-on
-          (a .n)
-          (lentTree (now (a .names)) (now (a .cells)) [] [])
-          (at-loop .loop .k)
-          (at-fine .before .loop-test .taken)
-          (at-fine .slot-fine .ensures)
-          (not-false (at-fine .slot-fine .result) (c .if1 .left))
-          ∙ at-loop .loop .inv .0,
-      search needs,
-    )
-
-returns-2 : tie.Need-returns-2 Inv-loop μ-loop
-returns-2 c =
-    let at-loop = c .before in
-    let a = at-loop .before .before .before .args in
-    fine-none (a .n) (lentTree (now (a .names)) (now (a .cells)) [] []) (at-loop .loop .k) (c .loop-test .left)
-    ∙ at-loop .loop .inv .0
+    let a = c .before .before .before .before .args in
+    c .sized-slots-fine .ensures ∙ unsized (now (a .names)) (now (a .cells)) (a .n) (a .n)
 
 pub slots-fine-spec : {M : Type 1} → statement M
 slots-fine-spec =
     tie.close
     (tie.spec
-    Inv-loop
-    μ-loop
-    loop-holds
-    sub-k
-    slot-fine-requires
-    returns
-    loop-less
-    loop-again
-    returns-2)
+    sub-sized-slots-fine
+    part-sized-slots-fine-start
+    part-sized-slots-fine-end
+    sized-slots-fine-requires
+    returns)

@@ -6,7 +6,8 @@ use borrow.Author.Needs.{needs}
 use borrow.Author.Tests.{not-true, not-false}
 use Prim.Native.Nat.{_-_}
 use Rattle.tree.specs.Rules.{partOf}
-use Rattle.tree.proofs.Judging.{walk-null, walk-outside, walk-spent, walk-deep, walk-wrong, walk-loud, walk-left-breaks, walk-falls, walk-right-breaks, walk-uneven, walk-red, walk-black, walk-blacks}
+use Rattle.tree.proofs.Judging.{walk-null, walk-outside, walk-spent, walk-deep, walk-wrong, walk-loud, walk-left-breaks, walk-falls}
+use Rattle.tree.proofs.Judging.{walk-right-breaks, walk-uneven, walk-missized, walk-red, walk-black, walk-blacks, walk-within}
 use Prim.Native.Nat.{ℕ, _<_}
 use borrow.Fn.Kinds.{In}
 use borrow.Fn.PlainCycle.{Measures, is, falls, and}
@@ -16,19 +17,20 @@ use Rattle.tree.proofs.rules.+walk.Lts-walk as walk-lts
 use Rattle.slots.proofs.get.Reads as get-reads
 use Rattle.slots.proofs.is_red.Reads as is-red-reads
 use Rattle.tree.proofs.rules.follow.Reads as follow-reads
+use Rattle.tree.proofs.rules.has_size.Reads as has-size-reads
 use Rattle.tree.proofs.rules.is_calm.Reads as is-calm-reads
 use Rattle.tree.proofs.rules.stand.Reads as stand-reads
 use Rattle.tree.proofs.rules.+walk.{statement}
 use Rattle.tree.proofs.rules.+walk.Tie.{close}
 
-abbrev μ-walk : Measures 2 walk-kinds.ps ℕ
-μ-walk κs a = a .1 .1 .1 .1 .1 .0
+abbrev μ-walk : Measures 3 walk-kinds.ps ℕ
+μ-walk κs a = a .1 .1 .1 .1 .1 .1 .0
 
-abbrev walk-at : ℕ → In 2 walk-kinds.ps
-walk-at t = and 2 walk-kinds.ps (is 2 walk-kinds.ps μ-walk t) walk.Pre
+abbrev walk-at : ℕ → In 3 walk-kinds.ps
+walk-at t = and 3 walk-kinds.ps (is 3 walk-kinds.ps μ-walk t) walk.Pre
 
-abbrev walk-below : ℕ → In 2 walk-kinds.ps
-walk-below t = and 2 walk-kinds.ps (falls 2 walk-kinds.ps _<_ μ-walk t) walk.Pre
+abbrev walk-below : ℕ → In 3 walk-kinds.ps
+walk-below t = and 3 walk-kinds.ps (falls 3 walk-kinds.ps _<_ μ-walk t) walk.Pre
 
 abbrev walk-calls : ℕ → walk-lts.Claims
 walk-calls t = (
@@ -42,32 +44,34 @@ walk-calls t = (
   walk.Post,
   follow-reads.Asked,
   follow-reads.Learnt,
+  has-size-reads.Asked,
+  has-size-reads.Learnt,
   is-red-reads.Asked,
   is-red-reads.Learnt,
 )
 
 walk-returns : (t : ℕ) → walk-lts.Need-returns (walk-calls t) (walk-at t) walk.Post
 walk-returns t c =
-    let a = c .before .before .before .args in
-    walk-null (now (a .names)) (now (a .cells)) (a .q) (a .last) (a .i) (a .depth) (a .visits) (c .if1 .taken)
+    let a = c .before .before .before .before .args in
+    walk-null (now (a .names)) (now (a .cells)) (now (a .sizes)) (a .q) (a .last) (a .i) (a .depth) (a .visits) (c .if1 .taken)
 
 walk-returns-2 : (t : ℕ) → walk-lts.Need-returns-2 (walk-calls t) (walk-at t) walk.Post
 walk-returns-2 t c =
     let at-null = c .before in
-    let a = at-null .before .before .before .args in
-    walk-outside (now (a .names)) (now (a .cells)) (a .q) (a .last) (a .i) (a .depth) (a .visits) (at-null .if1 .left) (c .if2 .taken)
+    let a = at-null .before .before .before .before .args in
+    walk-outside (now (a .names)) (now (a .cells)) (now (a .sizes)) (a .q) (a .last) (a .i) (a .depth) (a .visits) (at-null .if1 .left) (c .if2 .taken)
 
 walk-returns-3 : (t : ℕ) → walk-lts.Need-returns-3 (walk-calls t) (walk-at t) walk.Post
 walk-returns-3 t c =
     let at-null = c .before .before in
-    let a = at-null .before .before .before .args in
-    walk-spent (now (a .names)) (now (a .cells)) (a .q) (a .last) (a .i) (a .depth) (a .visits) (at-null .if1 .left) (c .if3 .taken)
+    let a = at-null .before .before .before .before .args in
+    walk-spent (now (a .names)) (now (a .cells)) (now (a .sizes)) (a .q) (a .last) (a .i) (a .depth) (a .visits) (at-null .if1 .left) (c .if3 .taken)
 
 walk-returns-4 : (t : ℕ) → walk-lts.Need-returns-4 (walk-calls t) (walk-at t) walk.Post
 walk-returns-4 t c =
     let at-null = c .before .before .before in
-    let a = at-null .before .before .before .args in
-    walk-deep (now (a .names)) (now (a .cells)) (a .q) (a .last) (a .i) (a .depth) (a .visits) (at-null .if1 .left) (c .if4 .taken)
+    let a = at-null .before .before .before .before .args in
+    walk-deep (now (a .names)) (now (a .cells)) (now (a .sizes)) (a .q) (a .last) (a .i) (a .depth) (a .visits) (at-null .if1 .left) (c .if4 .taken)
 
 walk-stand-requires : (t : ℕ) → walk-lts.Need-stand-requires (walk-calls t) (walk-at t) walk.Post
 walk-stand-requires t c κs = search needs
@@ -79,8 +83,8 @@ walk-returns-5 t c =
     let at-visits = at-deep .before in
     let at-range = at-visits .before in
     let at-null = at-range .before in
-    let a = at-null .before .before .before .args in
-    walk-wrong (now (a .names)) (now (a .cells)) (a .q) (a .last) (a .i) (a .depth) (a .visits)
+    let a = at-null .before .before .before .before .args in
+    walk-wrong (now (a .names)) (now (a .cells)) (now (a .sizes)) (a .q) (a .last) (a .i) (a .depth) (a .visits)
     (at-null .if1 .left) (at-range .if2 .left) (at-visits .if3 .left) (at-deep .if4 .left)
     (at-stand .stand .ensures)
     (not-true (at-stand .stand .result) (c .if5 .taken))
@@ -97,8 +101,8 @@ walk-returns-6 t c =
     let at-visits = at-deep .before in
     let at-range = at-visits .before in
     let at-null = at-range .before in
-    let a = at-null .before .before .before .args in
-    walk-loud (now (a .names)) (now (a .cells)) (a .q) (a .last) (a .i) (a .depth) (a .visits)
+    let a = at-null .before .before .before .before .args in
+    walk-loud (now (a .names)) (now (a .cells)) (now (a .sizes)) (a .q) (a .last) (a .i) (a .depth) (a .visits)
     (at-null .if1 .left) (at-range .if2 .left) (at-visits .if3 .left) (at-deep .if4 .left)
     (at-asked .is-calm .ensures)
     (not-true (at-asked .is-calm .result) (c .if6 .taken))
@@ -122,8 +126,8 @@ walk-walk-requires t c κs =
     let at-visits = at-deep .before in
     let at-range = at-visits .before in
     let at-null = at-range .before in
-    let a = at-null .before .before .before .args in
-    omega (arith, at-null .before .before .before .pre .0, at-deep .if4 .left)
+    let a = at-null .before .before .before .before .args in
+    omega (arith, at-null .before .before .before .before .pre .0, at-deep .if4 .left)
 
 walk-enum-known-lefts : (t : ℕ) → walk-lts.Need-enum-known-lefts (walk-calls t) (walk-at t) walk.Post
 walk-enum-known-lefts t c = search needs
@@ -144,8 +148,8 @@ walk-returns-7 t c =
     let at-visits = at-deep .before in
     let at-range = at-visits .before in
     let at-null = at-range .before in
-    let a = at-null .before .before .before .args in
-    walk-left-breaks (now (a .names)) (now (a .cells)) (a .q) (a .last) (a .i) (a .depth) (a .visits)
+    let a = at-null .before .before .before .before .args in
+    walk-left-breaks (now (a .names)) (now (a .cells)) (now (a .sizes)) (a .q) (a .last) (a .i) (a .depth) (a .visits)
     (at-null .if1 .left) (at-range .if2 .left) (at-visits .if3 .left) (at-deep .if4 .left)
     (at-stand .stand .ensures) (not-false (at-stand .stand .result) (at-upright .if5 .left))
     (at-asked .is-calm .ensures) (not-false (at-asked .is-calm .result) (at-calm .if6 .left))
@@ -171,8 +175,8 @@ walk-returns-8 t c =
     let at-visits = at-deep .before in
     let at-range = at-visits .before in
     let at-null = at-range .before in
-    let a = at-null .before .before .before .args in
-    walk-falls (now (a .names)) (now (a .cells)) (a .q) (a .last) (a .i) (a .depth) (a .visits)
+    let a = at-null .before .before .before .before .args in
+    walk-falls (now (a .names)) (now (a .cells)) (now (a .sizes)) (a .q) (a .last) (a .i) (a .depth) (a .visits)
     (at-null .if1 .left) (at-range .if2 .left) (at-visits .if3 .left) (at-deep .if4 .left)
     (at-stand .stand .ensures) (not-false (at-stand .stand .result) (at-upright .if5 .left))
     (at-asked .is-calm .ensures) (not-false (at-asked .is-calm .result) (at-calm .if6 .left))
@@ -204,8 +208,8 @@ walk-walk-requires-2 t c κs =
     let at-visits = at-deep .before in
     let at-range = at-visits .before in
     let at-null = at-range .before in
-    let a = at-null .before .before .before .args in
-    omega (arith, at-null .before .before .before .pre .0, at-deep .if4 .left)
+    let a = at-null .before .before .before .before .args in
+    omega (arith, at-null .before .before .before .before .pre .0, at-deep .if4 .left)
 
 walk-enum-known-rights : (t : ℕ) → walk-lts.Need-enum-known-rights (walk-calls t) (walk-at t) walk.Post
 walk-enum-known-rights t c = search needs
@@ -233,8 +237,8 @@ walk-returns-9 t c =
     let at-visits = at-deep .before in
     let at-range = at-visits .before in
     let at-null = at-range .before in
-    let a = at-null .before .before .before .args in
-    walk-right-breaks (now (a .names)) (now (a .cells)) (a .q) (a .last) (a .i) (a .depth) (a .visits)
+    let a = at-null .before .before .before .before .args in
+    walk-right-breaks (now (a .names)) (now (a .cells)) (now (a .sizes)) (a .q) (a .last) (a .i) (a .depth) (a .visits)
     (at-null .if1 .left) (at-range .if2 .left) (at-visits .if3 .left) (at-deep .if4 .left)
     (at-stand .stand .ensures) (not-false (at-stand .stand .result) (at-upright .if5 .left))
     (at-asked .is-calm .ensures) (not-false (at-asked .is-calm .result) (at-calm .if6 .left))
@@ -267,8 +271,8 @@ walk-returns-10 t c =
     let at-visits = at-deep .before in
     let at-range = at-visits .before in
     let at-null = at-range .before in
-    let a = at-null .before .before .before .args in
-    walk-uneven (now (a .names)) (now (a .cells)) (a .q) (a .last) (a .i) (a .depth) (a .visits)
+    let a = at-null .before .before .before .before .args in
+    walk-uneven (now (a .names)) (now (a .cells)) (now (a .sizes)) (a .q) (a .last) (a .i) (a .depth) (a .visits)
     (at-null .if1 .left) (at-range .if2 .left) (at-visits .if3 .left) (at-deep .if4 .left)
     (at-stand .stand .ensures) (not-false (at-stand .stand .result) (at-upright .if5 .left))
     (at-asked .is-calm .ensures) (not-false (at-asked .is-calm .result) (at-calm .if6 .left))
@@ -280,13 +284,9 @@ walk-returns-10 t c =
     (ap partOf (sym (at-rights .rights .given .1)) ∙ at-walk2 .walk2 .ensures)
     (c .if8 .taken)
 
-walk-is-red-requires : (t : ℕ) → walk-lts.Need-is-red-requires (walk-calls t) (walk-at t) walk.Post
-walk-is-red-requires t c κs = search needs
-
-walk-returns-11 : (t : ℕ) → walk-lts.Need-returns-11 (walk-calls t) (walk-at t) walk.Post
-walk-returns-11 t c =
-    let at-is-red = c .before in
-    let at-even = at-is-red .before in
+walk-sub-has-size : (t : ℕ) → walk-lts.Need-sub-has-size (walk-calls t) (walk-at t) walk.Post
+walk-sub-has-size t c =
+    let at-even = c in
     let at-known2 = at-even .before in
     let at-rights = at-known2 .before in
     let at-match2 = at-rights .before in
@@ -307,8 +307,44 @@ walk-returns-11 t c =
     let at-visits = at-deep .before in
     let at-range = at-visits .before in
     let at-null = at-range .before in
-    let a = at-null .before .before .before .args in
-    walk-red (now (a .names)) (now (a .cells)) (a .q) (a .last) (a .i) (a .depth) (a .visits)
+    let a = at-null .before .before .before .before .args in
+    let lefts = ap partOf (sym (at-lefts .lefts .given .1)) ∙ at-walk .walk .ensures in
+    let rights = ap partOf (sym (at-rights .rights .given .1)) ∙ at-walk2 .walk2 .ensures in
+    omega (
+      arith,
+      walk-within (now (a .names)) (now (a .cells)) (now (a .sizes)) (a .i) (a .last) (at-left .get .result) (a .depth - 1) (a .visits - 1) lefts,
+      walk-within (now (a .names)) (now (a .cells)) (now (a .sizes)) (a .i) (a .i) (at-right .get2 .result) (a .depth - 1) _ rights,
+    )
+
+walk-has-size-requires : (t : ℕ) → walk-lts.Need-has-size-requires (walk-calls t) (walk-at t) walk.Post
+walk-has-size-requires t c κs = search needs
+
+walk-returns-11 : (t : ℕ) → walk-lts.Need-returns-11 (walk-calls t) (walk-at t) walk.Post
+walk-returns-11 t c =
+    let at-size = c .before in
+    let at-even = at-size .before in
+    let at-known2 = at-even .before in
+    let at-rights = at-known2 .before in
+    let at-match2 = at-rights .before in
+    let at-walk2 = at-match2 .before in
+    let at-right = at-walk2 .before in
+    let at-rising = at-right .before in
+    let at-follow = at-rising .before in
+    let at-known = at-follow .before in
+    let at-lefts = at-known .before in
+    let at-match = at-lefts .before in
+    let at-walk = at-match .before in
+    let at-left = at-walk .before in
+    let at-calm = at-left .before in
+    let at-asked = at-calm .before in
+    let at-upright = at-asked .before in
+    let at-stand = at-upright .before in
+    let at-deep = at-stand .before in
+    let at-visits = at-deep .before in
+    let at-range = at-visits .before in
+    let at-null = at-range .before in
+    let a = at-null .before .before .before .before .args in
+    walk-missized (now (a .names)) (now (a .cells)) (now (a .sizes)) (a .q) (a .last) (a .i) (a .depth) (a .visits)
     (at-null .if1 .left) (at-range .if2 .left) (at-visits .if3 .left) (at-deep .if4 .left)
     (at-stand .stand .ensures) (not-false (at-stand .stand .result) (at-upright .if5 .left))
     (at-asked .is-calm .ensures) (not-false (at-asked .is-calm .result) (at-calm .if6 .left))
@@ -319,40 +355,18 @@ walk-returns-11 t c =
     (at-right .get2 .ensures)
     (ap partOf (sym (at-rights .rights .given .1)) ∙ at-walk2 .walk2 .ensures)
     (at-even .if8 .left)
-    (at-is-red .is-red .ensures)
-    (c .if9 .taken)
+    (at-size .has-size .ensures)
+    (not-true (at-size .has-size .result) (c .if9 .taken))
 
-walk-add-t24 : (t : ℕ) → walk-lts.Need-add-t24 (walk-calls t) (walk-at t) walk.Post
-walk-add-t24 t c =
-    let at-is-red = c .before in
-    let at-even = at-is-red .before in
-    let at-known2 = at-even .before in
-    let at-rights = at-known2 .before in
-    let at-match2 = at-rights .before in
-    let at-walk2 = at-match2 .before in
-    let at-right = at-walk2 .before in
-    let at-rising = at-right .before in
-    let at-follow = at-rising .before in
-    let at-known = at-follow .before in
-    let at-lefts = at-known .before in
-    let at-match = at-lefts .before in
-    let at-walk = at-match .before in
-    let at-left = at-walk .before in
-    let at-calm = at-left .before in
-    let at-asked = at-calm .before in
-    let at-upright = at-asked .before in
-    let at-stand = at-upright .before in
-    let at-deep = at-stand .before in
-    let at-visits = at-deep .before in
-    let at-range = at-visits .before in
-    let at-null = at-range .before in
-    let a = at-null .before .before .before .args in
-    omega (arith, walk-blacks (now (a .names)) (now (a .cells)) (a .i) (a .last) (at-left .get .result) (a .depth - 1) (a .visits - 1) (ap partOf (sym (at-lefts .lefts .given .1)) ∙ at-walk .walk .ensures), at-deep .if4 .left, at-null .before .before .before .fits .depth)
+walk-is-red-requires : (t : ℕ) → walk-lts.Need-is-red-requires (walk-calls t) (walk-at t) walk.Post
+walk-is-red-requires t c κs = search needs
 
 walk-returns-12 : (t : ℕ) → walk-lts.Need-returns-12 (walk-calls t) (walk-at t) walk.Post
 walk-returns-12 t c =
     let at-is-red = c .before in
-    let at-even = at-is-red .before in
+    let at-sized = at-is-red .before in
+    let at-size = at-sized .before in
+    let at-even = at-size .before in
     let at-known2 = at-even .before in
     let at-rights = at-known2 .before in
     let at-match2 = at-rights .before in
@@ -373,8 +387,8 @@ walk-returns-12 t c =
     let at-visits = at-deep .before in
     let at-range = at-visits .before in
     let at-null = at-range .before in
-    let a = at-null .before .before .before .args in
-    walk-black (now (a .names)) (now (a .cells)) (a .q) (a .last) (a .i) (a .depth) (a .visits)
+    let a = at-null .before .before .before .before .args in
+    walk-red (now (a .names)) (now (a .cells)) (now (a .sizes)) (a .q) (a .last) (a .i) (a .depth) (a .visits)
     (at-null .if1 .left) (at-range .if2 .left) (at-visits .if3 .left) (at-deep .if4 .left)
     (at-stand .stand .ensures) (not-false (at-stand .stand .result) (at-upright .if5 .left))
     (at-asked .is-calm .ensures) (not-false (at-asked .is-calm .result) (at-calm .if6 .left))
@@ -385,8 +399,88 @@ walk-returns-12 t c =
     (at-right .get2 .ensures)
     (ap partOf (sym (at-rights .rights .given .1)) ∙ at-walk2 .walk2 .ensures)
     (at-even .if8 .left)
+    (at-size .has-size .ensures)
+    (not-false (at-size .has-size .result) (at-sized .if9 .left))
     (at-is-red .is-red .ensures)
-    (c .if9 .left)
+    (c .if10 .taken)
+
+walk-add-t26 : (t : ℕ) → walk-lts.Need-add-t26 (walk-calls t) (walk-at t) walk.Post
+walk-add-t26 t c =
+    let at-is-red = c .before in
+    let at-sized = at-is-red .before in
+    let at-size = at-sized .before in
+    let at-even = at-size .before in
+    let at-known2 = at-even .before in
+    let at-rights = at-known2 .before in
+    let at-match2 = at-rights .before in
+    let at-walk2 = at-match2 .before in
+    let at-right = at-walk2 .before in
+    let at-rising = at-right .before in
+    let at-follow = at-rising .before in
+    let at-known = at-follow .before in
+    let at-lefts = at-known .before in
+    let at-match = at-lefts .before in
+    let at-walk = at-match .before in
+    let at-left = at-walk .before in
+    let at-calm = at-left .before in
+    let at-asked = at-calm .before in
+    let at-upright = at-asked .before in
+    let at-stand = at-upright .before in
+    let at-deep = at-stand .before in
+    let at-visits = at-deep .before in
+    let at-range = at-visits .before in
+    let at-null = at-range .before in
+    let a = at-null .before .before .before .before .args in
+    let lefts = ap partOf (sym (at-lefts .lefts .given .1)) ∙ at-walk .walk .ensures in
+    omega (
+      arith,
+      walk-blacks (now (a .names)) (now (a .cells)) (now (a .sizes)) (a .i) (a .last) (at-left .get .result) (a .depth - 1) (a .visits - 1) lefts,
+      at-deep .if4 .left,
+      at-null .before .before .before .before .fits .depth,
+    )
+
+walk-returns-13 : (t : ℕ) → walk-lts.Need-returns-13 (walk-calls t) (walk-at t) walk.Post
+walk-returns-13 t c =
+    let at-is-red = c .before in
+    let at-sized = at-is-red .before in
+    let at-size = at-sized .before in
+    let at-even = at-size .before in
+    let at-known2 = at-even .before in
+    let at-rights = at-known2 .before in
+    let at-match2 = at-rights .before in
+    let at-walk2 = at-match2 .before in
+    let at-right = at-walk2 .before in
+    let at-rising = at-right .before in
+    let at-follow = at-rising .before in
+    let at-known = at-follow .before in
+    let at-lefts = at-known .before in
+    let at-match = at-lefts .before in
+    let at-walk = at-match .before in
+    let at-left = at-walk .before in
+    let at-calm = at-left .before in
+    let at-asked = at-calm .before in
+    let at-upright = at-asked .before in
+    let at-stand = at-upright .before in
+    let at-deep = at-stand .before in
+    let at-visits = at-deep .before in
+    let at-range = at-visits .before in
+    let at-null = at-range .before in
+    let a = at-null .before .before .before .before .args in
+    walk-black (now (a .names)) (now (a .cells)) (now (a .sizes)) (a .q) (a .last) (a .i) (a .depth) (a .visits)
+    (at-null .if1 .left) (at-range .if2 .left) (at-visits .if3 .left) (at-deep .if4 .left)
+    (at-stand .stand .ensures) (not-false (at-stand .stand .result) (at-upright .if5 .left))
+    (at-asked .is-calm .ensures) (not-false (at-asked .is-calm .result) (at-calm .if6 .left))
+    (at-left .get .ensures)
+    (ap partOf (sym (at-lefts .lefts .given .1)) ∙ at-walk .walk .ensures)
+    (at-follow .follow .ensures)
+    (not-false (at-follow .follow .result) (at-rising .if7 .left))
+    (at-right .get2 .ensures)
+    (ap partOf (sym (at-rights .rights .given .1)) ∙ at-walk2 .walk2 .ensures)
+    (at-even .if8 .left)
+    (at-size .has-size .ensures)
+    (not-false (at-size .has-size .result) (at-sized .if9 .left))
+    (at-is-red .is-red .ensures)
+    (c .if10 .left)
 
 pub +walk-spec : {M : Type 1} → statement M
 +walk-spec = close μ-walk λ t. walk-lts.spec (walk-calls t)
@@ -416,7 +510,10 @@ pub +walk-spec : {M : Type 1} → statement M
     (walk-enum-told-2 t)
     (walk-returns-9 t)
     (walk-returns-10 t)
-    (walk-is-red-requires t)
+    (walk-sub-has-size t)
+    (walk-has-size-requires t)
     (walk-returns-11 t)
-    (walk-add-t24 t)
+    (walk-is-red-requires t)
     (walk-returns-12 t)
+    (walk-add-t26 t)
+    (walk-returns-13 t)

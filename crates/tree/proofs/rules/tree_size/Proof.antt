@@ -5,23 +5,24 @@ use Prim.Native.Nat.{_/_}
 use lib.ListN.{length}
 use Rattle.tree_rules.specs.Rules.{treeSize}
 use Rattle.tree.specs.Rules.{restOf}
-use Rattle.tree.proofs.Judging.{obeyed-within}
+use Rattle.tree.proofs.Judging.{sized-within}
 use borrow.Author.Needs.{needs}
 use Rattle.tree.proofs.rules.tree_size.Statement.{statement}
 use Rattle.tree.proofs.rules.tree_size.Tie as tie
 
-survey-requires : tie.Need-survey-requires
-survey-requires c κs = search needs
+survey-sized-requires : tie.Need-survey-sized-requires
+survey-sized-requires c κs = search needs
 
 enum-known-walked : tie.Need-enum-known-walked
 enum-known-walked c = search needs
 
-sub-t9 : tie.Need-sub-t9
-sub-t9 c =
+sub-t10 : tie.Need-sub-t10
+sub-t10 c =
     let at-told = c .before in
     let at-survey = at-told .before .before in
-    let a = at-survey .before .before .before .args in
-    obeyed-within (now (a .names)) (now (a .cells)) (a .root) (length (now (a .names)) / 2) (ap restOf (sym (at-told .walked .given .1)) ∙ at-survey .survey .ensures)
+    let a = at-survey .before .before .before .before .args in
+    sized-within (now (a .names)) (now (a .cells)) (now (a .sizes)) (a .root) (length (now (a .names)) / 2)
+    (ap restOf (sym (at-told .walked .given .1)) ∙ at-survey .survey-sized .ensures)
 
 enum-told : tie.Need-enum-told
 enum-told c = search needs
@@ -30,12 +31,12 @@ returns : tie.Need-returns
 unfolding treeSize
 returns c =
     let at-told = c .before in
-    rw (← at-told .before .before .survey .ensures, at-told .walked .given .1)
+    rw (← at-told .before .before .survey-sized .ensures, at-told .walked .given .1)
 
 returns-2 : tie.Need-returns-2
 unfolding treeSize
-returns-2 c = rw (← c .before .before .survey .ensures, c .enum-told .given .1)
+returns-2 c = rw (← c .before .before .survey-sized .ensures, c .enum-told .given .1)
 
 pub tree-size-spec : {M : Type 1} → statement M
 tree-size-spec =
-    tie.close (tie.spec survey-requires enum-known-walked sub-t9 enum-told returns returns-2)
+    tie.close (tie.spec survey-sized-requires enum-known-walked sub-t10 enum-told returns returns-2)

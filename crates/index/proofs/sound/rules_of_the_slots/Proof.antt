@@ -1,4 +1,4 @@
--- The four tests in a row are the model's; what T1 asks of a slot reads neither the header nor the sizes.
+-- The four tests in a row are the model's; what is asked of a slot does not read the header.
 use mathlib.Core.Path.{_≡_, ap, _∙_}
 use mathlib.Core.Bool.{Bool}
 use mathlib.Core.List.{[]}
@@ -10,15 +10,15 @@ use Rattle.slots.specs.Words.{null, _and_}
 use Rattle.slots.proofs.Laws.{and-next}
 use Rattle.tree_rules.specs.Check.{inRange}
 use Rattle.index_rules.specs.Sound.{rule1}
-use Rattle.index.proofs.Slots.{any-head}
-use Rattle.index.proofs.sound.rule1.Statement.{statement}
-use Rattle.index.proofs.sound.rule1.Tie as tie
+use Rattle.index.proofs.Slots.{any-head, any-names, behind}
+use Rattle.index.proofs.sound.rules_of_the_slots.Statement.{statement}
+use Rattle.index.proofs.sound.rules_of_the_slots.Tie as tie
 
-cast-slots-fine : tie.Need-cast-slots-fine
-cast-slots-fine c = search needs
+cast-sized-slots-fine : tie.Need-cast-sized-slots-fine
+cast-sized-slots-fine c = search needs
 
-slots-fine-requires : tie.Need-slots-fine-requires
-slots-fine-requires c κs = search needs
+sized-slots-fine-requires : tie.Need-sized-slots-fine-requires
+sized-slots-fine-requires c κs = search needs
 
 word-requires : tie.Need-word-requires
 word-requires c κs = search needs
@@ -43,36 +43,53 @@ used-slots-requires c κs = search needs
 
 -- What is asked of the tree is what the last `&&` is asked.
 asked : (c : tie.Joined2) (x : Bool) {s : Bool} → s ≡ c .if2 .if3 and x
-    → let a = c .before .before .before .before .before .before .args in
+    → let a = c .before .before .before .before .before .before .before .args in
     let n = length (now (a .names)) / 2 in
-    s ≡ c .before .before .slots-fine .result and inRange n (getD (now (a .head)) 0 null) and inRange n (getD (now (a .head)) 1 null) and x
+    s ≡ c .before .before .sized-slots-fine .result and inRange n (getD (now (a .head)) 0 null) and inRange n (getD (now (a .head)) 1 null) and x
 asked c x e =
-    let a = c .before .before .before .before .before .before .args in
+    let a = c .before .before .before .before .before .before .before .args in
     let n = length (now (a .names)) / 2 in
     and-next _ (c .before .if1 .came) (λ w. (w .0 .taken, w .3 ∙ w .2 .ensures ∙ ap (inRange n) (w .1 .ensures))) (λ w. (w .0 .left, w .1))
     (and-next x (c .if2 .came) (λ w. (w .0 .taken, w .3 ∙ w .2 .ensures ∙ ap (inRange n) (w .1 .ensures))) (λ w. (w .0 .left, w .1)) e)
 
 returns : tie.Need-returns
 unfolding rule1
-returns c sizes =
+returns c =
     let c1 = c .before in
     let c2 = c1 .before in
     let c3 = c2 .before in
-    rw (any-head _ _ _ [] sizes [], ← c3 .before .before .slots-fine .ensures, ← c1 .word3 .ensures, ← c .used-slots .ensures)
+    let c5 = c3 .before .before in
+    let a = c5 .before .before .before .before .before .args in
+    rw (
+      behind,
+      any-head (now (a .names)) (now (a .cells)) (now (a .head)) [] (now (a .sizes)) (now (a .sizes)),
+      any-names (now (a .cells)) (now (a .sizes)) (now (a .names)) (now (a .names)) (now (a .head)) [],
+      ← c5 .sized-slots-fine .ensures,
+      ← c1 .word3 .ensures,
+      ← c .used-slots .ensures,
+    )
     (asked c3 _ (rw (c2 .if3 .taken)))
 
 returns-2 : tie.Need-returns-2
 unfolding rule1
-returns-2 c sizes =
+returns-2 c =
     let c1 = c .before in
-    rw (any-head _ _ _ [] sizes [], ← c1 .before .before .slots-fine .ensures) (asked c1 _ (rw (c .if3 .left)))
+    let c3 = c1 .before .before in
+    let a = c3 .before .before .before .before .before .args in
+    rw (
+      behind,
+      any-head (now (a .names)) (now (a .cells)) (now (a .head)) [] (now (a .sizes)) (now (a .sizes)),
+      any-names (now (a .cells)) (now (a .sizes)) (now (a .names)) (now (a .names)) (now (a .head)) [],
+      ← c3 .sized-slots-fine .ensures,
+    )
+    (asked c1 _ (rw (c .if3 .left)))
 
-pub rule1-spec : {M : Type 1} → statement M
-rule1-spec =
+pub rules-of-the-slots-spec : {M : Type 1} → statement M
+rules-of-the-slots-spec =
     tie.close
     (tie.spec
-    cast-slots-fine
-    slots-fine-requires
+    cast-sized-slots-fine
+    sized-slots-fine-requires
     word-requires
     in-range-requires
     word-requires-2

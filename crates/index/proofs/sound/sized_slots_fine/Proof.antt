@@ -1,0 +1,82 @@
+-- The loop's invariant: what is left of the slots decides the whole.
+use mathlib.Core.Path.{_≡_, _∙_}
+use mathlib.Core.List.{[]}
+use denote.Ref.{now}
+use Prim.Native.Nat.{_≤_}
+use borrow.Author.Needs.{needs}
+use borrow.Author.Tests.{not-true, not-false}
+use Rattle.index_rules.specs.Live.{lentTree}
+use Rattle.index.specs.Sound.{slotRules}
+use Rattle.index.proofs.Slots.{fine-none, fine-not, fine-on}
+use Rattle.index.proofs.sound.sized_slots_fine.Statement.{statement}
+use Rattle.index.proofs.sound.sized_slots_fine.Tie as tie
+
+abbrev Inv-loop : tie.InvT-loop
+Inv-loop names cells sizes n k₀ k =
+    (slotRules k n (lentTree names cells [] sizes) ≡ slotRules n n (lentTree names cells [] sizes)) × (k ≤ n)
+
+abbrev μ-loop : tie.MeasureT-loop
+μ-loop names cells sizes n k₀ k = k
+
+loop-holds : tie.Need-loop-holds Inv-loop μ-loop
+loop-holds c = search needs
+
+sub-k : tie.Need-sub-k Inv-loop μ-loop
+sub-k c = search needs
+
+slot-fine-requires : tie.Need-slot-fine-requires Inv-loop μ-loop
+slot-fine-requires c κs = search needs
+
+returns : tie.Need-returns Inv-loop μ-loop
+returns c =
+    let at-fine = c .before in
+    let at-loop = at-fine .before .before in
+    let a = at-loop .before .before .before .before .args in
+    fine-not
+    (a .n)
+    (lentTree (now (a .names)) (now (a .cells)) [] (now (a .sizes)))
+    (at-loop .loop .k)
+    (at-fine .before .loop-test .taken)
+    (at-fine .slot-fine .ensures)
+    (not-true (at-fine .slot-fine .result) (c .if1 .taken))
+    ∙ at-loop .loop .inv .0
+
+loop-less : tie.Need-loop-less Inv-loop μ-loop
+loop-less c = search needs
+
+loop-again : tie.Need-loop-again Inv-loop μ-loop
+loop-again c =
+    let at-fine = c .before in
+    let at-loop = at-fine .before .before in
+    let a = at-loop .before .before .before .before .args in (
+      fine-on
+          (a .n)
+          (lentTree (now (a .names)) (now (a .cells)) [] (now (a .sizes)))
+          (at-loop .loop .k)
+          (at-fine .before .loop-test .taken)
+          (at-fine .slot-fine .ensures)
+          (not-false (at-fine .slot-fine .result) (c .if1 .left))
+          ∙ at-loop .loop .inv .0,
+      search needs,
+    )
+
+returns-2 : tie.Need-returns-2 Inv-loop μ-loop
+returns-2 c =
+    let at-loop = c .before in
+    let a = at-loop .before .before .before .before .args in
+    fine-none (a .n) (lentTree (now (a .names)) (now (a .cells)) [] (now (a .sizes))) (at-loop .loop .k) (c .loop-test .left)
+    ∙ at-loop .loop .inv .0
+
+pub sized-slots-fine-spec : {M : Type 1} → statement M
+sized-slots-fine-spec =
+    tie.close
+    (tie.spec
+    Inv-loop
+    μ-loop
+    loop-holds
+    sub-k
+    slot-fine-requires
+    returns
+    loop-less
+    loop-again
+    returns-2)
