@@ -9,7 +9,7 @@ use Rattle.slots.proofs.Claims.{answer-one-to-one}
 use Rattle.slots.proofs.Laws.{told-apart}
 use Rattle.index_rules.specs.Batch.{Batched}
 use Rattle.batch.specs.Calls.{batchOf}
-use Rattle.batch.specs.Claims.{Returned, returnedWith, Claims}
+use Rattle.batch.specs.Claims.{BatchReturned, returnedWith, Claims}
 use Rattle.batch.specs.declared.batch.BatchMade.{BatchMade}
 use Rattle.batch.specs.declared.batch.BatchMade.the-variants.{Accepted, Unfit, Damaged}
 
@@ -26,11 +26,11 @@ batch-one-to-one : (a b : BatchMade) → batchOf a ≡ batchOf b → a ≡ b
 batch-one-to-one = told-apart batchOf (λ a. batchBack (a .number) (a .value)) batch-back
 
 same : {a b : BatchMade} {n c h s l w n′ c′ h′ s′ l′ w′ : List ℕ} → a ≡ b → n ≡ n′ → c ≡ c′ → h ≡ h′ → s ≡ s′ → l ≡ l′ → w ≡ w′
-    → _≡_ {A = Returned} (record { answer = a; names = n; cells = c; head = h; sizes = s; lines = l; answers = w })
+    → _≡_ {A = BatchReturned} (record { answer = a; names = n; cells = c; head = h; sizes = s; lines = l; answers = w })
     (record { answer = b; names = n′; cells = c′; head = h′; sizes = s′; lines = l′; answers = w′ })
 same e1 e2 e3 e4 e5 e6 e7 = rw (e1, e2, e3, e4, e5, e6, e7)
 
-one : (o : Batched) (c d : Returned) → returnedWith batchOf c ≡ o → returnedWith batchOf d ≡ o → c ≡ d
+one : (o : Batched) (c d : BatchReturned) → returnedWith batchOf c ≡ o → returnedWith batchOf d ≡ o → c ≡ d
 one o c d p q =
     let e = p ∙ sym q in
     same

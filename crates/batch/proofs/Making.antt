@@ -14,7 +14,7 @@ use Rattle.slots.specs.Answers.{Answer, given, refused, answerWord}
 use Rattle.index_rules.specs.Sound.{Sound, sound}
 use Rattle.index_rules.specs.Index.{Index, FitIndex, Outcome, outcome, fitsIndex, lengthOf, insertKind, removeKind, replaceKind}
 use Rattle.index_rules.specs.Calls.{Call, insertCall, removeCall, replaceCall, called}
-use Rattle.index_rules.specs.Checked.{NoneBelow, floorAfter, insertsSound, removesSound, replacesSound}
+use Rattle.index_rules.specs.Checked.{NoneBelow, Ready, floorAfter, insertsSound, removesSound, replacesSound}
 use Rattle.index_rules.specs.Batch.{Batched, batched, callWord, callsIn, callFits, allFit, callsFit, callAt, runs, batches}
 use Rattle.index_rules.specs.Claims.{OnceChecked}
 use Rattle.index_rules.proofs.Fit.{both}
@@ -22,7 +22,7 @@ use Rattle.index_rules.proofs.Journal.{fits-index}
 use Rattle.index_rules.proofs.Sounding.{yes-sound}
 use Rattle.index_rules.proofs.Batching.{at-insert, at-remove, call-line, all-pass}
 use Rattle.index_rules.proofs.Claims.{claims}
-use Rattle.batch.specs.Making.{Ready, Made}
+use Rattle.batch.specs.Making.{CallMade}
 
 -- The test of a call, and of the whole slice, as code asks them.
 module _ (calls : List ℕ) (k : ℕ) {kind p : ℕ} (e0 : kind ≡ callWord calls k 0) (e3 : p ≡ callWord calls k 3) where
@@ -77,13 +77,13 @@ module _ (calls : List ℕ) (k : ℕ) {kind hash key p : ℕ}
       ltb-true p 4294967296 (w .1)
 
 module _ {ix : Index} {floor : ℕ} (r : Ready ix floor) where
-  passed : OnceChecked ix (r .fit) (r .sound)
-  passed = claims .once-checked ix (r .fit) (r .sound)
+  passed : OnceChecked ix (r .passes .fit) (r .passes .sound)
+  passed = claims .once-checked ix (r .passes .fit) (r .passes .sound)
 
   -- A call whose outcome is the single call's.
   pub made : (c : Call) {answers words : List ℕ} (k : ℕ) {a b : Answer} {jx : Index} {w floor′ : ℕ}
       → outcome a jx ≡ called c ix → b ≡ a → w ≡ answerWord b → words ≡ set answers k w → floor′ ≡ floorAfter c a floor
-      → Made ix answers k c jx words floor′
+      → CallMade ix answers k c jx words floor′
   made c {answers} {words} k {a} {b} {jx} {w} {floor′} e f g h i =
       let left : jx ≡ called c ix .left = ap (λ (o : Outcome). o .left) e in
       let answer : a ≡ called c ix .answer = ap (λ (o : Outcome). o .answer) e in
@@ -94,8 +94,7 @@ module _ {ix : Index} {floor : ℕ} (r : Ready ix floor) where
         word = h ∙ ap (λ (n : ℕ). set answers k n) (g ∙ ap answerWord (f ∙ answer));
         ready = subst (λ (z : Index). Ready z floor′) (sym left)
             (record {
-              fit = again .0;
-              sound = again .1;
+              passes = record { fit = again .0; sound = again .1 };
               none = subst (λ (n : ℕ). NoneBelow n (called c ix .left .live)) (sym (i ∙ ap (λ (z : Answer). floorAfter c z floor) answer)) none;
             });
       }
@@ -109,8 +108,8 @@ module _ {ix : Index} {floor : ℕ} (r : Ready ix floor) where
   pub replace-is : (hash key p : ℕ) {o : Outcome} → o ≡ replacesSound ix hash key p → o ≡ called (replaceCall hash key p) ix
   replace-is hash key p e = e ∙ passed .replace hash key p
 
-pub made-as : {ix jx : Index} {answers words : List ℕ} {k floor : ℕ} {c d : Call} → c ≡ d → Made ix answers k c jx words floor → Made ix answers k d jx words floor
-made-as {ix} {jx} {answers} {words} {k} {floor} e m = subst (λ (z : Call). Made ix answers k z jx words floor) e m
+pub made-as : {ix jx : Index} {answers words : List ℕ} {k floor : ℕ} {c d : Call} → c ≡ d → CallMade ix answers k c jx words floor → CallMade ix answers k d jx words floor
+made-as {ix} {jx} {answers} {words} {k} {floor} e m = subst (λ (z : Call). CallMade ix answers k z jx words floor) e m
 
 -- A turn of the batch: calls from number k on are left, and what they come to decides the whole; as many were accepted as there are lines more.
 pub record Turn (start : Index) (calls : List ℕ) (m : ℕ) (first : List ℕ) (ix : Index) (answers : List ℕ) (floor k : ℕ) : Type 0 where
@@ -160,7 +159,7 @@ counted-on false l before now h e = omega arith
 
 module _ {start : Index} {calls : List ℕ} {m : ℕ} {first : List ℕ} {ix : Index} {answers : List ℕ} {floor k : ℕ}
     (turn : Turn start calls m first ix answers floor k) where
-  pub turn-on : {jx : Index} {words : List ℕ} {floor′ : ℕ} → k < m → Made ix answers k (callAt calls k) jx words floor′
+  pub turn-on : {jx : Index} {words : List ℕ} {floor′ : ℕ} → k < m → CallMade ix answers k (callAt calls k) jx words floor′
       → length (jx .live .names) ≡ length (ix .live .names) → length (jx .live .cells) ≡ length (ix .live .cells)
       → length (jx .live .head) ≡ length (ix .live .head) → length (jx .live .sizes) ≡ length (ix .live .sizes)
       → length (jx .lines) ≡ length (ix .lines) → length words ≡ length answers
@@ -169,7 +168,7 @@ module _ {start : Index} {calls : List ℕ} {m : ℕ} {first : List ℕ} {ix : I
       let o = called (callAt calls k) ix in
       let b = eqb (o .answer .number) 0 in
       let before = lengthOf (start .lines) in
-      let line : lengthOf (jx .lines) ≡ lengthOf (ix .lines) + pick b 1 0 = ap (λ (z : Index). lengthOf (z .lines)) (made .left) ∙ call-line ix (turn .ready .sound) calls k in
+      let line : lengthOf (jx .lines) ≡ lengthOf (ix .lines) + pick b 1 0 = ap (λ (z : Index). lengthOf (z .lines)) (made .left) ∙ call-line ix (turn .ready .passes .sound) calls k in
       let count = counted-on b (lengthOf (ix .lines)) before (lengthOf (jx .lines)) (turn .more) line in
       let z : m - k - 1 ≡ m - (k + 1) = omega arith in
       let step : runs (m - k) ix calls k answers (lengthOf (ix .lines) - before) ≡ runs (m - (k + 1)) jx calls (k + 1) words (lengthOf (jx .lines) - before) =
@@ -193,7 +192,7 @@ module _ {start : Index} {calls : List ℕ} {m : ℕ} {first : List ℕ} {ix : I
   turn-end l = sym (runs-end (m - k) (omega arith) ix calls k answers (lengthOf (ix .lines) - lengthOf (start .lines))) ∙ turn .same
 
   pub turn-most : lengthOf (ix .lines) ≤ 1024
-  turn-most = omega (arith, turn .ready .fit .most, turn .ready .fit .within)
+  turn-most = omega (arith, turn .ready .passes .fit .most, turn .ready .passes .fit .within)
 
 -- The tests before the calls.
 module _ (ix : Index) (calls answers : List ℕ) where
@@ -219,7 +218,8 @@ module _ (ix : Index) (calls answers : List ℕ) where
 
       module _ (g : sound (ix .live) ≡ true) where
         pub starts : Ready ix 0
-        starts = record { fit = fits-index ix e; sound = yes-sound (fits-index ix e .tree) g; none = λ k l. absurd (omega arith) }
+        starts =
+            record { passes = record { fit = fits-index ix e; sound = yes-sound (fits-index ix e .tree) g }; none = λ k l. absurd (omega arith) }
 
         pub does : {b : Batched} → b ≡ runs (callsIn calls) ix calls 0 answers 0 → b ≡ batches ix calls answers
         unfolding batches

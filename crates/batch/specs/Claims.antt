@@ -11,7 +11,7 @@ use Rattle.batch.specs.Calls.{batchOf}
 use Rattle.batch.specs.declared.batch.BatchMade.{BatchMade}
 
 -- What batch returns, and the words of the six slices after it.
-pub record Returned : Type 0 where
+pub record BatchReturned : Type 0 where
   pub answer : BatchMade
   pub names : List ℕ
   pub cells : List ℕ
@@ -20,7 +20,7 @@ pub record Returned : Type 0 where
   pub lines : List ℕ
   pub answers : List ℕ
 
-abbrev pub returnedWith : (BatchMade → Answer) → Returned → Batched
+abbrev pub returnedWith : (BatchMade → Answer) → BatchReturned → Batched
 returnedWith f r = batched (f (r .answer)) (lent (r .names) (r .cells) (r .head) (r .sizes) (r .lines)) (r .answers)
 
 pub record Claims : Type 0 where

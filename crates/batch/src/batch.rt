@@ -17,7 +17,7 @@ ghost use Rattle.slots.specs.Coded.{answerOf};
 ghost use Rattle.slots.specs.Answers.{given as giving};
 ghost use Rattle.index_rules.specs.Index.{lent, lengthOf};
 ghost use Rattle.index_rules.specs.Batch.{batched, allFit, runs, batches};
-ghost use Rattle.batch.specs.Making.{Ready};
+ghost use Rattle.index_rules.specs.Checked.{Ready};
 ghost use Rattle.batch.specs.Calls.{batchOf};
 
 // What batch answers, with the number of each refusal.

@@ -16,7 +16,8 @@ ghost use mathlib.Core.Bool.{true};
 ghost use Rattle.index_rules.specs.Index.{lent};
 ghost use Rattle.index_rules.specs.Calls.{insertCall, removeCall, replaceCall};
 ghost use Rattle.index_rules.specs.Batch.{callFits, callAt};
-ghost use Rattle.batch.specs.Making.{Ready, Made};
+ghost use Rattle.index_rules.specs.Checked.{Ready};
+ghost use Rattle.batch.specs.Making.{CallMade};
 
 fn make_insert(
     names: &mut [u64],
@@ -32,7 +33,7 @@ fn make_insert(
     place: u32,
 ) -> u32
     requires { ⌜ Ready (lent (now names) (now cells) (now head) (now sizes) (now lines)) floor ⌝ }
-    ensures { λ r. ⌜ Made (lent (now (names .entry)) (now (cells .entry)) (now (head .entry)) (now (sizes .entry)) (now (lines .entry)))
+    ensures { λ r. ⌜ CallMade (lent (now (names .entry)) (now (cells .entry)) (now (head .entry)) (now (sizes .entry)) (now (lines .entry)))
         (now (answers .entry)) k (insertCall hash key place)
         (lent (now (names .exit)) (now (cells .exit)) (now (head .exit)) (now (sizes .exit)) (now (lines .exit)))
         (now (answers .exit)) r ⌝ }
@@ -55,7 +56,7 @@ fn make_remove(
     key: u64,
 ) -> u32
     requires { ⌜ Ready (lent (now names) (now cells) (now head) (now sizes) (now lines)) floor ⌝ }
-    ensures { λ r. ⌜ Made (lent (now (names .entry)) (now (cells .entry)) (now (head .entry)) (now (sizes .entry)) (now (lines .entry)))
+    ensures { λ r. ⌜ CallMade (lent (now (names .entry)) (now (cells .entry)) (now (head .entry)) (now (sizes .entry)) (now (lines .entry)))
         (now (answers .entry)) k (removeCall hash key)
         (lent (now (names .exit)) (now (cells .exit)) (now (head .exit)) (now (sizes .exit)) (now (lines .exit)))
         (now (answers .exit)) r ⌝ }
@@ -79,7 +80,7 @@ fn make_replace(
     place: u32,
 ) -> u32
     requires { ⌜ Ready (lent (now names) (now cells) (now head) (now sizes) (now lines)) floor ⌝ }
-    ensures { λ r. ⌜ Made (lent (now (names .entry)) (now (cells .entry)) (now (head .entry)) (now (sizes .entry)) (now (lines .entry)))
+    ensures { λ r. ⌜ CallMade (lent (now (names .entry)) (now (cells .entry)) (now (head .entry)) (now (sizes .entry)) (now (lines .entry)))
         (now (answers .entry)) k (replaceCall hash key place)
         (lent (now (names .entry)) (now (cells .exit)) (now (head .entry)) (now (sizes .entry)) (now (lines .exit)))
         (now (answers .exit)) r ⌝ }
@@ -103,7 +104,7 @@ pub(crate) fn make(
 ) -> u32
     requires { ⌜ Ready (lent (now names) (now cells) (now head) (now sizes) (now lines)) floor ⌝ }
     requires { ⌜ callFits (now calls) k ≡ true ⌝ }
-    ensures { λ r. ⌜ Made (lent (now (names .entry)) (now (cells .entry)) (now (head .entry)) (now (sizes .entry)) (now (lines .entry)))
+    ensures { λ r. ⌜ CallMade (lent (now (names .entry)) (now (cells .entry)) (now (head .entry)) (now (sizes .entry)) (now (lines .entry)))
         (now (answers .entry)) k (callAt (now (calls .entry)) k)
         (lent (now (names .exit)) (now (cells .exit)) (now (head .exit)) (now (sizes .exit)) (now (lines .exit)))
         (now (answers .exit)) r ⌝ }

@@ -5,7 +5,7 @@ use mathlib.Core.List.{List}
 use Prim.Native.Nat.{ℕ}
 use Rattle.slots.specs.Answers.{OneAnswer}
 use Rattle.index_rules.specs.Index.{Index}
-use Rattle.script_rules.specs.Feeding.{Desk, blank as blankLine, feeds, ends}
+use Rattle.script_rules.specs.Feeding.{Desk, blank as blankLine, feeds, finishes}
 use Rattle.console.specs.Meanings.{lineOf, fedOf}
 use Rattle.console.specs.declared.feed.Fed.{Fed}
 
@@ -25,4 +25,4 @@ indexOf c = record { live = record { names = c .names; cells = c .cells; head = 
 pub record Feeding : Type 0 where
   pub blank-one : OneAnswer (λ l. lineOf l ≡ blankLine)
   pub feed-one : (chunk : List ℕ) (d : Desk) → OneAnswer (λ c. fedOf (c .fed) (indexOf c) (c .out) ≡ feeds chunk d)
-  pub finish-one : (d : Desk) → OneAnswer (λ c. fedOf (c .fed) (indexOf c) (c .out) ≡ ends d)
+  pub finish-one : (d : Desk) → OneAnswer (λ c. fedOf (c .fed) (indexOf c) (c .out) ≡ finishes d)

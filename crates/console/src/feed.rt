@@ -6,7 +6,7 @@ ghost use Prim.Native.Nat.{_≤_};
 ghost use lib.ListN.{length, replicate, take};
 ghost use Rattle.index_rules.specs.Index.{lent};
 ghost use Rattle.script_rules.specs.Commands.{spoken};
-ghost use Rattle.script_rules.specs.Feeding.{Line as Held, blank as blankLine, performed, heldOf, noted, fedByte, feeds, ends};
+ghost use Rattle.script_rules.specs.Feeding.{Line as Held, blank as blankLine, performed, heldOf, noted, fedByte, feeds, finishes};
 ghost use Rattle.script_rules.specs.Feeding.{lentPaper, lentTurn, lentDesk};
 ghost use Rattle.console.specs.Meanings.{lineOf, fedOf};
 
@@ -239,7 +239,7 @@ pub fn finish(
 ) -> Fed
     ensures { λ r. ⌜ fedOf r
         (lent (now (names .exit)) (now (cells .exit)) (now (head .exit)) (now (sizes .exit)) (now (lines .exit))) (now (out .exit))
-        ≡ ends (lentDesk (lineOf line) (now (names .entry)) (now (cells .entry)) (now (head .entry)) (now (sizes .entry))
+        ≡ finishes (lentDesk (lineOf line) (now (names .entry)) (now (cells .entry)) (now (head .entry)) (now (sizes .entry))
         (now (lines .entry)) (now (out .entry)) 0) ⌝ }
     ensures bounds { λ r. ⌜ r .written ≤ length (now (out .exit)) ⌝ }
 {

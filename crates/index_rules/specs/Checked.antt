@@ -9,7 +9,8 @@ use Rattle.slots.specs.Words.{null, pick, state, free, cell, mostSlots}
 use Rattle.slots.specs.Answers.{Answer, Value, some, none, given, refused}
 use Rattle.tree_rules.specs.Find.{slotsOf}
 use Rattle.index_rules.specs.Live.{Live, countOf}
-use Rattle.index_rules.specs.Index.{Index, index, Outcome, outcome, fitsIndex, lengthOf, linesOf, JournalLine, insertKind, plainLine, lineOf, appended}
+use Rattle.index_rules.specs.Sound.{Sound}
+use Rattle.index_rules.specs.Index.{Index, index, FitIndex, Outcome, outcome, fitsIndex, lengthOf, linesOf, JournalLine, insertKind, plainLine, lineOf, appended}
 use Rattle.index_rules.specs.Insert.{freeFrom, soughtIn, grown}
 use Rattle.index_rules.specs.Remove.{afterRemove}
 use Rattle.index_rules.specs.Replace.{afterReplace}
@@ -19,6 +20,16 @@ use Rattle.index_rules.specs.Rollback.{Undo, stays, misfit, undoneInto, 
 -- No slot below f is free.
 abbrev pub NoneBelow : ℕ → Live → Type 0
 NoneBelow f t = (k : ℕ) → k < f → cell (t .cells) k state ≢ free
+
+-- The check would say yes.
+pub record Passes (ix : Index) : Type 0 where
+  pub fit : FitIndex ix
+  pub sound : Sound (ix .live)
+
+-- The check would say yes, and no slot below the floor is free: what holds before and after each call that is made without the check.
+pub record Ready (ix : Index) (floor : ℕ) : Type 0 where
+  pub passes : Passes ix
+  pub none : NoneBelow floor (ix .live)
 
 abbrev pub lesser : ℕ → ℕ → ℕ
 lesser a b = pick (ltb a b) a b

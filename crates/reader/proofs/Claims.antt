@@ -9,8 +9,8 @@ use Rattle.slots.proofs.Laws.{told-apart}
 use Rattle.index_rules.specs.Index.{Index, lent}
 use Rattle.upload_rules.specs.Reader.{Note as Noting, unsaid, said, Reader as Words}
 use Rattle.upload_rules.specs.Reading.{ReadOutcome}
-use Rattle.reader.specs.Meanings.{replyOf, noteOf, wordsOf, readOf}
-use Rattle.reader.specs.Claims.{Returned, returnedBy, Claims}
+use Rattle.reader.specs.Meanings.{replyOf, noteOf, wordsOf, readingOf}
+use Rattle.reader.specs.Claims.{ReadReturned, returnedBy, Claims}
 use Rattle.reader.specs.Notes.{NoteSaid, known, unknown, noteAtOf}
 use Rattle.reader.proofs.Noting.{word-back, said-back}
 use Rattle.reader.specs.declared.notes.NoteAt.{NoteAt}
@@ -75,11 +75,11 @@ reader-back r = ap (noted (wordsOf r)) (note-back (r .note))
 abbrev readBack : ReadOutcome → Read
 readBack o = record { reply = replyBack (o .answer .number) (o .answer .value); reader = readerBack (o .left .reader) }
 
-read-back : (ix : Index) (r : Read) → readBack (readOf r ix) ≡ r
+read-back : (ix : Index) (r : Read) → readBack (readingOf r ix) ≡ r
 read-back ix r = λ i. record { reply = reply-back (r .reply) i; reader = reader-back (r .reader) i }
 
 -- What a call returned, with the slices of its outcome.
-abbrev returned : ReadOutcome → Read → Returned
+abbrev returned : ReadOutcome → Read → ReadReturned
 returned o r =
     record {
       read = r;
@@ -90,10 +90,10 @@ returned o r =
       lines = o .left .index .lines;
     }
 
-returned-back : (c : Returned) → returned (returnedBy readOf c) (readBack (returnedBy readOf c)) ≡ c
-returned-back c = ap (returned (returnedBy readOf c)) (read-back (lent (c .names) (c .cells) (c .head) (c .sizes) (c .lines)) (c .read))
+returned-back : (c : ReadReturned) → returned (returnedBy readingOf c) (readBack (returnedBy readingOf c)) ≡ c
+returned-back c = ap (returned (returnedBy readingOf c)) (read-back (lent (c .names) (c .cells) (c .head) (c .sizes) (c .lines)) (c .read))
 
-one : (o : ReadOutcome) (a b : Returned) → returnedBy readOf a ≡ o → returnedBy readOf b ≡ o → a ≡ b
+one : (o : ReadOutcome) (a b : ReadReturned) → returnedBy readingOf a ≡ o → returnedBy readingOf b ≡ o → a ≡ b
 one o a b e f = sym (returned-back a) ∙ ap (λ (x : ReadOutcome). returned x (readBack x)) (e ∙ sym f) ∙ returned-back b
 
 pub claims : Claims

@@ -13,7 +13,7 @@ use Rattle.index_rules.specs.Index.{Index, Outcome, outcome, fitsIndex}
 use Rattle.index_rules.specs.Insert.{inserts}
 use Rattle.index_rules.specs.Rollback.{rolls}
 use Rattle.index_rules.specs.Calls.{insertCall}
-use Rattle.index_rules.specs.Checked.{NoneBelow, raisedBy, insertsSound, rollsSound}
+use Rattle.index_rules.specs.Checked.{NoneBelow, Passes, Ready, raisedBy, insertsSound, rollsSound}
 use Rattle.index_rules.specs.Claims.{OnceChecked}
 use Rattle.index_rules.proofs.Journal.{fits-index}
 use Rattle.index_rules.proofs.Sounding.{yes-sound}
@@ -22,7 +22,7 @@ use Rattle.index.proofs.Singly.{insert-unfit, insert-damaged, rollback-unfit, r
 use Rattle.upload_rules.specs.Reader.{Reader, FitReader}
 use Rattle.upload_rules.specs.Reading.{Session, session, byteRead, bytesRead}
 use Rattle.upload_rules.proofs.Ranges.{byte-range}
-use Rattle.reader.specs.Trusting.{Passes, Ready, EntryMade, Stepped}
+use Rattle.reader.specs.Trusting.{EntryMade, Stepped}
 
 -- What was not checked is not said to be ready.
 pub unchecked : {A : Type 0} → false ≡ true → A

@@ -8,7 +8,7 @@ use Rattle.slots.specs.Coded.{answerOf}
 use Rattle.index_rules.specs.Index.{Index, lent}
 use Rattle.upload_rules.specs.Reader.{Note as Noting, said, newReader}
 use Rattle.upload_rules.specs.Reading.{Session, session, ReadOutcome, readStart, readChunk, readEnd}
-use Rattle.reader.specs.Meanings.{replyOf, wordsOf, readOf}
+use Rattle.reader.specs.Meanings.{replyOf, wordsOf, readingOf}
 use Rattle.reader.specs.Notes.{noteAtOf, known, noteWord, noteAt}
 use Rattle.reader.specs.declared.notes.NoteAt.{NoteAt}
 use Rattle.reader.specs.declared.reply.Reply.{Reply}
@@ -16,7 +16,7 @@ use Rattle.reader.specs.declared.words.Reader.{Reader}
 use Rattle.reader.specs.declared.read.Read.{Read}
 
 -- What a call returns, and the words of the five slices after it.
-pub record Returned : Type 0 where
+pub record ReadReturned : Type 0 where
   pub read : Read
   pub names : List ℕ
   pub cells : List ℕ
@@ -24,16 +24,16 @@ pub record Returned : Type 0 where
   pub sizes : List ℕ
   pub lines : List ℕ
 
-abbrev pub returnedBy : (Read → Index → ReadOutcome) → Returned → ReadOutcome
+abbrev pub returnedBy : (Read → Index → ReadOutcome) → ReadReturned → ReadOutcome
 returnedBy f r = f (r .read) (lent (r .names) (r .cells) (r .head) (r .sizes) (r .lines))
 
 pub record Claims : Type 0 where
   pub reply-one-to-one : (a b : Reply) → replyOf a ≡ replyOf b → a ≡ b
   pub reader-one-to-one : (a b : Reader) → wordsOf a ≡ wordsOf b → a ≡ b
   -- start lends its slices to be read: what it returns is one
-  pub start-one : (ix : Index) → OneAnswer (λ r. readOf r ix ≡ readStart (session (newReader 0) ix))
-  pub chunk-one : (d : Session) (chunk : List ℕ) → OneAnswer (λ r. returnedBy readOf r ≡ readChunk d chunk)
-  pub end-one : (d : Session) → OneAnswer (λ r. returnedBy readOf r ≡ readEnd d)
+  pub start-one : (ix : Index) → OneAnswer (λ r. readingOf r ix ≡ readStart (session (newReader 0) ix))
+  pub chunk-one : (d : Session) (chunk : List ℕ) → OneAnswer (λ r. returnedBy readingOf r ≡ readChunk d chunk)
+  pub end-one : (d : Session) → OneAnswer (λ r. returnedBy readingOf r ≡ readEnd d)
   pub answer-one : (a : Answer) → OneAnswer (λ r. answerOf r ≡ a)
   -- a note and its word: a noted answer's word says that answer, and a word that says a note is that note's
   pub note-one-to-one : (a b : NoteAt) → noteAtOf a ≡ noteAtOf b → a ≡ b

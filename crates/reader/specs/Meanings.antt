@@ -31,5 +31,5 @@ abbrev pub wordsOf : Reader → Words
 wordsOf r = readerOf (r .section) (r .got) (r .owed) (r .hash) (r .key) (r .mark) (r .taken) (noteOf (r .note))
 
 -- What a call returns, with the index that it leaves.
-abbrev pub readOf : Read → Index → ReadOutcome
-readOf r ix = readOutcome (replyOf (r .reply)) (session (wordsOf (r .reader)) ix)
+abbrev pub readingOf : Read → Index → ReadOutcome
+readingOf r ix = readOutcome (replyOf (r .reply)) (session (wordsOf (r .reader)) ix)

@@ -4,23 +4,12 @@ use mathlib.Core.Logic.{_≢_}
 use mathlib.Core.Bool.{Bool, true, false}
 use Prim.Native.Nat.{ℕ}
 use Rattle.slots.specs.Answers.{Answer}
-use Rattle.index_rules.specs.Sound.{Sound}
-use Rattle.index_rules.specs.Index.{Index, FitIndex, outcome}
+use Rattle.index_rules.specs.Index.{Index, outcome}
 use Rattle.index_rules.specs.Insert.{inserts}
 use Rattle.index_rules.specs.Rollback.{rolls}
-use Rattle.index_rules.specs.Checked.{NoneBelow}
+use Rattle.index_rules.specs.Checked.{Ready}
 use Rattle.upload_rules.specs.Reader.{Reader}
 use Rattle.upload_rules.specs.Reading.{Session, session}
-
--- The check would say yes.
-pub record Passes (ix : Index) : Type 0 where
-  pub fit : FitIndex ix
-  pub sound : Sound (ix .live)
-
--- The check would say yes, and no slot below the floor is free.
-pub record Ready (ix : Index) (floor : ℕ) : Type 0 where
-  pub passes : Passes ix
-  pub none : NoneBelow floor (ix .live)
 
 -- An insert was made: what it leaves is ready where the check has said yes; where it says no, a rollback comes to the same.
 pub record EntryMade (ix : Index) (hash key p : ℕ) (a : Answer) (checked : Bool) (floor : ℕ) (jx : Index) : Type 0 where

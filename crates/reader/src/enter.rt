@@ -14,7 +14,8 @@ ghost use Rattle.index_rules.specs.Index.{lent, outcome};
 ghost use Rattle.index_rules.specs.Rollback.{rolls};
 ghost use Rattle.index.specs.Calls.{insertedOf};
 ghost use Rattle.index.specs.Rolls.{rolledOf};
-ghost use Rattle.reader.specs.Trusting.{Passes, Ready, EntryMade};
+ghost use Rattle.index_rules.specs.Checked.{Passes, Ready};
+ghost use Rattle.reader.specs.Trusting.{EntryMade};
 
 // What an insert answered, whether the check has said yes, and then a slot below which none is free.
 pub(crate) struct Entered {

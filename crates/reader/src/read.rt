@@ -17,7 +17,7 @@ ghost use mathlib.Core.Path.{_≡_};
 ghost use Rattle.index_rules.specs.Index.{lent};
 ghost use Rattle.upload_rules.specs.Reader.{FitReader, newReader};
 ghost use Rattle.upload_rules.specs.Reading.{session, readStart, readChunk, endCame, readEnd};
-ghost use Rattle.reader.specs.Meanings.{wordsOf, readOf};
+ghost use Rattle.reader.specs.Meanings.{wordsOf, readingOf};
 
 // What a call answers, and the reader after it.
 pub struct Read {
@@ -65,7 +65,7 @@ fn close(
 impl Reader {
     // Begins an upload. The slices are only read; where it is refused the reader is that of a start on an empty journal.
     pub fn start(names: &[u64], cells: &[u32], head: &[u32], sizes: &[u32], lines: &[u64]) -> Read
-        ensures { λ r. ⌜ readOf r
+        ensures { λ r. ⌜ readingOf r
             (lent (now (names .entry)) (now (cells .entry)) (now (head .entry)) (now (sizes .entry)) (now (lines .entry)))
             ≡ readStart (session (newReader 0)
             (lent (now (names .entry)) (now (cells .entry)) (now (head .entry)) (now (sizes .entry)) (now (lines .entry)))) ⌝ }
@@ -103,7 +103,7 @@ impl Reader {
         lines: &mut [u64],
         chunk: &[u8],
     ) -> Read
-        ensures { λ r. ⌜ readOf r
+        ensures { λ r. ⌜ readingOf r
             (lent (now (names .exit)) (now (cells .exit)) (now (head .exit)) (now (sizes .exit)) (now (lines .exit)))
             ≡ readChunk (session (wordsOf self)
             (lent (now (names .entry)) (now (cells .entry)) (now (head .entry)) (now (sizes .entry)) (now (lines .entry))))
@@ -141,7 +141,7 @@ impl Reader {
         sizes: &mut [u32],
         lines: &mut [u64],
     ) -> Read
-        ensures { λ r. ⌜ readOf r
+        ensures { λ r. ⌜ readingOf r
             (lent (now (names .exit)) (now (cells .exit)) (now (head .exit)) (now (sizes .exit)) (now (lines .exit)))
             ≡ readEnd (session (wordsOf self)
             (lent (now (names .entry)) (now (cells .entry)) (now (head .entry)) (now (sizes .entry)) (now (lines .entry)))) ⌝ }

@@ -19,7 +19,8 @@ ghost use Rattle.index_rules.specs.Index.{lent};
 ghost use Rattle.upload_rules.specs.Reader.{FitReader};
 ghost use Rattle.upload_rules.specs.Reading.{session, turnedDown, kindCame, lastCame, byteCame, byteRead};
 ghost use Rattle.reader.specs.Meanings.{wordsOf, replyOf};
-ghost use Rattle.reader.specs.Trusting.{Passes, Ready, Stepped};
+ghost use Rattle.index_rules.specs.Checked.{Passes, Ready};
+ghost use Rattle.reader.specs.Trusting.{Stepped};
 
 // A reader amid a chunk: whether the check has said yes in it, and then a slot below which none is free.
 pub(crate) struct Reading {

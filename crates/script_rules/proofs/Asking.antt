@@ -8,19 +8,19 @@ use Rattle.index_rules.specs.Index.{Index}
 use Rattle.index_rules.specs.Live.{unsizedOf}
 use Rattle.index_rules.specs.Find.{finds}
 use Rattle.script_rules.specs.Commands.{find}
-use Rattle.script_rules.specs.Answers.{searchLine, foundText, obeyed}
+use Rattle.script_rules.specs.Answers.{searchLine, foundText, carriedOut}
 use Rattle.script_rules.specs.Claims.{Asks}
 
 module _ (ix : Index) (h k : ℕ) where
   abbrev looks : ℕ
   looks = length (finds (unsizedOf (ix .live)) h k .looks)
 
-  line : {a : Answer} → finds (unsizedOf (ix .live)) h k .answer ≡ a → obeyed ix (find h k) .text ≡ searchLine (withLooks looks a)
-  unfolding obeyed
+  line : {a : Answer} → finds (unsizedOf (ix .live)) h k .answer ≡ a → carriedOut ix (find h k) .text ≡ searchLine (withLooks looks a)
+  unfolding carriedOut
   line e = ap (λ (a : Answer). searchLine (withLooks looks a)) e
 
   pub asks : Asks ix h k
-  unfolding obeyed searchLine foundText
+  unfolding carriedOut searchLine foundText
   asks =
       record {
         at = λ slot e. line e;

@@ -9,7 +9,7 @@ use borrow.Author.Tests.{lt-ltb, le-ltb, eq-eqb, ne-eqb}
 use Rattle.index_rules.specs.Index.{Index}
 use Rattle.script_rules.specs.Text.{newline}
 use Rattle.script_rules.specs.Commands.{spoken}
-use Rattle.script_rules.specs.Answers.{Said, obeyed}
+use Rattle.script_rules.specs.Answers.{Said, carriedOut}
 use Rattle.script_rules.specs.Feeding.{Line, blank, heldOf, longest, Desk, answered, fedByte, Fed, roomLeft, feeding, feeds, Heard, prefixed, heard, deskOf, printed, Run, over, call}
 use Rattle.script_rules.proofs.Feeding.{Within, byte-within, feeds-short, feeds-long}
 use Rattle.script_rules.proofs.Room.{answer-short, typed-whole}
@@ -27,7 +27,7 @@ unfolding fedByte answered heard
 byte-heard d b l w r = go (ℕ-discrete b newline)
   where
     said : Said
-    said = obeyed (d .index) (spoken (heldOf (d .line)))
+    said = carriedOut (d .index) (spoken (heldOf (d .line)))
 
     go : Dec (b ≡ newline) → soFar (fedByte d b) l ≡ soFar d (b ∷ l)
     go (yes e) =

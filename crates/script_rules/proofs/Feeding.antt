@@ -10,7 +10,7 @@ use lib.ListN.{length, drop, getD, length-set}
 use borrow.Author.Tests.{lt-ltb, le-ltb, eq-eqb, ne-eqb}
 use Rattle.script_rules.specs.Text.{newline}
 use Rattle.script_rules.specs.Commands.{spoken}
-use Rattle.script_rules.specs.Feeding.{Line, blank, heldOf, noted, Paper, typedOne, typed, longest, Turn, performed, Desk, answered, fedByte, Fed, fed, roomLeft, feeding, feeds, ends}
+use Rattle.script_rules.specs.Feeding.{Line, blank, heldOf, noted, Paper, typedOne, typed, longest, Turn, performed, Desk, answered, fedByte, Fed, fed, roomLeft, feeding, feeds, finishes}
 use Rattle.script_rules.proofs.Reading.{from, past}
 
 -- Writing does not pass the buffer's end, and keeps its length.
@@ -74,16 +74,16 @@ unfolding feeds
 feeds-long chunk d h = rw (le-ltb _ _ h)
 
 module _ (d : Desk) where
-  pub ends-short : length (d .paper .bytes) < longest → _≡_ {A = Fed} (record { number = 1; desk = d; taken = 0 }) (ends d)
-  unfolding ends
+  pub ends-short : length (d .paper .bytes) < longest → _≡_ {A = Fed} (record { number = 1; desk = d; taken = 0 }) (finishes d)
+  unfolding finishes
   ends-short h = rw (lt-ltb _ _ h)
 
   module _ (room : longest ≤ length (d .paper .bytes)) where
-    pub ends-none : d .line .count ≡ 0 → fed 0 d ≡ ends d
-    unfolding ends
+    pub ends-none : d .line .count ≡ 0 → fed 0 d ≡ finishes d
+    unfolding finishes
     ends-none e = rw (le-ltb _ _ room, eq-eqb _ _ e)
 
     pub ends-line : {t : Turn} {l : Line} → d .line .count ≢ 0 → t ≡ performed (d .index) (d .paper) (spoken (heldOf (d .line))) → l ≡ blank
-        → fed 0 (record { line = l; index = t .index; paper = t .paper }) ≡ ends d
-    unfolding ends answered
+        → fed 0 (record { line = l; index = t .index; paper = t .paper }) ≡ finishes d
+    unfolding finishes answered
     ends-line n f g = rw (le-ltb _ _ room, ne-eqb _ _ n, f, g)

@@ -12,8 +12,8 @@ use borrow.Author.Tests.{lt-ltb, le-ltb, ne-eqb}
 use Rattle.index_rules.specs.Index.{Index}
 use Rattle.script_rules.specs.Text.{newline}
 use Rattle.script_rules.specs.Commands.{Command, spoken}
-use Rattle.script_rules.specs.Answers.{Said, obeyed}
-use Rattle.script_rules.specs.Feeding.{width, Line, blank, heldOf, noted, longest, answered, Fed, ends, prefixed, heard, deskOf, printed, NoNewline, nothing, another}
+use Rattle.script_rules.specs.Answers.{Said, carriedOut}
+use Rattle.script_rules.specs.Feeding.{width, Line, blank, heldOf, noted, longest, answered, Fed, finishes, prefixed, heard, deskOf, printed, NoNewline, nothing, another}
 use Rattle.script_rules.proofs.Feeding.{ends-none}
 use Rattle.script_rules.proofs.Room.{answer-short, typed-whole}
 
@@ -85,11 +85,11 @@ heard-line line ix [] rest nothing = refl
 heard-line line ix (b ∷ l) rest (another n m) = rw (ne-eqb b newline n) (heard-line (noted line b) ix l rest m)
 
 pub line-heard : (ix : Index) (l rest : List ℕ) → NoNewline l
-    → heard blank ix (l ++ (newline ∷ rest)) ≡ prefixed (obeyed ix (spoken l) .text) (heard blank (obeyed ix (spoken l) .left) rest)
+    → heard blank ix (l ++ (newline ∷ rest)) ≡ prefixed (carriedOut ix (spoken l) .text) (heard blank (carriedOut ix (spoken l) .left) rest)
 unfolding heard
 line-heard ix l rest n =
     heard-line blank ix l (newline ∷ rest) n
-    ∙ ap (λ (s : Said). prefixed (s .text) (heard blank (s .left) rest)) (ap (obeyed ix) (kept-means l))
+    ∙ ap (λ (s : Said). prefixed (s .text) (heard blank (s .left) rest)) (ap (carriedOut ix) (kept-means l))
 
 -- A line that has begun has a byte.
 noted-some : (line : Line) (b : ℕ) → 0 < noted line b .count
@@ -115,32 +115,32 @@ heard-part ix l n = ap (heard blank ix) (sym (append-nil l)) ∙ heard-line blan
 
 -- The line that is left at the end is answered.
 record Last (ix : Index) (l : List ℕ) (f : Fed) : Type 0 where
-  text : printed f ≡ obeyed ix (spoken l) .text
-  left : f .desk .index ≡ obeyed ix (spoken l) .left
+  text : printed f ≡ carriedOut ix (spoken l) .text
+  left : f .desk .index ≡ carriedOut ix (spoken l) .left
 
-ended : (ix : Index) (l buffer : List ℕ) (line : Line) → line ≡ notedAll blank l → l ≢ [] → longest ≤ length buffer → Last ix l (ends (deskOf line ix buffer))
-unfolding ends answered
+ended : (ix : Index) (l buffer : List ℕ) (line : Line) → line ≡ notedAll blank l → l ≢ [] → longest ≤ length buffer → Last ix l (finishes (deskOf line ix buffer))
+unfolding finishes answered
 ended ix l buffer line e n r =
-    let s = obeyed ix (spoken (heldOf line)) in
+    let s = carriedOut ix (spoken (heldOf line)) in
     let m : spoken (heldOf line) ≡ spoken l = ap (λ (x : Line). spoken (heldOf x)) e ∙ kept-means l in
     let some : line .count ≢ 0 = not-none (rw e (begun l n)) in
     let whole = typed-whole (record { bytes = buffer; at = 0 }) (s .text) (omega (arith, answer-short ix (spoken (heldOf line)))) in
     record {
-      text = rw (le-ltb (length buffer) longest r, ne-eqb (line .count) 0 some) (whole .behind ∙ ap (λ (c : Command). obeyed ix c .text) m);
-      left = rw (le-ltb (length buffer) longest r, ne-eqb (line .count) 0 some) (ap (λ (c : Command). obeyed ix c .left) m);
+      text = rw (le-ltb (length buffer) longest r, ne-eqb (line .count) 0 some) (whole .behind ∙ ap (λ (c : Command). carriedOut ix c .text) m);
+      left = rw (le-ltb (length buffer) longest r, ne-eqb (line .count) 0 some) (ap (λ (c : Command). carriedOut ix c .left) m);
     }
   where
     not-none : {x : ℕ} → 0 < x → x ≢ 0
     not-none h = omega arith
 
 pub last-heard : (ix : Index) (l buffer : List ℕ) → NoNewline l → l ≢ [] → longest ≤ length buffer
-    → let f = ends (deskOf (heard blank ix l .line) (heard blank ix l .index) buffer) in
-    (heard blank ix l .text ≡ []) × (printed f ≡ obeyed ix (spoken l) .text) × (f .desk .index ≡ obeyed ix (spoken l) .left)
+    → let f = finishes (deskOf (heard blank ix l .line) (heard blank ix l .index) buffer) in
+    (heard blank ix l .text ≡ []) × (printed f ≡ carriedOut ix (spoken l) .text) × (f .desk .index ≡ carriedOut ix (spoken l) .left)
 last-heard ix l buffer n m r =
     let h = heard-part ix l n in
     let e = ended ix l buffer (notedAll blank l) refl m r in
     rw h (refl, e .text, e .left)
 
 pub none-heard : (ix : Index) (buffer : List ℕ) → longest ≤ length buffer
-    → (printed (ends (deskOf blank ix buffer)) ≡ []) × (ends (deskOf blank ix buffer) .desk .index ≡ ix)
+    → (printed (finishes (deskOf blank ix buffer)) ≡ []) × (finishes (deskOf blank ix buffer) .desk .index ≡ ix)
 none-heard ix buffer r = let e = ends-none (deskOf blank ix buffer) r refl in rw (← e) (refl, refl)

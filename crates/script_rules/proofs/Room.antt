@@ -20,7 +20,7 @@ use Rattle.index_rules.specs.Rollback.{rolls}
 use Rattle.index_rules.proofs.Fit.{fits-fit, half}
 use Rattle.script_rules.specs.Text.{digits, space, noText, markText, slotText, goneText, backText}
 use Rattle.script_rules.specs.Commands.{Command, insert, remove, find, rollback, mark, list, bad}
-use Rattle.script_rules.specs.Answers.{numbered, numberLine, valueLine, told, foundValue, foundText, searchLine, more, met, entryLine, entryLines, counting, listing, marking, obeyed}
+use Rattle.script_rules.specs.Answers.{numbered, numberLine, valueLine, told, foundValue, foundText, searchLine, more, met, entryLine, entryLines, counting, listing, marking, carriedOut}
 use Rattle.script_rules.specs.Feeding.{Paper, typedOne, typed, longest}
 use Rattle.tree_rules.specs.Find.{Counted, counted, slotsOf}
 
@@ -114,8 +114,8 @@ marking-short ix = go (fitsIndex ix)
     go false = omega (arith, line-short noText 1)
 
 -- No answer is longer than `longest`.
-pub answer-short : (ix : Index) (c : Command) → length (obeyed ix c .text) ≤ longest
-unfolding obeyed
+pub answer-short : (ix : Index) (c : Command) → length (carriedOut ix c .text) ≤ longest
+unfolding carriedOut
 answer-short ix (insert h k p) = omega (arith, told-short slotText (inserts ix h k p .answer) (omega arith))
 answer-short ix (remove h k) = omega (arith, told-short goneText (removes ix h k .answer) (omega arith))
 answer-short ix (find h k) = omega (arith, search-short (counted (finds (unsizedOf (ix .live)) h k)))

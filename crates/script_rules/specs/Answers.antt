@@ -88,11 +88,11 @@ pub record Said : Type 0 where
 abbrev pub saying : List ℕ → Outcome → Said
 saying word o = record { text = told word (o .answer); left = o .left }
 
-unfoldable pub obeyed : Index → Command → Said
-obeyed ix (insert h k p) = saying slotText (inserts ix h k p)
-obeyed ix (remove h k) = saying goneText (removes ix h k)
-obeyed ix (find h k) = record { text = searchLine (counted (finds (unsizedOf (ix .live)) h k)); left = ix }
-obeyed ix (rollback m) = saying backText (rolls ix m)
-obeyed ix mark = record { text = marking ix; left = ix }
-obeyed ix list = record { text = listing (ix .live); left = ix }
-obeyed ix bad = record { text = badText ++ (newline ∷ []); left = ix }
+unfoldable pub carriedOut : Index → Command → Said
+carriedOut ix (insert h k p) = saying slotText (inserts ix h k p)
+carriedOut ix (remove h k) = saying goneText (removes ix h k)
+carriedOut ix (find h k) = record { text = searchLine (counted (finds (unsizedOf (ix .live)) h k)); left = ix }
+carriedOut ix (rollback m) = saying backText (rolls ix m)
+carriedOut ix mark = record { text = marking ix; left = ix }
+carriedOut ix list = record { text = listing (ix .live); left = ix }
+carriedOut ix bad = record { text = badText ++ (newline ∷ []); left = ix }

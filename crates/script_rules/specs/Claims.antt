@@ -11,8 +11,8 @@ use Rattle.slots.specs.Answers.{given, nothing, refused}
 use Rattle.index_rules.specs.Find.{finds}
 use Rattle.script_rules.specs.Text.{newline, space, decimal, worth, Digits, atText, noneText, noText, entriesText}
 use Rattle.script_rules.specs.Commands.{Command, find, bad, spoken, textOf, Fits}
-use Rattle.script_rules.specs.Answers.{numberLine, entryLinesOf, listing, obeyed}
-use Rattle.script_rules.specs.Feeding.{Line, blank, Paper, typed, longest, feeds, ends, Heard, prefixed, heard, deskOf, printed, Run, NoNewline}
+use Rattle.script_rules.specs.Answers.{numberLine, entryLinesOf, listing, carriedOut}
+use Rattle.script_rules.specs.Feeding.{Line, blank, Paper, typed, longest, feeds, finishes, Heard, prefixed, heard, deskOf, printed, Run, NoNewline}
 
 -- "decimal numbers", "with no leading zero".
 pub record Decimals (x : ℕ) : Type 0 where
@@ -43,19 +43,19 @@ pub record Calls (chunk : List ℕ) (line : Line) (ix : Index) (buffer : List �
 -- 1 is answered before anything is looked at.
 pub record Asks (ix : Index) (h k : ℕ) : Type 0 where
   pub at : (slot : ℕ) → finds (unsizedOf (ix .live)) h k .answer ≡ given slot
-      → obeyed ix (find h k) .text ≡ atText ++ (decimal slot ++ (space ∷ (decimal (length (finds (unsizedOf (ix .live)) h k .looks)) ++ (newline ∷ []))))
+      → carriedOut ix (find h k) .text ≡ atText ++ (decimal slot ++ (space ∷ (decimal (length (finds (unsizedOf (ix .live)) h k .looks)) ++ (newline ∷ []))))
   pub none : finds (unsizedOf (ix .live)) h k .answer ≡ nothing
-      → obeyed ix (find h k) .text ≡ noneText ++ (space ∷ (decimal (length (finds (unsizedOf (ix .live)) h k .looks)) ++ (newline ∷ [])))
+      → carriedOut ix (find h k) .text ≡ noneText ++ (space ∷ (decimal (length (finds (unsizedOf (ix .live)) h k .looks)) ++ (newline ∷ [])))
   pub nine : finds (unsizedOf (ix .live)) h k .answer ≡ refused 9
-      → obeyed ix (find h k) .text ≡ noText ++ (decimal 9 ++ (space ∷ (decimal (length (finds (unsizedOf (ix .live)) h k .looks)) ++ (newline ∷ []))))
-  pub one : finds (unsizedOf (ix .live)) h k .answer ≡ refused 1 → obeyed ix (find h k) .text ≡ noText ++ (decimal 1 ++ (newline ∷ []))
-  pub left : obeyed ix (find h k) .left ≡ ix
+      → carriedOut ix (find h k) .text ≡ noText ++ (decimal 9 ++ (space ∷ (decimal (length (finds (unsizedOf (ix .live)) h k .looks)) ++ (newline ∷ []))))
+  pub one : finds (unsizedOf (ix .live)) h k .answer ≡ refused 1 → carriedOut ix (find h k) .text ≡ noText ++ (decimal 1 ++ (newline ∷ []))
+  pub left : carriedOut ix (find h k) .left ≡ ix
 
 pub record Claims : Type 0 where
   pub decimals : (x : ℕ) → Decimals x
   pub means : (l : List ℕ) → Means l
   -- no answer is longer than the room that is asked for, and what there is room for is written whole
-  pub room : (ix : Index) (c : Command) → length (obeyed ix c .text) ≤ longest
+  pub room : (ix : Index) (c : Command) → length (carriedOut ix c .text) ≤ longest
   pub written : (p : Paper) (l : List ℕ) → p .at + length l ≤ length (p .bytes)
       → (typed p l .at ≡ p .at + length l) × (take (typed p l .at) (typed p l .bytes) ≡ take (p .at) (p .bytes) ++ l)
   pub calls : (chunk : List ℕ) (line : Line) (ix : Index) (buffer : List ℕ) → Calls chunk line ix buffer
@@ -63,13 +63,13 @@ pub record Claims : Type 0 where
   pub cutting : {line : Line} {ix : Index} {input : List ℕ} {h : Heard} → Run line ix input h → h ≡ heard line ix input
   -- line by line: each is answered as it is meant, and the next begins
   pub lines : (ix : Index) (l rest : List ℕ) → NoNewline l
-      → heard blank ix (l ++ (newline ∷ rest)) ≡ prefixed (obeyed ix (spoken l) .text) (heard blank (obeyed ix (spoken l) .left) rest)
+      → heard blank ix (l ++ (newline ∷ rest)) ≡ prefixed (carriedOut ix (spoken l) .text) (heard blank (carriedOut ix (spoken l) .left) rest)
   -- "An unended last line counts", and where none has begun nothing is printed
   pub last-line : (ix : Index) (l buffer : List ℕ) → NoNewline l → l ≢ [] → longest ≤ length buffer
-      → let f = ends (deskOf (heard blank ix l .line) (heard blank ix l .index) buffer) in
-      (heard blank ix l .text ≡ []) × (printed f ≡ obeyed ix (spoken l) .text) × (f .desk .index ≡ obeyed ix (spoken l) .left)
+      → let f = finishes (deskOf (heard blank ix l .line) (heard blank ix l .index) buffer) in
+      (heard blank ix l .text ≡ []) × (printed f ≡ carriedOut ix (spoken l) .text) × (f .desk .index ≡ carriedOut ix (spoken l) .left)
   pub no-line : (ix : Index) (buffer : List ℕ) → longest ≤ length buffer
-      → (printed (ends (deskOf blank ix buffer)) ≡ []) × (ends (deskOf blank ix buffer) .desk .index ≡ ix)
+      → (printed (finishes (deskOf blank ix buffer)) ≡ []) × (finishes (deskOf blank ix buffer) .desk .index ≡ ix)
   -- "`l` lists hash, key, place by the chain from first"
   pub lists : (t : Live) → Fit t → (h : Sound t) → listing t ≡ numberLine entriesText (countOf t) ++ entryLinesOf (t .names) (t .cells) (h .chain)
   pub asks : (ix : Index) (h k : ℕ) → Asks ix h k

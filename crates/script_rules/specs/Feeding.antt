@@ -9,7 +9,7 @@ use Rattle.slots.specs.Words.{pick}
 use Rattle.index_rules.specs.Index.{Index, lent}
 use Rattle.script_rules.specs.Text.{newline}
 use Rattle.script_rules.specs.Commands.{Command, spoken}
-use Rattle.script_rules.specs.Answers.{obeyed}
+use Rattle.script_rules.specs.Answers.{carriedOut}
 
 -- The line that has come so far: at most 81 bytes of it, since one over 80 is bad whatever follows.
 abbrev pub width : ℕ
@@ -58,7 +58,7 @@ abbrev pub lentTurn : List ℕ → List ℕ → List ℕ → List ℕ → List �
 lentTurn names cells head sizes lines out at = record { index = lent names cells head sizes lines; paper = lentPaper out at }
 
 abbrev pub performed : Index → Paper → Command → Turn
-performed ix p c = let s = obeyed ix c in record { index = s .left; paper = typed p (s .text) }
+performed ix p c = let s = carriedOut ix c in record { index = s .left; paper = typed p (s .text) }
 
 -- All that the routine works on.
 pub record Desk : Type 0 where
@@ -99,8 +99,8 @@ unfoldable pub feeds : List ℕ → Desk → Fed
 feeds chunk d = pick (ltb (length (d .paper .bytes)) longest) (record { number = 1; desk = d; taken = 0 }) (feeding chunk 0 d)
 
 -- "An unended last line counts": the call at the end of the input.
-unfoldable pub ends : Desk → Fed
-ends d =
+unfoldable pub finishes : Desk → Fed
+finishes d =
     pick (ltb (length (d .paper .bytes)) longest) (record { number = 1; desk = d; taken = 0 })
     (pick (eqb (d .line .count) 0) (fed 0 d) (fed 0 (answered d)))
 
@@ -117,7 +117,7 @@ unfoldable pub heard : Line → Index → List ℕ → Heard
 heard line ix [] = record { text = []; line = line; index = ix }
 heard line ix (b ∷ l) =
     pick (eqb b newline)
-    (let s = obeyed ix (spoken (heldOf line)) in prefixed (s .text) (heard blank (s .left) l))
+    (let s = carriedOut ix (spoken (heldOf line)) in prefixed (s .text) (heard blank (s .left) l))
     (heard (noted line b) ix l)
 
 abbrev pub deskOf : Line → Index → List ℕ → Desk

@@ -10,7 +10,7 @@ use lib.ListN.{length, take, drop, getD, length-drop}
 use lib.Seq.{take-all, drop-drop}
 use borrow.Author.Tests.{lt-ltb, le-ltb, eq-eqb, ne-eqb}
 use Rattle.index_rules.specs.Index.{Index}
-use Rattle.script_rules.specs.Feeding.{Line, blank, Desk, Fed, feeds, ends, deskOf}
+use Rattle.script_rules.specs.Feeding.{Line, blank, Desk, Fed, feeds, finishes, deskOf}
 use Rattle.script_rules.proofs.Reading.{from, past}
 use Rattle.trials.specs.declared.play.Met.{Met}
 use Rattle.trials.specs.Playing.{agreed, metBy, Played, playedBy, cleared, plays, playing}
@@ -38,7 +38,7 @@ module _ (expected : List ℕ) (at : ℕ) (part : List ℕ) (i : ℕ) where
     agreed-on b = rw (from part i h, lt-ltb _ _ e, eq-eqb _ _ b, add-one at)
 
 module _ (cut : ℕ) (expected rest : List ℕ) (said : ℕ) (d : Desk) {f : Fed} {m : Met} where
-  plays-over : (n : ℕ) → length rest ≡ 0 → f ≡ ends d → m ≡ metBy expected said f → playedBy m f ≡ plays n cut expected rest said d
+  plays-over : (n : ℕ) → length rest ≡ 0 → f ≡ finishes d → m ≡ metBy expected said f → playedBy m f ≡ plays n cut expected rest said d
   unfolding plays
   plays-over zero h e g = rw (g, e)
   plays-over (suc n) h e g = rw (eq-eqb _ _ h, g, e)
@@ -71,7 +71,7 @@ left-start cut expected input ix out e = record {
 }
 
 module _ (cut : ℕ) (expected input : List ℕ) (at said : ℕ) (d : Desk) {all : Played} {f : Fed} {m : Met} (left : Left cut expected input at said d all) where
-  pub left-over : length input ≤ at → f ≡ ends d → m ≡ metBy expected said f → playedBy m f ≡ all
+  pub left-over : length input ≤ at → f ≡ finishes d → m ≡ metBy expected said f → playedBy m f ≡ all
   left-over h e g = plays-over cut expected (drop at input) said d (left .calls) (simp length-drop (omega arith)) e g ∙ left .same
 
   module _ (h : at < length input) (e : f ≡ feeds (take cut (take (length input - at) (drop at input))) d) (g : m ≡ metBy expected said f) where

@@ -13,8 +13,8 @@ use Rattle.slots.specs.Words.{pick}
 use Rattle.index_rules.specs.Index.{Index}
 use Rattle.script_rules.specs.Text.{newline}
 use Rattle.script_rules.specs.Commands.{spoken}
-use Rattle.script_rules.specs.Answers.{Said, obeyed}
-use Rattle.script_rules.specs.Feeding.{Line, blank, heldOf, noted, Paper, typedOne, typed, longest, Desk, answered, fedByte, Fed, fed, roomLeft, feeding, feeds, ends, Heard, prefixed, heard, deskOf, printed}
+use Rattle.script_rules.specs.Answers.{Said, carriedOut}
+use Rattle.script_rules.specs.Feeding.{Line, blank, heldOf, noted, Paper, typedOne, typed, longest, Desk, answered, fedByte, Fed, fed, roomLeft, feeding, feeds, finishes, Heard, prefixed, heard, deskOf, printed}
 use Rattle.script_rules.proofs.Feeding.{ends-none, ends-line}
 use Rattle.script_rules.proofs.Room.{answer-short, typed-whole}
 use Rattle.script_rules.proofs.Cutting.{call-heard, taken-most, taken-some}
@@ -67,16 +67,16 @@ record Alike (f g : Fed) : Type 0 where
   text : printed f ≡ printed g
   index : f .desk .index ≡ g .desk .index
 
-ended-alike : (line : Line) (ix : Index) (a b : List ℕ) → longest ≤ length a → longest ≤ length b → Alike (ends (deskOf line ix a)) (ends (deskOf line ix b))
+ended-alike : (line : Line) (ix : Index) (a b : List ℕ) → longest ≤ length a → longest ≤ length b → Alike (finishes (deskOf line ix a)) (finishes (deskOf line ix b))
 ended-alike line ix a b r s = go (ℕ-discrete (line .count) 0)
   where
     said : Said
-    said = obeyed ix (spoken (heldOf line))
+    said = carriedOut ix (spoken (heldOf line))
 
     whole : (l : List ℕ) → longest ≤ length l → let p = typed (record { bytes = l; at = 0 }) (said .text) in take (p .at) (p .bytes) ≡ said .text
     whole l h = typed-whole (record { bytes = l; at = 0 }) (said .text) (omega (arith, answer-short ix (spoken (heldOf line)))) .behind
 
-    go : Dec (line .count ≡ 0) → Alike (ends (deskOf line ix a)) (ends (deskOf line ix b))
+    go : Dec (line .count ≡ 0) → Alike (finishes (deskOf line ix a)) (finishes (deskOf line ix b))
     go (yes e) = rw (← ends-none (deskOf line ix a) r e, ← ends-none (deskOf line ix b) s e) (record { text = refl; index = refl })
     go (no n) =
         rw (← ends-line (deskOf line ix a) r n refl refl, ← ends-line (deskOf line ix b) s n refl refl)
@@ -84,7 +84,7 @@ ended-alike line ix a b r s = go (ℕ-discrete (line .count) 0)
 
 -- From a line and an index on: the call at the end of the input, and all that is printed up to then.
 abbrev ending : Line → Index → List ℕ → List ℕ → Fed
-ending line ix rest buffer = let h = heard line ix rest in ends (deskOf (h .line) (h .index) buffer)
+ending line ix rest buffer = let h = heard line ix rest in finishes (deskOf (h .line) (h .index) buffer)
 
 abbrev printing : Line → Index → List ℕ → List ℕ → List ℕ
 printing line ix rest buffer = heard line ix rest .text ++ printed (ending line ix rest buffer)
@@ -119,7 +119,7 @@ module _ (expected last : List ℕ) (room : longest ≤ length last) where
     printed-first : printed f ++ printing (f .desk .line) (f .desk .index) (drop (f .taken) rest) last ≡ printing line ix rest last
     printed-first =
         sym (append-assoc (printed f) (heard (f .desk .line) (f .desk .index) (drop (f .taken) rest) .text) _)
-        ∙ ap (λ (x : Heard). x .text ++ printed (ends (deskOf (x .line) (x .index) last))) after
+        ∙ ap (λ (x : Heard). x .text ++ printed (finishes (deskOf (x .line) (x .index) last))) after
 
     step : Whole expected (agreed expected said (printed f) .at) (f .desk .line) (f .desk .index) (drop (f .taken) rest) last
         (plays n cut expected (drop (f .taken) rest) (agreed expected said (printed f) .at) (cleared f))
@@ -131,7 +131,7 @@ module _ (expected last : List ℕ) (room : longest ≤ length last) where
         go true s =
             rw (← e, ne-eqb (length rest) 0 (omega arith), s, lt-ltb 0 (f .taken) taken) (record {
               met = again .met ∙ sym (agreed-more expected said (printed f) _ s) ∙ ap (agreed expected said) printed-first;
-              left = λ u. again .left u ∙ ap (λ (x : Heard). ends (deskOf (x .line) (x .index) last) .desk .index) after;
+              left = λ u. again .left u ∙ ap (λ (x : Heard). finishes (deskOf (x .line) (x .index) last) .desk .index) after;
             })
         go false s =
             rw (← e, ne-eqb (length rest) 0 (omega arith), s) (record {

@@ -6,7 +6,7 @@ use lib.ListN.{length, take, drop, getD}
 use lib.Dec.{eqb, ltb}
 use Rattle.slots.specs.Words.{pick, _and_}
 use Rattle.index_rules.specs.Index.{Index}
-use Rattle.script_rules.specs.Feeding.{blank, Desk, Fed, feeds, ends, deskOf, printed}
+use Rattle.script_rules.specs.Feeding.{blank, Desk, Fed, feeds, finishes, deskOf, printed}
 use Rattle.trials.specs.declared.play.Met.{Met}
 
 -- A part of the answers against what is expected from a place on: up to the first byte that is another, or that is one too many.
@@ -38,7 +38,7 @@ cleared f = deskOf (f .desk .line) (f .desk .index) (f .desk .paper .bytes)
 
 -- The input has ended.
 abbrev pub closing : List ℕ → ℕ → Desk → Played
-closing expected said d = playedBy (metBy expected said (ends d)) (ends d)
+closing expected said d = playedBy (metBy expected said (finishes d)) (finishes d)
 
 -- The rest of the input, a piece of at most `cut` bytes to a call, in no more than so many calls. A call that prints something else, or
 -- that takes nothing, is the last.

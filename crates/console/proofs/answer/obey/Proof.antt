@@ -1,6 +1,6 @@
 -- Each command by itself.
 use mathlib.Core.Path.{ap}
-use Rattle.script_rules.specs.Answers.{obeyed}
+use Rattle.script_rules.specs.Answers.{carriedOut}
 use Rattle.console.specs.Phrases.{commandOf}
 use Rattle.console.proofs.Turns.{turn-of, read-turn}
 use borrow.Author.Needs.{needs}
@@ -86,7 +86,7 @@ same-length-16 : tie.Need-same-length-16
 same-length-16 c = search needs
 
 returns-3 : tie.Need-returns-3
-unfolding obeyed
+unfolding carriedOut
 returns-3 c =
     let c2 = c .before .before in
     let c4 = c2 .before .before .before .before .before .before in
@@ -147,7 +147,7 @@ same-length-28 : tie.Need-same-length-28
 same-length-28 c = search needs
 
 returns-5 : tie.Need-returns-5
-unfolding obeyed
+unfolding carriedOut
 returns-5 c =
     let c1 = c .before .before in
     let c2 = c1 .before .before .before .before .before .before .before in
@@ -175,7 +175,7 @@ same-length-33 : tie.Need-same-length-33
 same-length-33 c = search needs
 
 returns-6 : tie.Need-returns-6
-unfolding obeyed
+unfolding carriedOut
 returns-6 c =
     let c1 = c .before .before in
     let c2 = c1 .before .before .before .before .before .before in
@@ -194,7 +194,7 @@ same-length-34 : tie.Need-same-length-34
 same-length-34 c = search needs
 
 returns-7 : tie.Need-returns-7
-unfolding obeyed
+unfolding carriedOut
 returns-7 c =
     let c2 = c .before .before in
     let c3 = c2 .before .before .before in

@@ -1,6 +1,6 @@
 -- The call, and its answer printed.
 use Rattle.script_rules.specs.Text.{slotText}
-use Rattle.script_rules.specs.Answers.{obeyed}
+use Rattle.script_rules.specs.Answers.{carriedOut}
 use Rattle.console.proofs.Turns.{said}
 use borrow.Author.Needs.{needs}
 use Rattle.console.proofs.answer.obey_insert.Statement.{statement}
@@ -37,7 +37,7 @@ same-length-6 : tie.Need-same-length-6
 same-length-6 c = search needs
 
 returns : tie.Need-returns
-unfolding obeyed
+unfolding carriedOut
 returns c =
     let c1 = c .before .before in
     let c2 = c1 .before in
