@@ -73,7 +73,8 @@ module _ (calls : List ℕ) (k : ℕ) {kind hash key p : ℕ}
   pub small : callFits calls k ≡ true → kind ≢ removeKind → p < 4294967296
   unfolding callFits
   small h d =
-      let w = both (pick (eqb kind insertKind) true (eqb kind replaceKind)) (ltb p 4294967296) (rw (← e0, ← e3, ne-eqb kind removeKind d) at h) in
+      let w =
+      both (pick (eqb kind insertKind) true (eqb kind replaceKind)) (ltb p 4294967296) (rw (← e0, ← e3, ne-eqb kind removeKind d) at h) in
       ltb-true p 4294967296 (w .1)
 
 module _ {ix : Index} {floor : ℕ} (r : Ready ix floor) where
@@ -95,7 +96,8 @@ module _ {ix : Index} {floor : ℕ} (r : Ready ix floor) where
         ready = subst (λ (z : Index). Ready z floor′) (sym left)
             (record {
               passes = record { fit = again .0; sound = again .1 };
-              none = subst (λ (n : ℕ). NoneBelow n (called c ix .left .live)) (sym (i ∙ ap (λ (z : Answer). floorAfter c z floor) answer)) none;
+              none = subst (λ (n : ℕ). NoneBelow n (called c ix .left .live))
+                  (sym (i ∙ ap (λ (z : Answer). floorAfter c z floor) answer)) none;
             });
       }
 
@@ -108,10 +110,12 @@ module _ {ix : Index} {floor : ℕ} (r : Ready ix floor) where
   pub replace-is : (hash key p : ℕ) {o : Outcome} → o ≡ replacesSound ix hash key p → o ≡ called (replaceCall hash key p) ix
   replace-is hash key p e = e ∙ passed .replace hash key p
 
-pub made-as : {ix jx : Index} {answers words : List ℕ} {k floor : ℕ} {c d : Call} → c ≡ d → CallMade ix answers k c jx words floor → CallMade ix answers k d jx words floor
+pub made-as : {ix jx : Index} {answers words : List ℕ} {k floor : ℕ} {c d : Call} → c ≡ d → CallMade ix answers k c jx words floor
+    → CallMade ix answers k d jx words floor
 made-as {ix} {jx} {answers} {words} {k} {floor} e m = subst (λ (z : Call). CallMade ix answers k z jx words floor) e m
 
--- A turn of the batch: calls from number k on are left, and what they come to decides the whole; as many were accepted as there are lines more.
+-- A turn of the batch: calls from number k on are left, and what they come to decides the whole;
+-- as many were accepted as there are lines more.
 pub record Turn (start : Index) (calls : List ℕ) (m : ℕ) (first : List ℕ) (ix : Index) (answers : List ℕ) (floor k : ℕ) : Type 0 where
   pub same : runs (m - k) ix calls k answers (lengthOf (ix .lines) - lengthOf (start .lines)) ≡ runs m start calls 0 first 0
   pub ready : Ready ix floor
@@ -147,7 +151,8 @@ unfolding runs
 runs-on zero h ix calls k answers a = absurd (omega arith)
 runs-on (suc n) h ix calls k answers a = rw (sub-one, ← add-one k) refl
 
-runs-end : (n : ℕ) → n ≤ 0 → (ix : Index) (calls : List ℕ) (k : ℕ) (answers : List ℕ) (a : ℕ) → runs n ix calls k answers a ≡ batched (given a) ix answers
+runs-end : (n : ℕ) → n ≤ 0 → (ix : Index) (calls : List ℕ) (k : ℕ) (answers : List ℕ) (a : ℕ)
+    → runs n ix calls k answers a ≡ batched (given a) ix answers
 unfolding runs
 runs-end zero h ix calls k answers a = refl
 runs-end (suc n) h ix calls k answers a = absurd (omega arith)
@@ -168,10 +173,12 @@ module _ {start : Index} {calls : List ℕ} {m : ℕ} {first : List ℕ} {ix : I
       let o = called (callAt calls k) ix in
       let b = eqb (o .answer .number) 0 in
       let before = lengthOf (start .lines) in
-      let line : lengthOf (jx .lines) ≡ lengthOf (ix .lines) + pick b 1 0 = ap (λ (z : Index). lengthOf (z .lines)) (made .left) ∙ call-line ix (turn .ready .passes .sound) calls k in
+      let line : lengthOf (jx .lines) ≡ lengthOf (ix .lines) + pick b 1 0 =
+      ap (λ (z : Index). lengthOf (z .lines)) (made .left) ∙ call-line ix (turn .ready .passes .sound) calls k in
       let count = counted-on b (lengthOf (ix .lines)) before (lengthOf (jx .lines)) (turn .more) line in
       let z : m - k - 1 ≡ m - (k + 1) = omega arith in
-      let step : runs (m - k) ix calls k answers (lengthOf (ix .lines) - before) ≡ runs (m - (k + 1)) jx calls (k + 1) words (lengthOf (jx .lines) - before) =
+      let step : runs (m - k) ix calls k answers (lengthOf (ix .lines) - before)
+      ≡ runs (m - (k + 1)) jx calls (k + 1) words (lengthOf (jx .lines) - before) =
       rw (count, made .left, made .word, ← z) (runs-on (m - k) (omega arith) ix calls k answers (lengthOf (ix .lines) - before)) in
       record {
         same = sym step ∙ turn .same;
@@ -219,7 +226,10 @@ module _ (ix : Index) (calls answers : List ℕ) where
       module _ (g : sound (ix .live) ≡ true) where
         pub starts : Ready ix 0
         starts =
-            record { passes = record { fit = fits-index ix e; sound = yes-sound (fits-index ix e .tree) g }; none = λ k l. absurd (omega arith) }
+            record {
+              passes = record { fit = fits-index ix e; sound = yes-sound (fits-index ix e .tree) g };
+              none = λ k l. absurd (omega arith);
+            }
 
         pub does : {b : Batched} → b ≡ runs (callsIn calls) ix calls 0 answers 0 → b ≡ batches ix calls answers
         unfolding batches
@@ -229,7 +239,8 @@ module _ (ix : Index) (calls answers : List ℕ) where
 pub known-so-many : (calls : List ℕ) {m : ℕ} → m ≡ callsIn calls → allFit (callsIn calls) calls ≡ true → allFit m calls ≡ true
 known-so-many calls e h = rw e h
 
-pub given-more : (calls first : List ℕ) (start : Index) {answers : List ℕ} {ix : Index} {m before after : ℕ} → after ≡ lengthOf (ix .lines) → before ≡ lengthOf (start .lines) → m ≡ callsIn calls
+pub given-more : (calls first : List ℕ) (start : Index) {answers : List ℕ} {ix : Index} {m before after : ℕ} → after ≡ lengthOf (ix .lines)
+    → before ≡ lengthOf (start .lines) → m ≡ callsIn calls
     → batched (given (lengthOf (ix .lines) - lengthOf (start .lines))) ix answers ≡ runs m start calls 0 first 0
     → batched (given (after - before)) ix answers ≡ runs (callsIn calls) start calls 0 first 0
 given-more calls first start e1 e2 e3 h = rw (e1, e2, ← e3) h

@@ -1,5 +1,5 @@
--- What crate `batch` proves beside its contracts: its answers are told apart by their numbers and values, and it has one outcome, the answer
--- with all that is left in the lent slices.
+-- What crate `batch` proves beside its contracts: its answers are told apart by their numbers and values, and it has one outcome, the
+-- answer with all that is left in the lent slices.
 use mathlib.Core.Path.{_≡_}
 use mathlib.Core.List.{List}
 use Prim.Native.Nat.{ℕ}

@@ -6,7 +6,8 @@ use Prim.Native.Nat.{ℕ, _<_, _≤_}
 use lib.ListN.{length, drop}
 use borrow.Author.Tests.{lt-ltb, le-ltb}
 use Rattle.script_rules.specs.Text.{read, unread, readNumber, readNext, begins, plusWord, minusWord, askWord, rollWord, markWord, listWord}
-use Rattle.script_rules.specs.Commands.{Command, insert, remove, find, rollback, mark, list, bad, most64, most32, alone, entryOf, pairOf, markOf, meant, spoken}
+use Rattle.script_rules.specs.Commands.{Command, insert, remove, find, rollback, mark, list, bad, most64, most32, alone, entryOf, pairOf}
+use Rattle.script_rules.specs.Commands.{markOf, meant, spoken}
 
 module _ (l : List ℕ) where
   pub entry-none : unread ≡ readNumber most64 l → bad ≡ entryOf l

@@ -11,7 +11,8 @@ use Rattle.tree_rules.specs.Find.{slotsOf, Search, ends, found, decided, looked
 use Rattle.tree_rules.proofs.Searching.{at-null}
 use Rattle.tree_rules.specs.Chain.{chained, tally}
 use Rattle.tree_rules.specs.Check.{linksIn}
-use Rattle.tree_rules.specs.Rules.{stands, reached, follows, risen, allCalm, levelled, withParts, slotsBelow, rises, coloured, level, allSized}
+use Rattle.tree_rules.specs.Rules.{stands, reached, follows, risen, allCalm, levelled, withParts, slotsBelow, rises, coloured, level}
+use Rattle.tree_rules.specs.Rules.{allSized}
 use Rattle.tree_rules.specs.Sizes.{hasSize}
 use Rattle.redblack.specs.Deletion.{capped, settled, tucked, eased, sunk, deletionTurn, balancedDeletion}
 use Rattle.redblack.specs.Hanging.{descended, hooked, inserted, spotted}
@@ -20,7 +21,8 @@ use Rattle.redblack.specs.Removal.{replaced, lowered, traded, replacement, spli
 use Rattle.redblack.specs.Rotate.{hung, recounted, turned, rotated}
 use Rattle.redblack.specs.Climbing.{climbed, swapped}
 use Rattle.index_rules.specs.Live.{Live, unsizedOf, Fit, rootOf, countOf, fitsUnsized, fits}
-use Rattle.index_rules.specs.Sound.{Sound, sound, isCleared, slotFine, slotsFine, rule1, rule2, rule3, rule4, rule5, rule6, rule7, freeFine, freesFine, rule8}
+use Rattle.index_rules.specs.Sound.{Sound, sound, isCleared, slotFine, slotsFine, rule1, rule2, rule3, rule4, rule5, rule6, rule7, freeFine}
+use Rattle.index_rules.specs.Sound.{freesFine, rule8}
 use Rattle.index_rules.specs.Find.{finds}
 use Rattle.index_rules.specs.Index.{Index, FitIndex, index, outcome, lengthOf, wholeLines, fitsJournal, fitsIndex, lined, appended}
 use Rattle.index_rules.specs.Rollback.{rolls, unrolled, blanked}
@@ -34,7 +36,8 @@ use Rattle.index_rules.specs.Present.{wherePresent}
 use Rattle.index_rules.specs.Remove.{unchained, wiped, shrunk, removalOf, afterRemove, removes}
 use Rattle.set_rules.specs.Words.{begins, doubling, doubled, fitTables, binOf, bini}
 use Rattle.set_rules.specs.Words.{fits as setFits}
-use Rattle.set_rules.specs.Accepting.{isHome, isListSlot, samePair, unlike, listSlotFine, listFine, wellPlaced as mayStand, ownFine, binAsks, belowFine, binFine, tableFine, isBlank, headersFine, allHeld, accepted, accepts}
+use Rattle.set_rules.specs.Accepting.{isHome, isListSlot, samePair, unlike, listSlotFine, listFine, wellPlaced as mayStand, ownFine}
+use Rattle.set_rules.specs.Accepting.{binAsks, belowFine, binFine, tableFine, isBlank, headersFine, allHeld, accepted, accepts}
 use Rattle.set_rules.specs.Cursor.{starts, levelFine, levelsFine, baseFine, fine}
 use Rattle.set_rules.specs.Walk.{kept, advanced, sought, under, stepsOn, nexts}
 use Rattle.set_rules.specs.Held.{cursorAfter as stepped}
@@ -44,7 +47,9 @@ use Rattle.examples.specs.Worked.{entriesGiven as walks}
 
 empty-find : (t : Live) → Fit t → Sound t → countOf t ≡ 0 → (hash key : ℕ) → finds (unsizedOf t) hash key ≡ ends nothing
 unfolding finds found
-empty-find t fit h e hash key = rw (unsized-fits (unsizedOf t) (fit-unsized fit)) (at-null (t .names) (t .cells) hash key (slotsOf (t .names)) (rootOf t) (h .t2 .root .1 e))
+empty-find t fit h e hash key =
+    rw (unsized-fits (unsizedOf t) (fit-unsized fit))
+    (at-null (t .names) (t .cells) hash key (slotsOf (t .names)) (rootOf t) (h .t2 .root .1 e))
 
 -- A word written with what it was.
 set-same : (l : List ℕ) → 0 < length l → set l 0 (getD l 0 0) ≡ l
@@ -61,24 +66,41 @@ at-length ix fit h =
 
 -- The walk of the worked tables.
 walk-order : walks 7 tables (starts tables 0 .cursor) ≡ bin 2 0 ∷ (bin 2 4 ∷ (bin 2 2 ∷ (bin 2 6 ∷ (bin 1 1 ∷ (bin 1 3 ∷ [])))))
-unfolding walks tables listSlots cell nameOf begins doubling doubled fitTables setFits binOf starts levelFine levelsFine baseFine fine kept advanced sought under stepsOn nexts
+unfolding walks tables listSlots cell nameOf begins doubling doubled fitTables setFits binOf starts levelFine levelsFine baseFine fine kept
+    advanced sought under stepsOn nexts
 walk-order = refl
 
 tables-accepted : accepts tables ≡ given 1
-unfolding tables listSlots cell nameOf tally linksIn isCleared slotFine slotsFine begins doubling doubled fitTables setFits binOf bini isHome isListSlot samePair unlike listSlotFine listFine mayStand ownFine binAsks belowFine binFine tableFine isBlank headersFine allHeld accepted accepts
+unfolding tables listSlots cell nameOf tally linksIn isCleared slotFine slotsFine begins doubling doubled fitTables setFits binOf bini
+    isHome isListSlot samePair unlike listSlotFine listFine mayStand ownFine binAsks belowFine binFine tableFine isBlank headersFine allHeld
+    accepted accepts
 tables-accepted = refl
 
 walk-done : nexts tables (stepped 6 tables (starts tables 0 .cursor)) .answer ≡ nothing
-unfolding tables listSlots cell begins doubling doubled fitTables setFits binOf starts levelFine levelsFine baseFine fine kept advanced sought under stepsOn nexts stepped
+unfolding tables listSlots cell begins doubling doubled fitTables setFits binOf starts levelFine levelsFine baseFine fine kept advanced
+    sought under stepsOn nexts stepped
 walk-done = refl
 
 pub claims : Claims
-unfolding empty zeros freeSlots drawn drawnFrom chainOf chainFrom cell write nameOf rename roomy chained tally linksIn decided looked searched found stands reached follows risen allCalm levelled withParts hasSize slotsBelow rises coloured level allSized capped settled tucked eased sunk deletionTurn balancedDeletion descended hooked inserted spotted raised straightened lifted insertionTurn insertionTurns balancedInsertion replaced lowered traded replacement spliced detached dropped leftmost removed hung recounted turned rotated climbed swapped sum after wholeLines fitsJournal fitsIndex lined appended freeFrom lowestFree soughtIn seated grown inserts fitsUnsized fits unchained wiped shrunk removalOf wherePresent afterRemove removes isCleared slotFine slotsFine rule1 rule2 rule3 rule4 rule5 rule6 rule7 freeFine freesFine rule8 sound
+unfolding empty zeros freeSlots drawn drawnFrom chainOf chainFrom cell write nameOf rename roomy chained tally linksIn decided looked
+    searched found stands reached follows risen allCalm levelled withParts hasSize slotsBelow rises coloured level allSized capped settled
+    tucked eased sunk deletionTurn balancedDeletion descended hooked inserted spotted raised straightened lifted insertionTurn
+    insertionTurns balancedInsertion replaced lowered traded replacement spliced detached dropped leftmost removed hung recounted turned
+    rotated climbed swapped sum after wholeLines fitsJournal fitsIndex lined appended freeFrom lowestFree soughtIn seated grown inserts
+    fitsUnsized fits unchained wiped shrunk removalOf wherePresent afterRemove removes isCleared slotFine slotsFine rule1 rule2 rule3 rule4
+    rule5 rule6 rule7 freeFine freesFine rule8 sound
 claims =
     record {
       empty-find = empty-find;
       empty-remove = λ ix fit h e hash key.
-          demanded .remove ix hash key .asks .four .1 (fit, (h, demanded .find-sound (ix .live) (fit .tree) h hash key .none .0 (ap (λ (s : Search). s .answer) (empty-find (ix .live) (fit .tree) h e hash key))));
+          demanded .remove ix hash key .asks .four .1 (
+            fit,
+            (
+              h,
+              demanded .find-sound (ix .live) (fit .tree) h hash key .none .0
+                  (ap (λ (s : Search). s .answer) (empty-find (ix .live) (fit .tree) h e hash key)),
+            ),
+          );
       three-tree = refl;
       three-chain = refl;
       four-tree = refl;

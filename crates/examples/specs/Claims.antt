@@ -34,7 +34,8 @@ withoutOne = after (take 1 ∷ []) four
 pub record Claims : Type 0 where
   -- "Empty: find is Nothing; remove is 4": any empty tree, any pair, with no look
   pub empty-find : (t : Live) → Fit t → Sound t → countOf t ≡ 0 → (hash key : ℕ) → finds (unsizedOf t) hash key ≡ ends nothing
-  pub empty-remove : (ix : Index) → FitIndex ix → Sound (ix .live) → countOf (ix .live) ≡ 0 → (hash key : ℕ) → removes ix hash key .answer ≡ refused 4
+  pub empty-remove : (ix : Index) → FitIndex ix → Sound (ix .live) → countOf (ix .live) ≡ 0 → (hash key : ℕ)
+      → removes ix hash key .answer ≡ refused 4
   -- "Insert 1, 2, 3: root 2 black, 1 and 3 red; chain 3, 2, 1."
   pub three-tree : drawn (three .live) ≡ black (red none 1 none) 2 (red none 3 none)
   pub three-chain : chainOf (three .live) ≡ (3 ∷ (2 ∷ (1 ∷ [])))

@@ -46,7 +46,8 @@ drawnFrom (suc depth) t i =
     let k = nameOf (t .names) i keyPart in
     let l = drawnFrom depth t (cell (t .cells) i left) in
     let r = drawnFrom depth t (cell (t .cells) i right) in
-    pick (eqb i null) none (pick (eqb (cell (t .cells) i state) 1) (black l k r) (pick (eqb (cell (t .cells) i state) 2) (red l k r) (other l k r)))
+    pick (eqb i null) none
+    (pick (eqb (cell (t .cells) i state) 1) (black l k r) (pick (eqb (cell (t .cells) i state) 2) (red l k r) (other l k r)))
 
 unfoldable pub drawn : Live → Drawing
 drawn t = drawnFrom (slotsOf (t .names)) t (rootOf t)

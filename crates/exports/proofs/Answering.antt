@@ -65,7 +65,8 @@ module _ (names cells : List ℕ) (hash key : ℕ) where
   searched-plain (suc v) p =
       picked Found (eqb p null) (λ e. none)
       (λ e. picked Found (leb (slotsOf names) p) (λ f. nine)
-      (λ f. after-plain p (leb-false _ _ f) (λ q. searched names cells v q hash key) (looked names cells p hash key) (λ q. searched-plain v q)))
+      (λ f. after-plain p (leb-false _ _ f) (λ q. searched names cells v q hash key) (looked names cells p hash key)
+      (λ q. searched-plain v q)))
 
   found-plain : (root : ℕ) → Found (found names cells root hash key)
   unfolding found
@@ -77,7 +78,8 @@ module _ (names cells : List ℕ) (hash key : ℕ) where
   listed-plain (suc v) p =
       picked Found (eqb p null) (λ e. none)
       (λ e. picked Found (leb (slotsOf names) p) (λ f. nine)
-      (λ f. after-plain p (leb-false _ _ f) (λ q. listed names cells v q hash key) (listLook names cells p hash key) (λ q. listed-plain v q)))
+      (λ f. after-plain p (leb-false _ _ f) (λ q. listed names cells v q hash key) (listLook names cells p hash key)
+      (λ q. listed-plain v q)))
 
 -- An answer with whatever looks.
 abbrev Told : Search → Type 0
@@ -87,7 +89,8 @@ pub finds-plain : (t : Unsized) (hash key : ℕ) → Plain 4096 (finds t hash ke
 unfolding finds
 finds-plain t hash key =
     picked Told (fitsUnsized t)
-    (λ e. (let fit = fits-unsized t e in more (omega (arith, fit .two, fit .most)) (found-plain (t .names) (t .cells) hash key (rootWord (t .head)))))
+    (λ e. (let fit = fits-unsized t e in
+    more (omega (arith, fit .two, fit .most)) (found-plain (t .names) (t .cells) hash key (rootWord (t .head)))))
     (λ e. refuses {m = 1} (omega arith) (omega arith))
 
 -- The loop over the tables.

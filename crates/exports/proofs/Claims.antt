@@ -2,7 +2,8 @@
 use mathlib.Core.Path.{sym, _∙_}
 use native.Mathlib.Omega.{arith}
 use Rattle.exports.specs.Claims.{Claims}
-use Rattle.exports.proofs.Answering.{finds-plain, lookups-plain, nexts-plain, finds-looks, lookups-looks, tells, tells-looks, walk-done}
+use Rattle.exports.proofs.Answering.{finds-plain, lookups-plain, nexts-plain, finds-looks, lookups-looks, tells, tells-looks}
+use Rattle.exports.proofs.Answering.{walk-done}
 
 pub claims : Claims
 claims =

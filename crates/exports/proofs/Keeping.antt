@@ -45,6 +45,7 @@ pub short : {w : List ℕ} {r : ℕ} (s : Step) → (length w ≡ 11 → ⊥) �
 unfolding answerWord
 short {w} s n e = rw (ne-eqb (length w) 11 n, e)
 
-pub long : (w : List ℕ) {u : List ℕ} {r : ℕ} {a : Answer} {c : Cursor} {s : Step} → length w ≡ 11 → r ≡ answerWord a → record { answer = a; cursor = c } ≡ s → u ≡ leftIn w r c
+pub long : (w : List ℕ) {u : List ℕ} {r : ℕ} {a : Answer} {c : Cursor} {s : Step} → length w ≡ 11 → r ≡ answerWord a
+    → record { answer = a; cursor = c } ≡ s → u ≡ leftIn w r c
     → record { word = r; cursor = u } ≡ ofEleven w s
 long w l e f g = rw (eq-eqb (length w) 11 l, g, e, ← f)

@@ -13,7 +13,8 @@ use Rattle.index_rules.specs.Index.{Index}
 use Rattle.upload_rules.specs.Reader.{Note, Reader, readerOf, newReader}
 use Rattle.upload_rules.specs.Reading.{session, ReadOutcome, readOutcome, readStart, readChunk, readEnd}
 use Rattle.reader.specs.Notes.{NoteSaid, known, unknown, noteWord, noteAt}
-use Rattle.exports.specs.Readers.{ReaderSaid, saying, sayingNone, withNote, readerIn, readerWritten, ReadWorded, readWorded, startedReader, readInto, chunkRead, endedReader}
+use Rattle.exports.specs.Readers.{ReaderSaid, saying, sayingNone, withNote, readerIn, readerWritten, ReadWorded, readWorded}
+use Rattle.exports.specs.Readers.{startedReader, readInto, chunkRead, endedReader}
 
 -- What stands in the words.
 module _ (w : List ℕ) where
@@ -37,12 +38,15 @@ module _ (w : List ℕ) where
 
 -- The eight words, read and written one by one.
 module _ (w : List ℕ) where
-  pub eight-read : {a b c d e m t : ℕ} (n : Note) → a ≡ getD w 0 0 → b ≡ getD w 1 0 → c ≡ getD w 2 0 → d ≡ getD w 3 0 → e ≡ getD w 4 0 → m ≡ getD w 5 0 → t ≡ getD w 6 0
+  pub eight-read : {a b c d e m t : ℕ} (n : Note) → a ≡ getD w 0 0 → b ≡ getD w 1 0 → c ≡ getD w 2 0 → d ≡ getD w 3 0 → e ≡ getD w 4 0
+      → m ≡ getD w 5 0 → t ≡ getD w 6 0
       → saying (readerOf a b c d e m t n) ≡ withNote w (known n)
   eight-read n e1 e2 e3 e4 e5 e6 e7 = rw (e1, e2, e3, e4, e5, e6, e7)
 
-  pub eight-written : (r : Reader) {l1 l2 l3 l4 l5 l6 l7 l8 : List ℕ} {n : ℕ} → l1 ≡ set w 0 (r .section) → l2 ≡ set l1 1 (r .got) → l3 ≡ set l2 2 (r .owed)
-      → l4 ≡ set l3 3 (r .hash) → l5 ≡ set l4 4 (r .key) → l6 ≡ set l5 5 (r .mark) → l7 ≡ set l6 6 (r .taken) → n ≡ noteWord (r .note) → l8 ≡ set l7 7 n
+  pub eight-written : (r : Reader) {l1 l2 l3 l4 l5 l6 l7 l8 : List ℕ} {n : ℕ} → l1 ≡ set w 0 (r .section) → l2 ≡ set l1 1 (r .got)
+      → l3 ≡ set l2 2 (r .owed)
+      → l4 ≡ set l3 3 (r .hash) → l5 ≡ set l4 4 (r .key) → l6 ≡ set l5 5 (r .mark) → l7 ≡ set l6 6 (r .taken) → n ≡ noteWord (r .note)
+      → l8 ≡ set l7 7 n
       → l8 ≡ readerWritten w r
   unfolding readerWritten
   eight-written r e1 e2 e3 e4 e5 e6 e7 f e8 = rw (← e1, ← e2, ← e3, ← e4, ← e5, ← e6, ← e7, ← f) e8
@@ -53,7 +57,8 @@ module _ (ix : Index) (w : List ℕ) where
   unfolding startedReader answerWord
   start-short n e = rw (ne-eqb (length w) 8 n, e)
 
-  module _ (l : length w ≡ 8) {o : ReadOutcome} (e : o ≡ readStart (session (newReader 0) ix)) {told : ℕ} (f : told ≡ answerWord (o .answer)) where
+  module _ (l : length w ≡ 8) {o : ReadOutcome} (e : o ≡ readStart (session (newReader 0) ix)) {told : ℕ}
+      (f : told ≡ answerWord (o .answer)) where
     pub start-kept : 4294967296 ≤ told → readWorded told ix w ≡ startedReader ix w
     unfolding startedReader
     start-kept h = rw (eq-eqb (length w) 8 l, ← e, ← f, le-ltb told 4294967296 h)
@@ -63,7 +68,8 @@ module _ (ix : Index) (w : List ℕ) where
     start-made h g = rw (eq-eqb (length w) 8 l, ← e, ← f, lt-ltb told 4294967296 h, g)
 
   module _ {s : ReaderSaid} (e : s ≡ readerIn w) where
-    pub chunk-none : (chunk : List ℕ) → s ≡ sayingNone → {told : ℕ} → told ≡ 0 + 4294967296 * 1 → readWorded told ix w ≡ chunkRead ix w chunk
+    pub chunk-none : (chunk : List ℕ) → s ≡ sayingNone → {told : ℕ} → told ≡ 0 + 4294967296 * 1
+        → readWorded told ix w ≡ chunkRead ix w chunk
     unfolding chunkRead answerWord
     chunk-none chunk n f = rw (← e, n, f, chunkRead)
 
@@ -73,7 +79,8 @@ module _ (ix : Index) (w : List ℕ) where
 
     module _ {r : Reader} (k : s ≡ saying r) {a : Answer} {r′ : Reader} {jx : Index} {told : ℕ} {v : List ℕ}
         (f : told ≡ answerWord a) (g : v ≡ readerWritten w r′) where
-      pub chunk-some : (chunk : List ℕ) → readOutcome a (session r′ jx) ≡ readChunk (session r ix) chunk → readWorded told jx v ≡ chunkRead ix w chunk
+      pub chunk-some : (chunk : List ℕ) → readOutcome a (session r′ jx) ≡ readChunk (session r ix) chunk
+          → readWorded told jx v ≡ chunkRead ix w chunk
       unfolding chunkRead
       chunk-some chunk h =
           let to : chunkRead ix w chunk ≡ readInto w (readChunk (session r ix) chunk) = rw (← e, k, chunkRead) in

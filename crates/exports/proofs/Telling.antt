@@ -9,7 +9,8 @@ use Rattle.slots.specs.Answers.{answerWord}
 use Rattle.exports.specs.Words.{worded, batchWorded}
 
 -- Of a call that writes: the outcome's answer becomes its word, what is left stays.
-pub tells : {w : ℕ} {a : Answer} {ix : Index} {o : Outcome} → w ≡ answerWord a → record { answer = a; left = ix } ≡ o → record { word = w; left = ix } ≡ worded o
+pub tells : {w : ℕ} {a : Answer} {ix : Index} {o : Outcome} → w ≡ answerWord a → record { answer = a; left = ix } ≡ o
+    → record { word = w; left = ix } ≡ worded o
 unfolding worded
 tells {w} {a} {ix} {o} e f = ap (λ (n : ℕ). record { word = n; left = ix }) e ∙ ap worded f
 

@@ -49,7 +49,9 @@ abbrev pub readInto : List ℕ → ReadOutcome → ReadWorded
 readInto w o = readWorded (answerWord (o .answer)) (o .left .index) (readerWritten w (o .left .reader))
 
 unfoldable pub chunkRead : Index → List ℕ → List ℕ → ReadWorded
-chunkRead ix w chunk = elim (readerIn w) [ saying r ↦ readInto w (readChunk (session r ix) chunk) | sayingNone ↦ readWorded (answerWord (refused 1)) ix w ]
+chunkRead ix w chunk =
+    elim (readerIn w) [ saying r ↦ readInto w (readChunk (session r ix) chunk) | sayingNone ↦ readWorded (answerWord (refused 1)) ix w ]
 
 unfoldable pub endedReader : Index → List ℕ → ReadWorded
-endedReader ix w = elim (readerIn w) [ saying r ↦ readInto w (readEnd (session r ix)) | sayingNone ↦ readWorded (answerWord (refused 1)) ix w ]
+endedReader ix w =
+    elim (readerIn w) [ saying r ↦ readInto w (readEnd (session r ix)) | sayingNone ↦ readWorded (answerWord (refused 1)) ix w ]

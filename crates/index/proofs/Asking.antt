@@ -86,10 +86,14 @@ module _ (t : Live) (f : fits t ≡ true) (r : Soundness) (e : soundOf r ≡ sou
       go Unfit z = refl
 
 -- The search names a slot, or it does not.
-module _ (t : Live) (hash key : ℕ) {root : ℕ} (e : root ≡ rootOf t) (r : Found) (s : searchedOf r ≡ counted (found (t .names) (t .cells) root hash key)) where
+module _ (t : Live) (hash key : ℕ) {root : ℕ} (e : root ≡ rootOf t) (r : Found)
+    (s : searchedOf r ≡ counted (found (t .names) (t .cells) root hash key)) where
   sought : soughtIn t hash key ≡ searchedOf r .answer .value
   unfolding soughtIn
-  sought = let z : found (t .names) (t .cells) (rootOf t) hash key .answer .value ≡ searchedOf r .answer .value = rw (← e) (sym (value (ap (λ (c : Counted). c .answer) s))) in z
+  sought =
+      let z : found (t .names) (t .cells) (rootOf t) hash key .answer .value ≡ searchedOf r .answer .value =
+      rw (← e) (sym (value (ap (λ (c : Counted). c .answer) s))) in
+      z
 
   pub sought-at : {slot looks : ℕ} → r ≡ At slot looks → soughtIn t hash key ≡ some slot
   sought-at y = sought ∙ ap (λ (q : Found). searchedOf q .answer .value) y

@@ -16,11 +16,14 @@ use Rattle.index.specs.declared.fit_index.Fitness.the-variants.{Fit, Unf
 use Rattle.index.specs.declared.fresh.Freshness.{Freshness}
 use Rattle.index.specs.declared.fresh.Freshness.the-variants.{Made, Unfit as FreshUnfit}
 use Rattle.index.specs.declared.insert.Inserted.{Inserted}
-use Rattle.index.specs.declared.insert.Inserted.the-variants.{At as InsertAt, Unfit as InsertUnfit, Damaged as InsertDamaged, Present, Full, JournalFull as InsertJournalFull}
+use Rattle.index.specs.declared.insert.Inserted.the-variants.{At as InsertAt, Unfit as InsertUnfit, Damaged as InsertDamaged, Present}
+use Rattle.index.specs.declared.insert.Inserted.the-variants.{Full, JournalFull as InsertJournalFull}
 use Rattle.index.specs.declared.remove.Removed.{Removed}
-use Rattle.index.specs.declared.remove.Removed.the-variants.{At as RemoveAt, Unfit as RemoveUnfit, Damaged as RemoveDamaged, Absent as RemoveAbsent, JournalFull as RemoveJournalFull}
+use Rattle.index.specs.declared.remove.Removed.the-variants.{At as RemoveAt, Unfit as RemoveUnfit, Damaged as RemoveDamaged}
+use Rattle.index.specs.declared.remove.Removed.the-variants.{Absent as RemoveAbsent, JournalFull as RemoveJournalFull}
 use Rattle.index.specs.declared.replace.Replaced.{Replaced}
-use Rattle.index.specs.declared.replace.Replaced.the-variants.{At as ReplaceAt, Unfit as ReplaceUnfit, Damaged as ReplaceDamaged, Absent as ReplaceAbsent, JournalFull as ReplaceJournalFull}
+use Rattle.index.specs.declared.replace.Replaced.the-variants.{At as ReplaceAt, Unfit as ReplaceUnfit, Damaged as ReplaceDamaged}
+use Rattle.index.specs.declared.replace.Replaced.the-variants.{Absent as ReplaceAbsent, JournalFull as ReplaceJournalFull}
 
 abbrev insertBack : ℕ → Value → Inserted
 insertBack number (some slot) = pick (eqb number 0) (InsertAt slot) (Present slot)

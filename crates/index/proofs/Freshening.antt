@@ -16,7 +16,8 @@ use Rattle.index_rules.specs.Rollback.{blanked}
 use Rattle.index_rules.specs.Fresh.{fitsLengths, bared, freshes}
 
 module _ (names cells head sizes : List ℕ) (k : ℕ) where
-  pub bare-on : {names′ cells′ sizes′ : List ℕ} → 0 < k → names′ ≡ rename (rename names (k - 1) hashPart 0) (k - 1) keyPart 0 → cells′ ≡ wiped cells (k - 1)
+  pub bare-on : {names′ cells′ sizes′ : List ℕ} → 0 < k → names′ ≡ rename (rename names (k - 1) hashPart 0) (k - 1) keyPart 0
+      → cells′ ≡ wiped cells (k - 1)
       → sizes′ ≡ set sizes (k - 1) 0 → bared (k - 1) (lentTree names′ cells′ head sizes′) ≡ bared k (lentTree names cells head sizes)
   unfolding bared
   bare-on {names′} {cells′} {sizes′} h e f d = go k h e f d
@@ -40,7 +41,8 @@ module _ (names cells head sizes lines : List ℕ) where
   unfolding freshes
   fresh-unfit e f = rw (← e, f)
 
-  pub fresh-made : {b : Bool} {capacity : ℕ} {names′ cells′ head′ sizes′ lines′ : List ℕ} → b ≡ fitsLengths (lent names cells head sizes lines) → b ≡ true → capacity ≡ linesOf lines
+  pub fresh-made : {b : Bool} {capacity : ℕ} {names′ cells′ head′ sizes′ lines′ : List ℕ}
+      → b ≡ fitsLengths (lent names cells head sizes lines) → b ≡ true → capacity ≡ linesOf lines
       → lentTree names′ cells′ head sizes′ ≡ bared (length names / 2) (lentTree names cells head sizes) → head′ ≡ headed head null null 0
       → lines′ ≡ set (blanked capacity lines 0) 0 0
       → outcome (given 1) (lent names′ cells′ head′ sizes′ lines′) ≡ freshes (lent names cells head sizes lines)

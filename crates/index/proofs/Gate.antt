@@ -17,7 +17,8 @@ module _ (t : Unsized) {r : Bool} (e : r ≡ fitsUnsized t) where
   unfolding finds
   find-unfit hash key f = rw (← e, f)
 
-  pub find-fit : (hash key : ℕ) → r ≡ true → {root : ℕ} {a : Counted} → root ≡ rootWord (t .head) → a ≡ counted (found (t .names) (t .cells) root hash key) → a ≡ counted (finds t hash key)
+  pub find-fit : (hash key : ℕ) → r ≡ true → {root : ℕ} {a : Counted} → root ≡ rootWord (t .head)
+      → a ≡ counted (found (t .names) (t .cells) root hash key) → a ≡ counted (finds t hash key)
   unfolding finds
   find-fit hash key f h i = rw (← e, f, ← h) i
 

@@ -16,7 +16,8 @@ use Rattle.index_rules.specs.Insert.{freeFrom, followerOf, seated, headed, grow
 use Rattle.index.specs.Frees.{grownIf}
 use Rattle.tree_rules.specs.Find.{slotsOf}
 
-free-step : (m : ℕ) → 0 < m → (cells : List ℕ) (k : ℕ) → freeFrom m cells k ≡ pick (eqb (cell cells k state) free) k (freeFrom (m - 1) cells (k + 1))
+free-step : (m : ℕ) → 0 < m → (cells : List ℕ) (k : ℕ)
+    → freeFrom m cells k ≡ pick (eqb (cell cells k state) free) k (freeFrom (m - 1) cells (k + 1))
 unfolding freeFrom
 free-step zero h cells k = absurd (omega arith)
 free-step (suc m) h cells k = rw (sub-one, add-one)
@@ -34,7 +35,8 @@ module _ (cells : List ℕ) (n k : ℕ) {x : ℕ} (same : freeFrom (n - k) cells
   pub free-on : {s : ℕ} → k < n → s ≡ cell cells k state → s ≢ free → freeFrom (n - (k + 1)) cells (k + 1) ≡ x
   free-on l e f =
       let z : n - k - 1 ≡ n - (k + 1) = omega arith in
-      let y : freeFrom (n - k) cells k ≡ freeFrom (n - (k + 1)) cells (k + 1) = rw (free-step (n - k) (omega arith), ← e, ne-eqb _ _ f, z) in
+      let y : freeFrom (n - k) cells k ≡ freeFrom (n - (k + 1)) cells (k + 1) =
+      rw (free-step (n - k) (omega arith), ← e, ne-eqb _ _ f, z) in
       sym y ∙ same
 
   pub free-end : n ≤ k → null ≡ x
@@ -51,7 +53,8 @@ module _ (head : List ℕ) (root first count : ℕ) where
   heads e1 e2 e3 = rw (← e1, ← e2) e3
 
 module _ (names : List ℕ) (x hash key : ℕ) where
-  pub pair : {l1 l2 : List ℕ} → l1 ≡ rename names x hashPart hash → l2 ≡ rename l1 x keyPart key → l2 ≡ rename (rename names x hashPart hash) x keyPart key
+  pub pair : {l1 l2 : List ℕ} → l1 ≡ rename names x hashPart hash → l2 ≡ rename l1 x keyPart key
+      → l2 ≡ rename (rename names x hashPart hash) x keyPart key
   pair e1 e2 = rw (← e1) e2
 
 -- The names are too many, the count is null, or the slot joins.
@@ -68,18 +71,22 @@ module _ (t : Live) (x y hash key p : ℕ) where
         → root ≡ rootOf t → q ≡ followerOf t y → front ≡ pick (eqb y null) x (firstOf t)
         → names ≡ rename (rename (t .names) x hashPart hash) x keyPart key
         → c1 ≡ write (t .cells) x place p → c2 ≡ seated c1 x y q
-        → hung ≡ inserted (slotsOf (t .names)) (lentLinks c2 root (t .sizes)) x (spotted (slotsOf (t .names)) names (lentLinks c2 root (t .sizes)) hash key)
+        → hung
+        ≡ inserted (slotsOf (t .names)) (lentLinks c2 root (t .sizes)) x
+        (spotted (slotsOf (t .names)) names (lentLinks c2 root (t .sizes)) hash key)
         → head ≡ headed (t .head) (hung .root) front (count + 1)
         → lentTree names (hung .cells) head (hung .sizes) ≡ grownIf t x y hash key p
     unfolding grown
     grow {root} {q} {front} {names} {c1} {c2} {head} {hung} n e2 e3 e4 e5 e6 e7 e8 e9 =
         let d : countOf t ≢ null = λ z. n (e1 ∙ z) in
-        let z : lentTree names (hung .cells) head (hung .sizes) ≡ grown t x y hash key p = rw (← e1, ← e2, ← e3, ← e4, ← e5, ← e6, ← e7, ← e8, ← e9) in
+        let z : lentTree names (hung .cells) head (hung .sizes) ≡ grown t x y hash key p =
+        rw (← e1, ← e2, ← e3, ← e4, ← e5, ← e6, ← e7, ← e8, ← e9) in
         rw (le-leb (length (t .names)) 8192 h, ne-eqb (countOf t) null d) z
 
 -- What follows y, and the new first: two ways meet, by whether y is null.
 module _ (t : Live) (x y : ℕ) {Y N : Type 0} {first q : ℕ} (e1 : first ≡ firstOf t) (came : Y ⊎ N) where
-  pub follower : {behind : ℕ} → behind ≡ cell (t .cells) y next → (Y → (y ≡ null) × (q ≡ first)) → (N → (y ≢ null) × (q ≡ behind)) → q ≡ followerOf t y
+  pub follower : {behind : ℕ} → behind ≡ cell (t .cells) y next → (Y → (y ≡ null) × (q ≡ first)) → (N → (y ≢ null) × (q ≡ behind))
+      → q ≡ followerOf t y
   follower {behind} e2 f g = go came
     where
       go : Y ⊎ N → q ≡ followerOf t y

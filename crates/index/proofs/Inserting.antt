@@ -42,7 +42,8 @@ module _ (floor : ℕ) (ix : Index) (hash key : ℕ) where
     damaged f p = rw (e, f)
 
     module _ (f : counts ≡ true) where
-      pub present : {slot : ℕ} → soughtIn t hash key ≡ some slot → (p : ℕ) → record { number = 3; value = some slot } ≡ insertsSound floor ix hash key p .answer
+      pub present : {slot : ℕ} → soughtIn t hash key ≡ some slot → (p : ℕ)
+          → record { number = 3; value = some slot } ≡ insertsSound floor ix hash key p .answer
       unfolding insertsSound onChecked
       present s p = rw (e, f, s)
 
@@ -52,11 +53,13 @@ module _ (floor : ℕ) (ix : Index) (hash key : ℕ) where
         full z p = rw (e, f, s, ← v, eq-eqb x null z)
 
         module _ (d : x ≢ null) where
-          pub journal-full : eqb (lengthOf (ix .lines)) (linesOf (ix .lines)) ≡ true → (p : ℕ) → refused 6 ≡ insertsSound floor ix hash key p .answer
+          pub journal-full : eqb (lengthOf (ix .lines)) (linesOf (ix .lines)) ≡ true → (p : ℕ)
+              → refused 6 ≡ insertsSound floor ix hash key p .answer
           unfolding insertsSound onChecked lowestFrom
           journal-full l p = rw (e, f, s, ← v, ne-eqb x null d, l)
 
-          pub taken : eqb (lengthOf (ix .lines)) (linesOf (ix .lines)) ≡ false → (p : ℕ) → given x ≡ insertsSound floor ix hash key p .answer
+          pub taken : eqb (lengthOf (ix .lines)) (linesOf (ix .lines)) ≡ false → (p : ℕ)
+              → given x ≡ insertsSound floor ix hash key p .answer
           unfolding insertsSound onChecked lowestFrom
           taken l p = rw (e, f, s, ← v, ne-eqb x null d, l)
 
@@ -68,7 +71,8 @@ module _ (floor : ℕ) (ix : Index) (hash key : ℕ) where
     pub settled : Settled ix after (insertsSound floor ix hash key p)
     unfolding insertsSound onChecked
     settled =
-        go (fitsIndex ix) refl counts refl (soughtIn t hash key) refl (eqb (lowestFrom floor t) null) refl (eqb (lengthOf (ix .lines)) (linesOf (ix .lines))) refl
+        go (fitsIndex ix) refl counts refl (soughtIn t hash key) refl (eqb (lowestFrom floor t) null) refl
+        (eqb (lengthOf (ix .lines)) (linesOf (ix .lines))) refl
       where
         go : (a : Bool) → fitsIndex ix ≡ a → (b : Bool) → counts ≡ b → (v : Value) → soughtIn t hash key ≡ v
             → (d : Bool) → eqb (lowestFrom floor t) null ≡ d → (l : Bool) → eqb (lengthOf (ix .lines)) (linesOf (ix .lines)) ≡ l
@@ -80,7 +84,8 @@ module _ (floor : ℕ) (ix : Index) (hash key : ℕ) where
         go true e true f none s false q true r = refuses 5 none (rw (e, f, s, q, r))
         go true e true f none s false q false r = accepts (lowestFrom floor t) e f (rw (e, f, s, q, r))
 
-    pub joined : {x : ℕ} {u : Live} {l : List ℕ} → u ≡ grown t x null hash key p → l ≡ appended (ix .lines) (plainLine insertKind hash key p)
+    pub joined : {x : ℕ} {u : Live} {l : List ℕ} → u ≡ grown t x null hash key p
+        → l ≡ appended (ix .lines) (plainLine insertKind hash key p)
         → outcome (given x) (after x) ≡ insertsSound floor ix hash key p → outcome (given x) (index u l) ≡ insertsSound floor ix hash key p
     joined e1 e2 e = rw (e1, e2) e
 

@@ -33,11 +33,13 @@ module _ (ix : Index) (hash key : ℕ) where
       absent s leaving = rw (e, f, s)
 
       module _ {x : ℕ} (s : soughtIn t hash key ≡ some x) where
-        pub journal-full : eqb (lengthOf (ix .lines)) (linesOf (ix .lines)) ≡ true → (leaving : ℕ → Index) → refused 6 ≡ presentSound ix hash key leaving .answer
+        pub journal-full : eqb (lengthOf (ix .lines)) (linesOf (ix .lines)) ≡ true → (leaving : ℕ → Index)
+            → refused 6 ≡ presentSound ix hash key leaving .answer
         unfolding presentSound onChecked
         journal-full l leaving = rw (e, f, s, l)
 
-        pub there : eqb (lengthOf (ix .lines)) (linesOf (ix .lines)) ≡ false → (leaving : ℕ → Index) → given x ≡ presentSound ix hash key leaving .answer
+        pub there : eqb (lengthOf (ix .lines)) (linesOf (ix .lines)) ≡ false → (leaving : ℕ → Index)
+            → given x ≡ presentSound ix hash key leaving .answer
         unfolding presentSound onChecked
         there l leaving = rw (e, f, s, l)
 

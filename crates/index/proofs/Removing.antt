@@ -26,13 +26,16 @@ module _ (ix : Index) (hash key : ℕ) where
   settled = settled-by ix hash key (afterRemove ix hash key)
 
   -- The line where no slot stood before x, and where one did.
-  module _ {x p y : ℕ} {u : Live} {l : List ℕ} (e1 : p ≡ cell (ix .live .cells) x place) (e2 : y ≡ cell (ix .live .cells) x prev) (e3 : u ≡ shrunk (ix .live) x)
+  module _ {x p y : ℕ} {u : Live} {l : List ℕ} (e1 : p ≡ cell (ix .live .cells) x place) (e2 : y ≡ cell (ix .live .cells) x prev)
+      (e3 : u ≡ shrunk (ix .live) x)
       (e : outcome (given x) (afterRemove ix hash key x) ≡ removesSound ix hash key) where
-    pub left-first : y ≡ null → l ≡ appended (ix .lines) (plainLine removeKind hash key p) → outcome (given x) (index u l) ≡ removesSound ix hash key
+    pub left-first : y ≡ null → l ≡ appended (ix .lines) (plainLine removeKind hash key p)
+        → outcome (given x) (index u l) ≡ removesSound ix hash key
     unfolding afterRemove removalOf
     left-first h f = rw (e3, f, e1) (rw (← e2, eq-eqb y null h) at e)
 
-    pub left-noted : {prehash prekey : ℕ} → prehash ≡ nameOf (ix .live .names) y hashPart → prekey ≡ nameOf (ix .live .names) y keyPart → y ≢ null
+    pub left-noted : {prehash prekey : ℕ} → prehash ≡ nameOf (ix .live .names) y hashPart
+        → prekey ≡ nameOf (ix .live .names) y keyPart → y ≢ null
         → l ≡ appended (ix .lines) (notedLine hash key p prehash prekey) → outcome (given x) (index u l) ≡ removesSound ix hash key
     unfolding afterRemove removalOf
     left-noted g k d f = rw (e3, f, e1, g, k) (rw (← e2, ne-eqb y null d) at e)

@@ -24,8 +24,10 @@ module _ (ix : Index) (hash key p : ℕ) where
   unfolding replacesSound
   settled = settled-by ix hash key (afterReplace ix hash key p)
 
-  pub moved : {x old w : ℕ} {c l : List ℕ} → old ≡ cell (ix .live .cells) x place → c ≡ write (ix .live .cells) x place p → w ≡ bothPlaces p old
-      → l ≡ appended (ix .lines) (plainLine replaceKind hash key w) → outcome (given x) (afterReplace ix hash key p x) ≡ replacesSound ix hash key p
+  pub moved : {x old w : ℕ} {c l : List ℕ} → old ≡ cell (ix .live .cells) x place → c ≡ write (ix .live .cells) x place p
+      → w ≡ bothPlaces p old
+      → l ≡ appended (ix .lines) (plainLine replaceKind hash key w)
+      → outcome (given x) (afterReplace ix hash key p x) ≡ replacesSound ix hash key p
       → outcome (given x) (index (lentTree (ix .live .names) c (ix .live .head) (ix .live .sizes)) l) ≡ replacesSound ix hash key p
   unfolding afterReplace placedAt
   moved e1 e2 e3 e4 e = rw (e2, e4, e3, e1) e

@@ -45,13 +45,15 @@ module _ (ix : Index) (m : ℕ) where
   -- The case that the tests come to: a refusal, which writes nothing, or the lines are looked at.
   data Case : Type 0 where
     refuses : (n : ℕ) → opened ix m ≡ refused (suc n) → rollsSound ix m ≡ outcome (refused (suc n)) ix → Case
-    opens : fitsIndex ix ≡ true → leb (countOf (ix .live)) mostSlots ≡ true → m ≤ lengthOf (ix .lines) → opened ix m ≡ given (lengthOf (ix .lines) - m) → Case
+    opens : fitsIndex ix ≡ true → leb (countOf (ix .live)) mostSlots ≡ true → m ≤ lengthOf (ix .lines)
+        → opened ix m ≡ given (lengthOf (ix .lines) - m) → Case
 
   case : Case
   unfolding opened rollsSound onChecked
   case = go (fitsIndex ix) refl (leb (countOf (ix .live)) mostSlots) refl (ltb (lengthOf (ix .lines)) m) refl
     where
-      go : (a : Bool) → fitsIndex ix ≡ a → (b : Bool) → leb (countOf (ix .live)) mostSlots ≡ b → (l : Bool) → ltb (lengthOf (ix .lines)) m ≡ l → Case
+      go : (a : Bool) → fitsIndex ix ≡ a → (b : Bool) → leb (countOf (ix .live)) mostSlots ≡ b → (l : Bool)
+          → ltb (lengthOf (ix .lines)) m ≡ l → Case
       go false e b f l r = refuses 0 (rw e) (rw e)
       go true e false f l r = refuses 1 (rw (e, f)) (rw (e, f))
       go true e true f true r = refuses 6 (rw (e, f, r)) (rw (e, f, r))
@@ -97,7 +99,8 @@ module _ {ix : Index} {m count : ℕ} (o : Open ix m count) where
   pub count-room : countOf (ix .live) + count < null
   count-room = omega (arith, leb-true (countOf (ix .live)) mostSlots (o .counts), fit .most, fit .within, o .lines)
 
-  pub misfits : {u : Live} → misfit ≡ unrolledFrom count 0 (ix .live) (ix .lines) m → u ≡ ix .live → outcome (refused 8) (index u (ix .lines)) ≡ rollsSound ix m
+  pub misfits : {u : Live} → misfit ≡ unrolledFrom count 0 (ix .live) (ix .lines) m → u ≡ ix .live
+      → outcome (refused 8) (index u (ix .lines)) ≡ rollsSound ix m
   unfolding rollsSound onChecked
   misfits h g =
       let s : unrolledFrom (lengthOf (ix .lines) - m) 0 (ix .live) (ix .lines) m ≡ misfit = rw (← o .lines) (sym h) in

@@ -1,5 +1,5 @@
--- A single call is the two tests and then the call where they have said yes: a refusal of the tests is the call's, and past them the call comes
--- to what it comes to without them.
+-- A single call is the two tests and then the call where they have said yes: a refusal of the tests is the call's, and past them the call
+-- comes to what it comes to without them.
 use mathlib.Core.Path.{_≡_, _∙_}
 use mathlib.Core.Bool.{true, false}
 use Prim.Native.Nat.{ℕ}

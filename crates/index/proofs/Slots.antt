@@ -13,7 +13,8 @@ use Rattle.index_rules.specs.Live.{Live, lentTree}
 use Rattle.index_rules.specs.Sound.{used, isCleared, slotFine, slotsFine, freeFine, freesFine}
 use Rattle.index.specs.Sound.{slotRule, slotRules}
 
-pub any-head : (names cells a b r s : List ℕ) (k n : ℕ) → slotsFine k n (lentTree names cells a r) ≡ slotsFine k n (lentTree names cells b s)
+pub any-head : (names cells a b r s : List ℕ) (k n : ℕ)
+    → slotsFine k n (lentTree names cells a r) ≡ slotsFine k n (lentTree names cells b s)
 unfolding slotsFine slotFine isCleared
 any-head names cells a b r s zero n = refl
 any-head names cells a b r s (suc k) n = rw (any-head names cells a b r s k n)

@@ -50,7 +50,8 @@ module _ (t : Live) (j : JournalLine) (x y : ℕ) where
       pub put-wide : 4294967296 ≤ j .place → misfit ≡ putBack t x (soughtIn t (j .hash) (j .key)) j y
       put-wide h = rw (s, ne-eqb x null v, le-ltb (j .place) 4294967296 h)
 
-      pub put-done : {u : Live} → j .place < 4294967296 → u ≡ grown t x y (j .hash) (j .key) (j .place) → stays u ≡ putBack t x (soughtIn t (j .hash) (j .key)) j y
+      pub put-done : {u : Live} → j .place < 4294967296 → u ≡ grown t x y (j .hash) (j .key) (j .place)
+          → stays u ≡ putBack t x (soughtIn t (j .hash) (j .key)) j y
       put-done h g = rw (s, ne-eqb x null v, lt-ltb (j .place) 4294967296 h, ← g)
 
 -- A remove line that notes a pair: it is not there, or it is.
@@ -58,7 +59,8 @@ module _ (t : Live) (x prehash prekey : ℕ) (own : Value) (j : JournalLine) whe
   pub behind-none : soughtIn t prehash prekey ≡ none → misfit ≡ putBehind t x (soughtIn t prehash prekey) own j
   behind-none s = rw s
 
-  pub behind-some : {y : ℕ} → soughtIn t prehash prekey ≡ some y → {o : Undo} → o ≡ putBack t x own j y → o ≡ putBehind t x (soughtIn t prehash prekey) own j
+  pub behind-some : {y : ℕ} → soughtIn t prehash prekey ≡ some y → {o : Undo} → o ≡ putBack t x own j y
+      → o ≡ putBehind t x (soughtIn t prehash prekey) own j
   behind-some s e = rw s e
 
 -- A replace line: its pair is not there, has another place than the new one, or has the old one again.
@@ -83,16 +85,22 @@ module _ (t : Live) (lines : List ℕ) (k x : ℕ) {kind hash key p : ℕ}
   line-insert h e = rw (← e1, ← e2, ← e3, ← e4, eq-eqb kind 1 h) e
 
   pub line-remove : kind ≢ 1 → kind ≡ 2 → {o : Undo}
-      → ((kind prehash prekey : ℕ) → o ≡ putBack t x (soughtIn t hash key) (lineMade kind hash key p prehash prekey) null) → o ≡ undoneInto x t (lineOf lines k)
+      → ((kind prehash prekey : ℕ) → o ≡ putBack t x (soughtIn t hash key) (lineMade kind hash key p prehash prekey) null)
+      → o ≡ undoneInto x t (lineOf lines k)
   unfolding undoneInto
-  line-remove n h e = let f = e kind (lineWord lines k 4) (lineWord lines k 5) in rw (← e1, ← e2, ← e3, ← e4, ne-eqb kind 1 n, eq-eqb kind 2 h) f
+  line-remove n h e =
+      let f = e kind (lineWord lines k 4) (lineWord lines k 5) in rw (← e1, ← e2, ← e3, ← e4, ne-eqb kind 1 n, eq-eqb kind 2 h) f
 
-  pub line-noted : kind ≢ 1 → kind ≢ 2 → kind ≡ 4294967298 → {prehash prekey : ℕ} → prehash ≡ lineWord lines k 4 → prekey ≡ lineWord lines k 5 → {o : Undo}
-      → ((kind : ℕ) → o ≡ putBehind t x (soughtIn t prehash prekey) (soughtIn t hash key) (lineMade kind hash key p prehash prekey)) → o ≡ undoneInto x t (lineOf lines k)
+  pub line-noted : kind ≢ 1 → kind ≢ 2 → kind ≡ 4294967298 → {prehash prekey : ℕ} → prehash ≡ lineWord lines k 4
+      → prekey ≡ lineWord lines k 5 → {o : Undo}
+      → ((kind : ℕ) → o ≡ putBehind t x (soughtIn t prehash prekey) (soughtIn t hash key) (lineMade kind hash key p prehash prekey))
+      → o ≡ undoneInto x t (lineOf lines k)
   unfolding undoneInto
-  line-noted n m h e5 e6 e = let f = e kind in rw (← e1, ← e2, ← e3, ← e4, ← e5, ← e6, ne-eqb kind 1 n, ne-eqb kind 2 m, eq-eqb kind 4294967298 h) f
+  line-noted n m h e5 e6 e =
+      let f = e kind in rw (← e1, ← e2, ← e3, ← e4, ← e5, ← e6, ne-eqb kind 1 n, ne-eqb kind 2 m, eq-eqb kind 4294967298 h) f
 
-  pub line-replace : kind ≢ 1 → kind ≢ 2 → kind ≢ 4294967298 → kind ≡ 3 → {o : Undo} → o ≡ placedBack t (soughtIn t hash key) p → o ≡ undoneInto x t (lineOf lines k)
+  pub line-replace : kind ≢ 1 → kind ≢ 2 → kind ≢ 4294967298 → kind ≡ 3 → {o : Undo} → o ≡ placedBack t (soughtIn t hash key) p
+      → o ≡ undoneInto x t (lineOf lines k)
   unfolding undoneInto
   line-replace n m d h e = rw (← e1, ← e2, ← e3, ← e4, ne-eqb kind 1 n, ne-eqb kind 2 m, ne-eqb kind 4294967298 d, eq-eqb kind 3 h) e
 
@@ -101,7 +109,8 @@ module _ (t : Live) (lines : List ℕ) (k x : ℕ) {kind hash key p : ℕ}
   line-other n m d h = rw (← e1, ne-eqb kind 1 n, ne-eqb kind 2 m, ne-eqb kind 4294967298 d, ne-eqb kind 3 h)
 
 -- The slot that a line's undoing frees.
-module _ (t : Live) (lines : List ℕ) (k : ℕ) {kind hash key : ℕ} (e1 : kind ≡ lineWord lines k 0) (e2 : hash ≡ lineWord lines k 1) (e3 : key ≡ lineWord lines k 2)
+module _ (t : Live) (lines : List ℕ) (k : ℕ) {kind hash key : ℕ} (e1 : kind ≡ lineWord lines k 0) (e2 : hash ≡ lineWord lines k 1)
+    (e3 : key ≡ lineWord lines k 2)
     (r : Undoing) where
   pub frees-own : kind ≡ 1 → freedIs r (slotIn (soughtIn t hash key)) → freedIs r (freedBy t (lineOf lines k))
   unfolding freedBy
@@ -149,7 +158,8 @@ module _ (t u : Live) (l : countOf t < null) where
   put-count x (some own) j y e = absurd (not-stays e)
   put-count x none j y e = go (eqb x null) (ltb (j .place) 4294967296) e
     where
-      go : (a b : Bool) → pick a misfit (pick b (stays (grown t x y (j .hash) (j .key) (j .place))) misfit) ≡ stays u → countOf u ≤ countOf t + 1
+      go : (a b : Bool) → pick a misfit (pick b (stays (grown t x y (j .hash) (j .key) (j .place))) misfit) ≡ stays u
+          → countOf u ≤ countOf t + 1
       go true b e = absurd (not-stays e)
       go false true e = omega (arith, same-count (countOf t + 1) e (grown-count x y (j .hash) (j .key) (j .place)))
       go false false e = absurd (not-stays e)
@@ -179,7 +189,8 @@ module _ (t u : Live) (l : countOf t < null) where
       noted = soughtIn t (j .priorHash) (j .priorKey)
 
       go : (a b c d : Bool)
-          → pick a (takenBack t own (j .place)) (pick b (putBack t x own j null) (pick c (putBehind t x noted own j) (pick d (placedBack t own (j .place)) misfit))) ≡ stays u
+          → pick a (takenBack t own (j .place))
+          (pick b (putBack t x own j null) (pick c (putBehind t x noted own j) (pick d (placedBack t own (j .place)) misfit))) ≡ stays u
           → countOf u ≤ countOf t + 1
       go true b c d e = back-count own (j .place) e
       go false true c d e = put-count x own j null e
@@ -247,7 +258,8 @@ pub turn-end : {t₀ : Live} {lines : List ℕ} {m count : ℕ} {t : Live} {floo
 turn-end {t₀} {lines} {m} {count} {t} {floor} {c} turn h = unroll-end lines m t floor c h ∙ turn .same
 
 -- A turn of a copy: one word more.
-pub copy-on : (src dst : List ℕ) (i : ℕ) → i < length src → i < length dst → take i dst ≡ take i src → take (i + 1) (set dst i (getD src i 0)) ≡ take (i + 1) src
+pub copy-on : (src dst : List ℕ) (i : ℕ) → i < length src → i < length dst → take i dst ≡ take i src
+    → take (i + 1) (set dst i (getD src i 0)) ≡ take (i + 1) src
 copy-on src dst i a b e =
     rw (add-one) (take-suc-set dst i (getD src i 0) b ∙ ap (λ (l : List ℕ). l ++ (getD src i 0 ∷ [])) e ∙ sym (take-suc src i 0 a))
 
@@ -288,5 +300,6 @@ head-back {h} g e f e1 e2 e3 e4 = e4 ∙ rw (e1, e2, e3) (go (to-three h e) (to-
     go : {h g : List ℕ} → Three h → Three g → headed g (getD h 0 null) (getD h 1 null) (getD h 2 null) ≡ h
     go (three a b c) (three x y z) = refl
 
-pub tree-back : {n c h s n′ c′ h′ s′ : List ℕ} → n ≡ n′ → c ≡ c′ → h ≡ h′ → s ≡ s′ → _≡_ {A = Live} (lentTree n c h s) (lentTree n′ c′ h′ s′)
+pub tree-back : {n c h s n′ c′ h′ s′ : List ℕ} → n ≡ n′ → c ≡ c′ → h ≡ h′ → s ≡ s′
+    → _≡_ {A = Live} (lentTree n c h s) (lentTree n′ c′ h′ s′)
 tree-back e1 e2 e3 e4 = rw (e1, e2, e3, e4)

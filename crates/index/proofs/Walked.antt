@@ -1,4 +1,5 @@
--- What one walk answers: T3 to T6 and T8 of the tree's slots, each by its own test, where the tree has a size and the header counts as many.
+-- What one walk answers: T3 to T6 and T8 of the tree's slots, each by its own test,
+-- where the tree has a size and the header counts as many.
 use mathlib.Core.Path.{_≡_, refl, sym}
 use mathlib.Core.Bool.{Bool, true, false}
 use Prim.Native.Nat.{ℕ, _-_}
@@ -17,7 +18,8 @@ counts count (some m) = eqb m count
 counts count none = false
 
 five : (n count : ℕ) (reach : Value) (rise hues even all : Bool)
-    → counts count (then (pick all (then reach (λ rest. pick rise (pick hues (pick even (some rest) none) none) none)) none) (λ rest. some (n - rest)))
+    → counts count
+    (then (pick all (then reach (λ rest. pick rise (pick hues (pick even (some rest) none) none) none)) none) (λ rest. some (n - rest)))
     ≡ pick (leaves n count reach) (pick rise (pick hues (pick even all false) false) false) false
 five n count none rise hues even true = refl
 five n count none rise hues even false = refl
@@ -62,7 +64,8 @@ module _ (t : Live) {root : ℕ} (r : root ≡ rootOf t) where
   by-count e c = rw (← e, ← c) at sized
 
 -- Four tests and what comes after them, one inside the other.
-inside : (a b c d rest : Bool) → pick a (pick b (pick c (pick d rest false) false) false) false ≡ pick (pick a (pick b (pick c d false) false) false) rest false
+inside : (a b c d rest : Bool)
+    → pick a (pick b (pick c (pick d rest false) false) false) false ≡ pick (pick a (pick b (pick c d false) false) false) rest false
 inside true true true d rest = refl
 inside true true false d rest = refl
 inside true false c d rest = refl
@@ -90,5 +93,8 @@ unfolding sound rule8
 in-four t =
     let w = allSized (slotsOf (t .names)) (t .cells) (t .sizes) (rootOf t) in
     let f = freesFine (slotsOf (t .names)) t in
-    rw (inside (rule3 t) (rule4 t) (rule5 t) (rule6 t) (pick (rule7 t) (pick w f false) false), inside (rule3 t) (rule4 t) (rule5 t) (rule6 t) w)
+    rw (
+      inside (rule3 t) (rule4 t) (rule5 t) (rule6 t) (pick (rule7 t) (pick w f false) false),
+      inside (rule3 t) (rule4 t) (rule5 t) (rule6 t) w,
+    )
     (halves (rule1 t) (rule2 t) (pick (rule3 t) (pick (rule4 t) (pick (rule5 t) (rule6 t) false) false) false) (rule7 t) w f)

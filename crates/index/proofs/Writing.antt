@@ -26,14 +26,22 @@ module _ (lines : List ℕ) (k kind hash key place prehash prekey : ℕ) where
   pub no-line : length lines ≤ k → lines ≡ lined lines k made
   unfolding lined
   no-line h =
-      rw (set-out lines (1 + 6 * k + 0) kind (omega arith), set-out lines (1 + 6 * k + 1) hash (omega arith), set-out lines (1 + 6 * k + 2) key (omega arith), set-out lines (1 + 6 * k + 3) place (omega arith), set-out lines (1 + 6 * k + 4) prehash (omega arith), set-out lines (1 + 6 * k + 5) prekey (omega arith))
+      rw (
+        set-out lines (1 + 6 * k + 0) kind (omega arith),
+        set-out lines (1 + 6 * k + 1) hash (omega arith),
+        set-out lines (1 + 6 * k + 2) key (omega arith),
+        set-out lines (1 + 6 * k + 3) place (omega arith),
+        set-out lines (1 + 6 * k + 4) prehash (omega arith),
+        set-out lines (1 + 6 * k + 5) prekey (omega arith),
+      )
 
 -- The length passes 1,024, does not.
 module _ (lines : List ℕ) (j : JournalLine) where
   pub no-append : {n : ℕ} → n ≡ lengthOf lines → 1024 < n → lines ≡ appendedIf lines j
   no-append e h = let g = rw e at h in rw (lt-leb (lengthOf lines) 1024 g)
 
-  pub append : {n : ℕ} {l1 l2 : List ℕ} → n ≡ lengthOf lines → n ≤ 1024 → l1 ≡ lined lines n j → l2 ≡ set l1 0 (n + 1) → l2 ≡ appendedIf lines j
+  pub append : {n : ℕ} {l1 l2 : List ℕ} → n ≡ lengthOf lines → n ≤ 1024 → l1 ≡ lined lines n j → l2 ≡ set l1 0 (n + 1)
+      → l2 ≡ appendedIf lines j
   unfolding appended
   append {n} {l1} {l2} e1 h e2 e3 =
       let g = rw e1 at h in

@@ -1,5 +1,5 @@
--- Of insert, remove, replace and fresh beside their contracts: their answers are told apart by their numbers and values, and each entry point has
--- one outcome, the answer with all that is left in the lent slices.
+-- Of insert, remove, replace and fresh beside their contracts: their answers are told apart by their numbers and values, and each entry
+-- point has one outcome, the answer with all that is left in the lent slices.
 use mathlib.Core.Path.{_≡_}
 use mathlib.Core.List.{List}
 use Prim.Native.Nat.{ℕ}
@@ -36,7 +36,8 @@ outcomeOf f c =
 
 pub record Calling : Type 0 where
   pub inserted-one-to-one : (a b : Inserted) → insertedOf a ≡ insertedOf b → a ≡ b
-  pub insert-sound-one : (floor : ℕ) (ix : Index) (hash key p : ℕ) → OneAnswer (λ c. outcomeOf insertedOf c ≡ insertsSound floor ix hash key p)
+  pub insert-sound-one : (floor : ℕ) (ix : Index) (hash key p : ℕ)
+      → OneAnswer (λ c. outcomeOf insertedOf c ≡ insertsSound floor ix hash key p)
   pub insert-one : (ix : Index) (hash key p : ℕ) → OneAnswer (λ c. outcomeOf insertedOf c ≡ inserts ix hash key p)
   pub raise-one : (inserted : Inserted) (floor : ℕ) → OneAnswer (λ r. r ≡ raisedBy (insertedOf inserted) floor)
   pub lower-one : (removed : Removed) (floor : ℕ) → OneAnswer (λ r. r ≡ loweredBy (removedOf removed) floor)

@@ -4,13 +4,17 @@ use Rattle.slots.specs.Answers.{Answer, some, given, refused}
 use Rattle.index.specs.declared.fit_index.Fitness.{Fitness}
 use Rattle.index.specs.declared.fit_index.Fitness.the-variants.{Fit, Unfit}
 use Rattle.index.specs.declared.insert.Inserted.{Inserted}
-use Rattle.index.specs.declared.insert.Inserted.the-variants.{At as InsertAt, Unfit as InsertUnfit, Damaged as InsertDamaged, Present, Full, JournalFull as InsertJournalFull}
+use Rattle.index.specs.declared.insert.Inserted.the-variants.{At as InsertAt, Unfit as InsertUnfit, Damaged as InsertDamaged, Present}
+use Rattle.index.specs.declared.insert.Inserted.the-variants.{Full, JournalFull as InsertJournalFull}
 use Rattle.index.specs.declared.present.Presence.{Presence}
-use Rattle.index.specs.declared.present.Presence.the-variants.{At as PresentAt, Unfit as PresentUnfit, Damaged as PresentDamaged, Absent as PresentAbsent, JournalFull as PresentJournalFull}
+use Rattle.index.specs.declared.present.Presence.the-variants.{At as PresentAt, Unfit as PresentUnfit, Damaged as PresentDamaged}
+use Rattle.index.specs.declared.present.Presence.the-variants.{Absent as PresentAbsent, JournalFull as PresentJournalFull}
 use Rattle.index.specs.declared.remove.Removed.{Removed}
-use Rattle.index.specs.declared.remove.Removed.the-variants.{At as RemoveAt, Unfit as RemoveUnfit, Damaged as RemoveDamaged, Absent as RemoveAbsent, JournalFull as RemoveJournalFull}
+use Rattle.index.specs.declared.remove.Removed.the-variants.{At as RemoveAt, Unfit as RemoveUnfit, Damaged as RemoveDamaged}
+use Rattle.index.specs.declared.remove.Removed.the-variants.{Absent as RemoveAbsent, JournalFull as RemoveJournalFull}
 use Rattle.index.specs.declared.replace.Replaced.{Replaced}
-use Rattle.index.specs.declared.replace.Replaced.the-variants.{At as ReplaceAt, Unfit as ReplaceUnfit, Damaged as ReplaceDamaged, Absent as ReplaceAbsent, JournalFull as ReplaceJournalFull}
+use Rattle.index.specs.declared.replace.Replaced.the-variants.{At as ReplaceAt, Unfit as ReplaceUnfit, Damaged as ReplaceDamaged}
+use Rattle.index.specs.declared.replace.Replaced.the-variants.{Absent as ReplaceAbsent, JournalFull as ReplaceJournalFull}
 
 abbrev pub fitnessOf : Fitness → Bool
 fitnessOf Fit = true

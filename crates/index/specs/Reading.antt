@@ -1,4 +1,5 @@
--- Of the routines that only read beside their contracts: their answers are told apart by their numbers, and each public routine has one outcome.
+-- Of the routines that only read beside their contracts: their answers are told apart by their numbers,
+-- and each public routine has one outcome.
 use mathlib.Core.Path.{_≡_}
 use mathlib.Core.List.{List}
 use Prim.Native.Nat.{ℕ}

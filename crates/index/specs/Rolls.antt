@@ -24,7 +24,8 @@ rolledOf Misfit = refused 8
 unfoldable pub opened : Index → ℕ → Answer
 opened ix m =
     pick (fitsIndex ix)
-    (pick (leb (countOf (ix .live)) mostSlots) (pick (ltb (lengthOf (ix .lines)) m) (refused 7) (given (lengthOf (ix .lines) - m))) (refused 2))
+    (pick (leb (countOf (ix .live)) mostSlots)
+    (pick (ltb (lengthOf (ix .lines)) m) (refused 7) (given (lengthOf (ix .lines) - m))) (refused 2))
     (refused 1)
 
 -- What came of undoing, with the tree that is left: where a line does not fit, nothing is said of it.

@@ -1,5 +1,5 @@
--- A batch is the fold of the single calls: each call leaves a fit and sound index, so one check serves for all; the words that are written are
--- the answers' words one after another, and each accepted call has its line.
+-- A batch is the fold of the single calls: each call leaves a fit and sound index, so one check serves for all; the words that are written
+-- are the answers' words one after another, and each accepted call has its line.
 use mathlib.Core.Path.{_≡_, refl, ap, sym, _∙_, subst}
 use mathlib.Core.Logic.{_≢_, _⊎_, inl, inr}
 use mathlib.Core.Bool.{Bool, true, false, false≢true}
@@ -20,7 +20,8 @@ use Rattle.index_rules.specs.Insert.{inserts}
 use Rattle.index_rules.specs.Remove.{removes}
 use Rattle.index_rules.specs.Replace.{replaces}
 use Rattle.index_rules.specs.Calls.{Call, insertCall, removeCall, replaceCall, called, after, OneLine}
-use Rattle.index_rules.specs.Batch.{callWords, callWord, callsIn, Batched, batched, Says, FitCalls, singly, acceptedIn, answeredWith, callFits, allFit, callsFit, callAt, runs, batches}
+use Rattle.index_rules.specs.Batch.{callWords, callWord, callsIn, Batched, batched, Says, FitCalls, singly, acceptedIn, answeredWith}
+use Rattle.index_rules.specs.Batch.{callFits, allFit, callsFit, callAt, runs, batches}
 use Rattle.index_rules.specs.Batch.{end, insert, remove, replace}
 use Rattle.index_rules.specs.Claims.{Batches}
 use Rattle.index_rules.proofs.Fit.{both}
@@ -44,7 +45,8 @@ made-length (suc m) calls k = ap suc (made-length m calls (suc k))
 
 -- The tests settle what a call is, and a slice whose calls all pass says them.
 module _ (calls : List ℕ) where
-  pub at-insert : (k : ℕ) → callWord calls k 0 ≡ insertKind → callAt calls k ≡ insertCall (callWord calls k 1) (callWord calls k 2) (callWord calls k 3)
+  pub at-insert : (k : ℕ) → callWord calls k 0 ≡ insertKind
+      → callAt calls k ≡ insertCall (callWord calls k 1) (callWord calls k 2) (callWord calls k 3)
   unfolding callAt
   at-insert k e = rw (eq-eqb (callWord calls k 0) insertKind e)
 
@@ -52,13 +54,16 @@ module _ (calls : List ℕ) where
   unfolding callAt
   at-remove k e = rw (ne-eqb (callWord calls k 0) insertKind (omega arith), eq-eqb (callWord calls k 0) removeKind e)
 
-  at-replace : (k : ℕ) → callWord calls k 0 ≡ replaceKind → callAt calls k ≡ replaceCall (callWord calls k 1) (callWord calls k 2) (callWord calls k 3)
+  at-replace : (k : ℕ) → callWord calls k 0 ≡ replaceKind
+      → callAt calls k ≡ replaceCall (callWord calls k 1) (callWord calls k 2) (callWord calls k 3)
   unfolding callAt
   at-replace k e = rw (ne-eqb (callWord calls k 0) insertKind (omega arith), ne-eqb (callWord calls k 0) removeKind (omega arith))
 
   says-one : (k : ℕ) {cs : List Call} → callFits calls k ≡ true → Says calls (suc k) cs → Says calls k (callAt calls k ∷ cs)
   unfolding callFits
-  says-one k {cs} h rest = go (ℕ-discrete (callWord calls k 0) removeKind) (ℕ-discrete (callWord calls k 0) insertKind) (ℕ-discrete (callWord calls k 0) replaceKind)
+  says-one k {cs} h rest =
+      go (ℕ-discrete (callWord calls k 0) removeKind) (ℕ-discrete (callWord calls k 0) insertKind)
+      (ℕ-discrete (callWord calls k 0) replaceKind)
     where
       kind : ℕ
       kind = callWord calls k 0
@@ -70,22 +75,35 @@ module _ (calls : List ℕ) where
       go (yes a) b c = rw (at-remove k a) (remove a rest)
       go (no a) (yes b) c = rw (at-insert k b) (insert b (small a) rest)
       go (no a) (no b) (yes c) = rw (at-replace k c) (replace c (small a) rest)
-      go (no a) (no b) (no c) = absurd (false≢true (rw (ne-eqb kind removeKind a, ne-eqb kind insertKind b, ne-eqb kind replaceKind c) at h))
+      go (no a) (no b) (no c) =
+          absurd (false≢true (rw (ne-eqb kind removeKind a, ne-eqb kind insertKind b, ne-eqb kind replaceKind c) at h))
 
-  says-made : (m k : ℕ) → length calls ≡ callWords * (k + m) → ((i : ℕ) → i < k + m → callFits calls i ≡ true) → Says calls k (made m calls k)
+  says-made : (m k : ℕ) → length calls ≡ callWords * (k + m) → ((i : ℕ) → i < k + m → callFits calls i ≡ true)
+      → Says calls k (made m calls k)
   unfolding made
   says-made zero k e h = end {k = k} (omega arith)
   says-made (suc m) k e h = says-one k (h k (omega arith)) (says-made m (suc k) (omega arith) (λ i l. h i (omega arith)))
 
   -- And what it says passes.
-  one-fits : (k : ℕ) → (callWord calls k 0 ≡ removeKind) ⊎ (((callWord calls k 0 ≡ insertKind) ⊎ (callWord calls k 0 ≡ replaceKind)) × (callWord calls k 3 < 4294967296))
+  one-fits : (k : ℕ)
+      → (callWord calls k 0 ≡ removeKind)
+      ⊎ (((callWord calls k 0 ≡ insertKind) ⊎ (callWord calls k 0 ≡ replaceKind)) × (callWord calls k 3 < 4294967296))
       → callFits calls k ≡ true
   unfolding callFits
   one-fits k (inl e) = rw (eq-eqb (callWord calls k 0) removeKind e)
   one-fits k (inr (inl e, l)) =
-      rw (ne-eqb (callWord calls k 0) removeKind (omega arith), eq-eqb (callWord calls k 0) insertKind e, lt-ltb (callWord calls k 3) 4294967296 l)
+      rw (
+        ne-eqb (callWord calls k 0) removeKind (omega arith),
+        eq-eqb (callWord calls k 0) insertKind e,
+        lt-ltb (callWord calls k 3) 4294967296 l,
+      )
   one-fits k (inr (inr e, l)) =
-      rw (ne-eqb (callWord calls k 0) removeKind (omega arith), ne-eqb (callWord calls k 0) insertKind (omega arith), eq-eqb (callWord calls k 0) replaceKind e, lt-ltb (callWord calls k 3) 4294967296 l)
+      rw (
+        ne-eqb (callWord calls k 0) removeKind (omega arith),
+        ne-eqb (callWord calls k 0) insertKind (omega arith),
+        eq-eqb (callWord calls k 0) replaceKind e,
+        lt-ltb (callWord calls k 3) 4294967296 l,
+      )
 
   record Passes (k : ℕ) (cs : List Call) : Type 0 where
     long : length calls ≡ callWords * (k + length cs)
@@ -136,7 +154,8 @@ module _ (calls : List ℕ) where
         let b = both (leb (callsIn calls) (length answers)) _ (a .1) in
         record {
           made = made (callsIn calls) calls 0;
-          says = says-made (callsIn calls) 0 (omega (arith, eqb-true (length calls) (callWords * callsIn calls) (a .0))) (λ i l. all-pass (callsIn calls) (b .1) i (omega (arith, l)));
+          says = says-made (callsIn calls) 0 (omega (arith, eqb-true (length calls) (callWords * callsIn calls) (a .0)))
+              (λ i l. all-pass (callsIn calls) (b .1) i (omega (arith, l)));
           room = omega (arith, leb-true (callsIn calls) (length answers) (b .0), made-length (callsIn calls) calls 0);
         }
 
@@ -150,7 +169,8 @@ module _ (calls : List ℕ) where
         let p = passes (c .says) in
         let n = count-is c in
         and (eq-eqb (length calls) (callWords * callsIn calls) (omega (arith, p .long)))
-        (and (le-leb (callsIn calls) (length answers) (omega (arith, c .room))) (pass-all (callsIn calls) (λ i l. p .pass i (omega arith) (omega arith))))
+        (and (le-leb (callsIn calls) (length answers) (omega (arith, c .room)))
+        (pass-all (callsIn calls) (λ i l. p .pass i (omega arith) (omega arith))))
 
 -- The words written: those of the answers from k on, between what stood before and what stands behind.
 abbrev between : ℕ → List Answer → List ℕ → List ℕ
@@ -159,7 +179,8 @@ between k l answers = take k answers ++ (map answerWord l ++ drop (k + length l)
 module _ (calls : List ℕ) where
   runs-made : (m : ℕ) (ix : Index) (k : ℕ) (answers : List ℕ) (a : ℕ) → k + m ≤ length answers
       → runs m ix calls k answers a
-      ≡ batched (given (a + acceptedIn (singly (made m calls k) ix))) (after (made m calls k) ix) (between k (singly (made m calls k) ix) answers)
+      ≡ batched (given (a + acceptedIn (singly (made m calls k) ix))) (after (made m calls k) ix)
+      (between k (singly (made m calls k) ix) answers)
   unfolding runs made singly acceptedIn after
   runs-made zero ix k answers a l =
       let e : a + 0 ≡ a = omega arith in
@@ -184,9 +205,12 @@ module _ (calls : List ℕ) where
           (append-assoc (take k answers) (w ∷ []) (map answerWord rest ++ drop (k + suc (length rest)) answers))
 
       go : (b : Bool) → eqb (o .answer .number) 0 ≡ b
-          → ((b : ℕ) → runs m (o .left) calls (suc k) (set answers k w) b ≡ batched (given (b + acceptedIn rest)) (after (made m calls (suc k)) (o .left)) (between (suc k) rest (set answers k w)))
+          → ((b : ℕ)
+          → runs m (o .left) calls (suc k) (set answers k w) b
+          ≡ batched (given (b + acceptedIn rest)) (after (made m calls (suc k)) (o .left)) (between (suc k) rest (set answers k w)))
           → runs m (o .left) calls (suc k) (set answers k w) (pick b (a + 1) a)
-          ≡ batched (given (a + pick b (1 + acceptedIn rest) (acceptedIn rest))) (after (made m calls (suc k)) (o .left)) (take k answers ++ (w ∷ (map answerWord rest ++ drop (k + suc (length rest)) answers)))
+          ≡ batched (given (a + pick b (1 + acceptedIn rest) (acceptedIn rest))) (after (made m calls (suc k)) (o .left))
+          (take k answers ++ (w ∷ (map answerWord rest ++ drop (k + suc (length rest)) answers)))
       go true e again =
           let s : a + 1 + acceptedIn rest ≡ a + (1 + acceptedIn rest) = omega arith in
           rw (← words, ← s) (again (a + 1))
@@ -194,7 +218,8 @@ module _ (calls : List ℕ) where
 
 -- Each accepted call has its line, and a refused one leaves the journal.
 module _ {ix : Index} (o : Outcome) where
-  line-more : (o .answer .number ≢ 0 → o .left ≡ ix) → ((x : ℕ) → o .answer ≡ given x → lengthOf (o .left .lines) ≡ lengthOf (ix .lines) + 1)
+  line-more : (o .answer .number ≢ 0 → o .left ≡ ix)
+      → ((x : ℕ) → o .answer ≡ given x → lengthOf (o .left .lines) ≡ lengthOf (ix .lines) + 1)
       → (o .answer .number ≢ 0) ⊎ ((x : ℕ) × (o .answer ≡ given x)) → (n : ℕ)
       → lengthOf (o .left .lines) + n ≡ lengthOf (ix .lines) + pick (eqb (o .answer .number) 0) (1 + n) n
   line-more stays done (inl d) n = rw (ne-eqb (o .answer .number) 0 d, stays d)
@@ -223,13 +248,15 @@ unfolding callAt
 single-at calls k = go (eqb (callWord calls k 0) insertKind) (eqb (callWord calls k 0) removeKind)
   where
     go : (a b : Bool) → Single (pick a (insertCall (callWord calls k 1) (callWord calls k 2) (callWord calls k 3))
-        (pick b (removeCall (callWord calls k 1) (callWord calls k 2)) (replaceCall (callWord calls k 1) (callWord calls k 2) (callWord calls k 3))))
+        (pick b (removeCall (callWord calls k 1) (callWord calls k 2))
+        (replaceCall (callWord calls k 1) (callWord calls k 2) (callWord calls k 3))))
     go true b = inserting
     go false true = removing
     go false false = replacing
 
 pub call-line : (ix : Index) → Sound (ix .live) → (calls : List ℕ) (k : ℕ)
-    → lengthOf (called (callAt calls k) ix .left .lines) ≡ lengthOf (ix .lines) + pick (eqb (called (callAt calls k) ix .answer .number) 0) 1 0
+    → lengthOf (called (callAt calls k) ix .left .lines)
+    ≡ lengthOf (ix .lines) + pick (eqb (called (callAt calls k) ix .answer .number) 0) 1 0
 call-line ix h calls k = omega (arith, one-line-more ix h (single-at calls k) 0)
 
 single-says : {calls : List ℕ} {k : ℕ} {c : Call} {cs : List Call} → Says calls k (c ∷ cs) → Single c
@@ -248,7 +275,8 @@ unfolding after singly acceptedIn
 lines-more [] s ix fit h = omega arith
 lines-more (c ∷ cs) s ix fit h =
     let r = once-checked ix fit h .again c in
-    lines-more cs (later s) (called c ix .left) (r .0) (r .1) ∙ one-line-more ix h (single-says s) (acceptedIn (singly cs (called c ix .left)))
+    lines-more cs (later s) (called c ix .left) (r .0) (r .1)
+    ∙ one-line-more ix h (single-says s) (acceptedIn (singly cs (called c ix .left)))
 
 -- The tests before the calls settle the batch.
 module _ (ix : Index) (calls answers : List ℕ) where
@@ -260,21 +288,25 @@ module _ (ix : Index) (calls answers : List ℕ) where
   unfolding batches
   refuses-calls e f = rw (e, f)
 
-  refuses-two : fitsIndex ix ≡ true → callsFit calls answers ≡ true → sound (ix .live) ≡ false → batches ix calls answers ≡ batched (refused 2) ix answers
+  refuses-two : fitsIndex ix ≡ true → callsFit calls answers ≡ true → sound (ix .live) ≡ false
+      → batches ix calls answers ≡ batched (refused 2) ix answers
   unfolding batches
   refuses-two e f g = rw (e, f, g)
 
-  does : fitsIndex ix ≡ true → callsFit calls answers ≡ true → sound (ix .live) ≡ true → batches ix calls answers ≡ runs (callsIn calls) ix calls 0 answers 0
+  does : fitsIndex ix ≡ true → callsFit calls answers ≡ true → sound (ix .live) ≡ true
+      → batches ix calls answers ≡ runs (callsIn calls) ix calls 0 answers 0
   unfolding batches
   does e f g = rw (e, f, g)
 
   made-done : FitIndex ix → Sound (ix .live) → (c : FitCalls calls answers)
-      → batches ix calls answers ≡ batched (given (acceptedIn (singly (c .made) ix))) (after (c .made) ix) (answeredWith (singly (c .made) ix) answers)
+      → batches ix calls answers
+      ≡ batched (given (acceptedIn (singly (c .made) ix))) (after (c .made) ix) (answeredWith (singly (c .made) ix) answers)
   made-done fit h c =
       let p = passes calls (c .says) in
       let n = count-is calls answers c in
       let m : made (callsIn calls) calls 0 ≡ c .made = rw n (sym (p .are)) in
-      let plus : 0 + acceptedIn (singly (made (callsIn calls) calls 0) ix) ≡ acceptedIn (singly (made (callsIn calls) calls 0) ix) = omega arith in
+      let plus : 0 + acceptedIn (singly (made (callsIn calls) calls 0) ix) ≡ acceptedIn (singly (made (callsIn calls) calls 0) ix) =
+      omega arith in
       let none : 0 + length (singly (made (callsIn calls) calls 0) ix) ≡ length (singly (made (callsIn calls) calls 0) ix) = omega arith in
       does (index-fits ix fit) (calls-fit calls answers c) (sound-yes (fit .tree) h)
       ∙ rw (← m) (rw (plus, none) at (runs-made calls (callsIn calls) ix 0 answers 0 (omega (arith, c .room))))
@@ -282,7 +314,8 @@ module _ (ix : Index) (calls answers : List ℕ) where
   -- The case that the tests come to.
   data Came : Type 0 where
     unfit : ((FitIndex ix × FitCalls calls answers) → ⊥) → batches ix calls answers ≡ batched (refused 1) ix answers → Came
-    damaged : FitIndex ix × FitCalls calls answers → (Sound (ix .live) → ⊥) → batches ix calls answers ≡ batched (refused 2) ix answers → Came
+    damaged : FitIndex ix × FitCalls calls answers → (Sound (ix .live) → ⊥)
+        → batches ix calls answers ≡ batched (refused 2) ix answers → Came
     made-all : FitIndex ix × FitCalls calls answers → Sound (ix .live) → (n : ℕ) → batches ix calls answers .answer ≡ given n → Came
 
   came : Came
@@ -291,7 +324,8 @@ module _ (ix : Index) (calls answers : List ℕ) where
       go : (a : Bool) → fitsIndex ix ≡ a → (b : Bool) → callsFit calls answers ≡ b → (s : Bool) → sound (ix .live) ≡ s → Came
       go false e b f s g = unfit (λ p. false≢true (sym e ∙ index-fits ix (p .0))) (refuses-one e)
       go true e false f s g = unfit (λ p. false≢true (sym f ∙ calls-fit calls answers (p .1))) (refuses-calls e f)
-      go true e true f false g = let fit = fits-index ix e in damaged (fit, fit-calls calls answers f) (unsound (fit .tree) g) (refuses-two e f g)
+      go true e true f false g =
+          let fit = fits-index ix e in damaged (fit, fit-calls calls answers f) (unsound (fit .tree) g) (refuses-two e f g)
       go true e true f true g =
           let fit = fits-index ix e in
           let h = yes-sound (fit .tree) g in
@@ -330,7 +364,8 @@ module _ (ix : Index) (calls answers : List ℕ) where
       two-if r (damaged p m e) = answered e
       two-if r (made-all p h m e) = absurd (r .1 h)
 
-      nothing : Came → batches ix calls answers .answer .number ≢ 0 → batches ix calls answers ≡ batched (batches ix calls answers .answer) ix answers
+      nothing : Came → batches ix calls answers .answer .number ≢ 0
+          → batches ix calls answers ≡ batched (batches ix calls answers .answer) ix answers
       nothing (unfit m e) d = e ∙ ap (λ (a : Answer). batched a ix answers) (sym (answered e))
       nothing (damaged p m e) d = e ∙ ap (λ (a : Answer). batched a ix answers) (sym (answered e))
       nothing (made-all p h m e) d = absurd (d (number e))

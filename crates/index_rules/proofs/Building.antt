@@ -31,7 +31,8 @@ top-named : {n q : ℕ} {cells : List ℕ} {t : Tree} → Hangs n cells q t → 
 top-named hangsNone = inl refl
 top-named (hangsSome c a b) = inr (c .inside)
 
-pub hangs-links : {n q : ℕ} {cells : List ℕ} {t : Tree} (k : ℕ) → Named n q → Hangs n cells q t → 1 ≤ times k (slots t) → TreeLinks n cells k
+pub hangs-links : {n q : ℕ} {cells : List ℕ} {t : Tree} (k : ℕ) → Named n q → Hangs n cells q t → 1 ≤ times k (slots t)
+    → TreeLinks n cells k
 unfolding slots times
 hangs-links k m hangsNone z = absurd (omega arith)
 hangs-links {n} {q} {cells} k m (hangsSome {l = l} {i} {r} c a b) z =
@@ -79,7 +80,13 @@ module _ {t : Live} (fit : Fit t) (b : Built t) where
   links k l =
       member k l (LinksNamed (slotsOf (t .names)) (t .cells) k)
       (λ e. (let c = b .others k l e .1 in
-      record { parents = inl (c .parents); lefts = inl (c .lefts); rights = inl (c .rights); prevs = inl (c .prevs); nexts = inl (c .nexts) }))
+      record {
+        parents = inl (c .parents);
+        lefts = inl (c .lefts);
+        rights = inl (c .rights);
+        prevs = inl (c .prevs);
+        nexts = inl (c .nexts);
+      }))
       (λ y. (let h = hangs-links k (inl refl) (b .rooted .hangs) y in
       let c = chain-links k (inl refl) (b .linked) (omega (arith, b .same k l)) in
       record { parents = h .parents; lefts = h .lefts; rights = h .rights; prevs = c .0; nexts = c .1 }))
@@ -92,7 +99,8 @@ module _ {t : Live} (fit : Fit t) (b : Built t) where
   cleared : (k : ℕ) → k < slotsOf (t .names) → cell (t .cells) k state ≡ free → Cleared t k
   cleared k l z =
       member k l (Cleared t k) (λ e. b .others k l e .1)
-      (λ y. (let s = hangs-stand (slotsOf (t .names)) (t .cells) (b .rooted .hangs) y in absurd (hue-used (s .hue) (sym (s .words .hued) ∙ z))))
+      (λ y. (let s = hangs-stand (slotsOf (t .names)) (t .cells) (b .rooted .hangs) y in
+      absurd (hue-used (s .hue) (sym (s .words .hued) ∙ z))))
 
   tree-inside : (k : ℕ) → 1 ≤ times k (slots (b .tree)) → k < slotsOf (t .names)
   tree-inside k z = hangs-inside (slotsOf (t .names)) (t .cells) (b .rooted .hangs) z
@@ -102,13 +110,15 @@ module _ {t : Live} (fit : Fit t) (b : Built t) where
 
   chained-same : length (b .chain) ≡ length (slots (b .tree))
   chained-same =
-      exactly-length (slotsOf (t .names)) (b .chain) (λ k z. chain-inside (slotsOf (t .names)) (t .cells) (b .linked) z) (used (t .cells)) (λ k l. uses k l ∙ b .same k l)
+      exactly-length (slotsOf (t .names)) (b .chain) (λ k z. chain-inside (slotsOf (t .names)) (t .cells) (b .linked) z) (used (t .cells))
+      (λ k l. uses k l ∙ b .same k l)
       ∙ sym tallied
 
   root-null : (u : Tree) → {q : ℕ} → Hangs (slotsOf (t .names)) (t .cells) q u → (top u ≡ null) ↔ (length (slots u) ≡ 0)
   unfolding slots
   root-null leaf hangsNone = (λ e. refl, λ e. refl)
-  root-null (node c l i r) (hangsSome k x y) = (λ e. absurd (omega (arith, k .inside, small fit)), λ e. absurd (omega (arith, length-node c l i r)))
+  root-null (node c l i r) (hangsSome k x y) =
+      (λ e. absurd (omega (arith, k .inside, small fit)), λ e. absurd (omega (arith, length-node c l i r)))
 
   first-null : {q i : ℕ} {l : List ℕ} → Chain (slotsOf (t .names)) (t .cells) q i l → (i ≡ null) ↔ (length l ≡ 0)
   first-null (ended e) = (λ z. refl, λ z. e)
@@ -138,10 +148,13 @@ module _ {t : Live} (fit : Fit t) (b : Built t) where
       }
     where
       root-is : (rootOf t ≡ null) ↔ (countOf t ≡ 0)
-      root-is = let h = root-null (b .tree) (b .rooted .hangs) in (λ e. b .count ∙ h .0 (sym (b .rooted .from) ∙ e), λ e. b .rooted .from ∙ h .1 (sym (b .count) ∙ e))
+      root-is =
+          let h = root-null (b .tree) (b .rooted .hangs) in
+          (λ e. b .count ∙ h .0 (sym (b .rooted .from) ∙ e), λ e. b .rooted .from ∙ h .1 (sym (b .count) ∙ e))
 
       first-is : (firstOf t ≡ null) ↔ (countOf t ≡ 0)
-      first-is = let h = first-null (b .linked) in (λ e. b .count ∙ sym chained-same ∙ h .0 e, λ e. h .1 (chained-same ∙ sym (b .count) ∙ e))
+      first-is =
+          let h = first-null (b .linked) in (λ e. b .count ∙ sym chained-same ∙ h .0 e, λ e. h .1 (chained-same ∙ sym (b .count) ∙ e))
 
   -- Its tree and its chain are those it was built of.
   pub built-tree : built-sound .tree ≡ b .tree

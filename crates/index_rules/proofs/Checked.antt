@@ -18,13 +18,15 @@ use Rattle.tree_rules.specs.Tree.{Tree, slots, times}
 use Rattle.redblack.specs.Balance.{OneFewer}
 use Rattle.index_rules.specs.Live.{Live, Fit, countOf}
 use Rattle.index_rules.specs.Sound.{Sound, sound}
-use Rattle.index_rules.specs.Index.{Index, FitIndex, Outcome, fitsIndex, JournalLine, insertKind, removeKind, notedKind, replaceKind, lengthOf, linesOf, lineOf}
+use Rattle.index_rules.specs.Index.{Index, FitIndex, Outcome, fitsIndex, JournalLine, insertKind, removeKind, notedKind, replaceKind}
+use Rattle.index_rules.specs.Index.{lengthOf, linesOf, lineOf}
 use Rattle.index_rules.specs.Insert.{freeFrom, lowestFree, soughtIn, grown, inserts}
 use Rattle.index_rules.specs.Present.{wherePresent}
 use Rattle.index_rules.specs.Remove.{shrunk, removes, afterRemove}
 use Rattle.index_rules.specs.Replace.{placedAt, replaces, afterReplace}
 use Rattle.index_rules.specs.Rollback.{Undo, stays, misfit, undone, undoneInto, unrolled, rolls}
-use Rattle.index_rules.specs.Checked.{NoneBelow, lesser, raisedBy, loweredBy, floorAfter, lowestFrom, onChecked, insertsSound, presentSound, removesSound, replacesSound, slotIn, freedBy, unrolledFrom, rollsSound}
+use Rattle.index_rules.specs.Checked.{NoneBelow, lesser, raisedBy, loweredBy, floorAfter, lowestFrom, onChecked, insertsSound}
+use Rattle.index_rules.specs.Checked.{presentSound, removesSound, replacesSound, slotIn, freedBy, unrolledFrom, rollsSound}
 use Rattle.index_rules.specs.Calls.{Call, insertCall, removeCall, replaceCall, rollbackCall, called}
 use Rattle.index_rules.specs.Claims.{OnceChecked}
 use Rattle.tree_rules.proofs.Counting.{times-rest}
@@ -71,7 +73,8 @@ past-end {t} fit k l e = omega (arith, word-out fields null (t .cells) k state (
 
 -- A slot of the tree that stays one is not free.
 module _ {t u : Live} (fit : Fit u) (h : Sound t) (g : Sound u) (same : slotsOf (u .names) ≡ slotsOf (t .names)) where
-  still-used : (k : ℕ) → (1 ≤ times k (slots (h .tree)) → 1 ≤ times k (slots (g .tree))) → cell (t .cells) k state ≢ free → cell (u .cells) k state ≢ free
+  still-used : (k : ℕ) → (1 ≤ times k (slots (h .tree)) → 1 ≤ times k (slots (g .tree))) → cell (t .cells) k state ≢ free
+      → cell (u .cells) k state ≢ free
   still-used k keep d e = go (decLt k (slotsOf (u .names))) (decLe 1 (times k (slots (h .tree))))
     where
       go : Dec (k < slotsOf (u .names)) → Dec (1 ≤ times k (slots (h .tree))) → ⊥
@@ -79,7 +82,8 @@ module _ {t u : Live} (fit : Fit u) (h : Sound t) (g : Sound u) (same : slotsOf 
       go (yes l) (yes m) = omega (arith, keep m, free-nowhere g k l e)
       go (yes l) (no m) = d (nowhere-free h k (omega arith) (omega arith))
 
-  pub none-below : (f x : ℕ) → f ≤ x → ((k : ℕ) → k ≢ x → 1 ≤ times k (slots (h .tree)) → 1 ≤ times k (slots (g .tree))) → NoneBelow f t → NoneBelow f u
+  pub none-below : (f x : ℕ) → f ≤ x → ((k : ℕ) → k ≢ x → 1 ≤ times k (slots (h .tree)) → 1 ≤ times k (slots (g .tree))) → NoneBelow f t
+      → NoneBelow f u
   none-below f x l keep b k w = still-used k (keep k (omega arith)) (b k w)
 
 -- No slot below the lowest free one is free; and none at all where there is no free one.
@@ -117,7 +121,8 @@ module _ (lines : List ℕ) (m : ℕ) where
       e : lowestFrom f t ≡ lowestFree t
       e = lowest-from t f b
 
-      go : (o : Undo) → undone t j ≡ o → ((g : ℕ) (v : Live) → Fit v → Sound v → NoneBelow g v → unrolledFrom c g v lines m ≡ unrolled c v lines m)
+      go : (o : Undo) → undone t j ≡ o
+          → ((g : ℕ) (v : Live) → Fit v → Sound v → NoneBelow g v → unrolledFrom c g v lines m ≡ unrolled c v lines m)
           → unrolledFrom (suc c) f t lines m ≡ unrolled (suc c) t lines m
       go misfit q rest =
           let p : undoneInto (lowestFrom f t) t j ≡ misfit = rw e q in
@@ -128,7 +133,8 @@ module _ (lines : List ℕ) (m : ℕ) where
           let g = lesser (freedBy t j) (lowestFrom f t) in
           let l = lesser-most (freedBy t j) (lowestFrom f t) in
           let low : NoneBelow g t = λ k w. below-lowest fit k (omega (arith, l .1, e)) in
-          rw (p, q, unrolledFrom, unrolled) (rest g v (s .fit) (s .sound) (none-below (s .fit) h (s .sound) (s .capacity) g (freedBy t j) (l .0) (s .keeps) low))
+          rw (p, q, unrolledFrom, unrolled)
+          (rest g v (s .fit) (s .sound) (none-below (s .fit) h (s .sound) (s .capacity) g (freedBy t j) (l .0) (s .keeps) low))
 
 module _ (ix : Index) (fit : FitIndex ix) (h : Sound (ix .live)) where
   fits : fitsIndex ix ≡ true
@@ -165,7 +171,8 @@ module _ (ix : Index) (fit : FitIndex ix) (h : Sound (ix .live)) where
 
   rollback-same : (m : ℕ) → rollsSound ix m ≡ rolls ix m
   unfolding rollsSound onChecked rolls
-  rollback-same m = rw (fits, counts, sounds, unrolled-same (ix .lines) m (lengthOf (ix .lines) - m) 0 (fit .tree) h (λ k w. absurd (omega arith)))
+  rollback-same m =
+      rw (fits, counts, sounds, unrolled-same (ix .lines) m (lengthOf (ix .lines) - m) 0 (fit .tree) h (λ k w. absurd (omega arith)))
 
   -- What an outcome leaves that writes nothing where it is refused.
   stays-as : (P : Index → Type 0) (o : Outcome) → o .left ≡ ix → P ix → P (o .left)
@@ -177,10 +184,12 @@ module _ (ix : Index) (fit : FitIndex ix) (h : Sound (ix .live)) where
       let claim = insert-claims ix hash key p in
       let d = claim .done x q h in
       none-below (d .1 .tree) h (d .0) (d .6) x x (omega arith)
-      (λ k n z. in-tree (d .0) k (subst (λ (l : List ℕ). 1 ≤ times k l) (sym (d .4)) (omega (arith, times-rest k x (h .chain), in-chain h k z))))
+      (λ k n z. in-tree (d .0) k
+      (subst (λ (l : List ℕ). 1 ≤ times k l) (sym (d .4)) (omega (arith, times-rest k x (h .chain), in-chain h k z))))
       (claim .accepted x .0 q .1 .2 .lower)
 
-  raised : (f hash key p : ℕ) → NoneBelow f (ix .live) → NoneBelow (raisedBy (inserts ix hash key p .answer) f) (inserts ix hash key p .left .live)
+  raised : (f hash key p : ℕ) → NoneBelow f (ix .live)
+      → NoneBelow (raisedBy (inserts ix hash key p .answer) f) (inserts ix hash key p .left .live)
   unfolding raisedBy
   raised f hash key p b = go (insert-settled ix hash key p)
     where
@@ -188,7 +197,8 @@ module _ (ix : Index) (fit : FitIndex ix) (h : Sound (ix .live)) where
       a = inserts ix hash key p .answer
 
       kept : a .number ≢ 0 → (g : ℕ) → NoneBelow g (ix .live) → NoneBelow g (inserts ix hash key p .left .live)
-      kept n g w = stays-as (λ (jx : Index). NoneBelow g (jx .live)) (inserts ix hash key p) (insert-claims ix hash key p .nothing-written n) w
+      kept n g w =
+          stays-as (λ (jx : Index). NoneBelow g (jx .live)) (inserts ix hash key p) (insert-claims ix hash key p .nothing-written n) w
 
       full : a .number ≡ 5 → NoneBelow null (ix .live)
       full e = all-used (fit .tree) (insert-claims ix hash key p .five .0 (insert-plain ix hash key p e) .1 .2) null
@@ -197,11 +207,13 @@ module _ (ix : Index) (fit : FitIndex ix) (h : Sound (ix .live)) where
       refused-floor n (yes e) = rw (eq-eqb (a .number) 5 e) (kept n null (full e))
       refused-floor n (no d) = rw (ne-eqb (a .number) 5 d) (kept n f b)
 
-      go : (a .number ≢ 0) ⊎ ((x : ℕ) × (a ≡ given x)) → NoneBelow (pick (eqb (a .number) 0) (slotIn (a .value)) (pick (eqb (a .number) 5) null f)) (inserts ix hash key p .left .live)
+      go : (a .number ≢ 0) ⊎ ((x : ℕ) × (a ≡ given x))
+          → NoneBelow (pick (eqb (a .number) 0) (slotIn (a .value)) (pick (eqb (a .number) 5) null f)) (inserts ix hash key p .left .live)
       go (inl n) = rw (ne-eqb (a .number) 0 n) (refused-floor n (ℕ-discrete (a .number) 5))
       go (inr (x, q)) = rw (eq-eqb (a .number) 0 (number q), value q) (took hash key p x q)
 
-  lowered : (f hash key : ℕ) → NoneBelow f (ix .live) → NoneBelow (loweredBy (removes ix hash key .answer) f) (removes ix hash key .left .live)
+  lowered : (f hash key : ℕ) → NoneBelow f (ix .live)
+      → NoneBelow (loweredBy (removes ix hash key .answer) f) (removes ix hash key .left .live)
   unfolding loweredBy
   lowered f hash key b = go (remove-settled ix hash key)
     where
@@ -216,7 +228,8 @@ module _ (ix : Index) (fit : FitIndex ix) (h : Sound (ix .live)) where
           (λ k n z. in-tree (d .0) k (omega (arith, without-else k (d .4) n, in-chain h k z)))
           (λ k w. b k (omega (arith, l .1)))
 
-      go : (a .number ≢ 0) ⊎ ((x : ℕ) × (a ≡ given x)) → NoneBelow (pick (eqb (a .number) 0) (lesser (slotIn (a .value)) f) f) (removes ix hash key .left .live)
+      go : (a .number ≢ 0) ⊎ ((x : ℕ) × (a ≡ given x))
+          → NoneBelow (pick (eqb (a .number) 0) (lesser (slotIn (a .value)) f) f) (removes ix hash key .left .live)
       go (inl n) =
           rw (ne-eqb (a .number) 0 n)
           (stays-as (λ (jx : Index). NoneBelow f (jx .live)) (removes ix hash key) (remove-claims ix hash key .asks .nothing-written n) b)
@@ -225,8 +238,11 @@ module _ (ix : Index) (fit : FitIndex ix) (h : Sound (ix .live)) where
   level : (f hash key p : ℕ) → NoneBelow f (ix .live) → NoneBelow f (replaces ix hash key p .left .live)
   level f hash key p b = go (replace-settled ix hash key p)
     where
-      go : (replaces ix hash key p .answer .number ≢ 0) ⊎ ((x : ℕ) × (replaces ix hash key p .answer ≡ given x)) → NoneBelow f (replaces ix hash key p .left .live)
-      go (inl n) = stays-as (λ (jx : Index). NoneBelow f (jx .live)) (replaces ix hash key p) (replace-claims ix hash key p .asks .nothing-written n) b
+      go : (replaces ix hash key p .answer .number ≢ 0) ⊎ ((x : ℕ) × (replaces ix hash key p .answer ≡ given x))
+          → NoneBelow f (replaces ix hash key p .left .live)
+      go (inl n) =
+          stays-as (λ (jx : Index). NoneBelow f (jx .live)) (replaces ix hash key p)
+          (replace-claims ix hash key p .asks .nothing-written n) b
       go (inr r) =
           let d = replace-claims ix hash key p .done (r .0) (r .1) h in
           none-below (d .1 .tree) h (d .0) (d .7) f f (omega arith) (λ k n z. subst (λ (u : Tree). 1 ≤ times k (slots u)) (sym (d .4)) z) b
@@ -237,17 +253,20 @@ module _ (ix : Index) (fit : FitIndex ix) (h : Sound (ix .live)) where
   again : (c : Call) → Ready (called c ix .left)
   again (insertCall hash key p) = go (insert-settled ix hash key p)
     where
-      go : (inserts ix hash key p .answer .number ≢ 0) ⊎ ((x : ℕ) × (inserts ix hash key p .answer ≡ given x)) → Ready (inserts ix hash key p .left)
+      go : (inserts ix hash key p .answer .number ≢ 0) ⊎ ((x : ℕ) × (inserts ix hash key p .answer ≡ given x))
+          → Ready (inserts ix hash key p .left)
       go (inl n) = stays-as Ready (inserts ix hash key p) (insert-claims ix hash key p .nothing-written n) (fit, h)
       go (inr r) = let d = insert-claims ix hash key p .done (r .0) (r .1) h in (d .1, d .0)
   again (removeCall hash key) = go (remove-settled ix hash key)
     where
-      go : (removes ix hash key .answer .number ≢ 0) ⊎ ((x : ℕ) × (removes ix hash key .answer ≡ given x)) → Ready (removes ix hash key .left)
+      go : (removes ix hash key .answer .number ≢ 0) ⊎ ((x : ℕ) × (removes ix hash key .answer ≡ given x))
+          → Ready (removes ix hash key .left)
       go (inl n) = stays-as Ready (removes ix hash key) (remove-claims ix hash key .asks .nothing-written n) (fit, h)
       go (inr r) = let d = remove-claims ix hash key .done (r .0) (r .1) h in (d .1, d .0)
   again (replaceCall hash key p) = go (replace-settled ix hash key p)
     where
-      go : (replaces ix hash key p .answer .number ≢ 0) ⊎ ((x : ℕ) × (replaces ix hash key p .answer ≡ given x)) → Ready (replaces ix hash key p .left)
+      go : (replaces ix hash key p .answer .number ≢ 0) ⊎ ((x : ℕ) × (replaces ix hash key p .answer ≡ given x))
+          → Ready (replaces ix hash key p .left)
       go (inl n) = stays-as Ready (replaces ix hash key p) (replace-claims ix hash key p .asks .nothing-written n) (fit, h)
       go (inr r) = let d = replace-claims ix hash key p .done (r .0) (r .1) h in (d .1, d .0)
   again (rollbackCall m) = go (rollback-settled ix m)

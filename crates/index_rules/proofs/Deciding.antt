@@ -36,7 +36,9 @@ among names hash key (i ∷ l) = go (same-pair names hash key i) (among names ha
     go : Dec (pairOf names i ≡ pair hash key) → Dec (Among names hash key l) → Dec (Among names hash key (i ∷ l))
     go (yes e) d = yes (record { slot = i; stands = omega (arith, times-head i l); named = e })
     go (no n) (yes h) = yes (record { slot = h .slot; stands = omega (arith, h .stands, times-rest (h .slot) i l); named = h .named })
-    go (no n) (no m) = no (λ h. times-cases (h .slot) i l (h .stands) (λ e. n (rw e at (h .named))) (λ y. m (record { slot = h .slot; stands = y; named = h .named })))
+    go (no n) (no m) =
+        no (λ h. times-cases (h .slot) i l (h .stands) (λ e. n (rw e at (h .named)))
+        (λ y. m (record { slot = h .slot; stands = y; named = h .named })))
 
 -- What the search says of a sound tree.
 pub data Seen {t : Live} (h : Sound t) (hash key : ℕ) : Type 0 where
@@ -48,7 +50,8 @@ unfolding soughtIn
 seen {t} fit h hash key = go (among (t .names) hash key (slots (h .tree)))
   where
     go : Dec (Among (t .names) hash key (slots (h .tree))) → Seen h hash key
-    go (yes a) = there (a .slot) (a .stands) (a .named) (ap (λ (r : Answer). r .value) (found-at fit h hash key (a .slot) (a .stands) (a .named)))
+    go (yes a) =
+        there (a .slot) (a .stands) (a .named) (ap (λ (r : Answer). r .value) (found-at fit h hash key (a .slot) (a .stands) (a .named)))
     go (no n) =
         let m : Has (t .names) (h .tree) hash key → ⊥ = λ a. n (record { slot = a .slot; stands = a .stands; named = a .named }) in
         absent m (ap (λ (r : Answer). r .value) (found-none fit h hash key m))

@@ -1,5 +1,6 @@
 -- Demand 3: after any calls the lines from the mark up fit, and undoing them leaves the listing of the mark.
--- An accepted insert, remove or replace appends a line that takes it back, a rollback undoes the last of them, and a refused call changes nothing.
+-- An accepted insert, remove or replace appends a line that takes it back, a rollback undoes the last of them,
+-- and a refused call changes nothing.
 use mathlib.Core.Path.{_≡_, refl, sym, _∙_, subst}
 use mathlib.Core.Logic.{_≢_, _⊎_, inl, inr}
 use mathlib.Core.List.{List, [], _∷_}
@@ -22,10 +23,12 @@ use Rattle.index_rules.specs.Replace.{replaces}
 use Rattle.index_rules.specs.Rollback.{rolls}
 use Rattle.index_rules.specs.Contents.{Entry, entry, entryOf, contents, listing, without, In}
 use Rattle.index_rules.specs.Undoing.{UndoneTo, Undoes, back, down}
-use Rattle.index_rules.specs.Calls.{Call, insertCall, removeCall, replaceCall, rollbackCall, after, Allowed, nothing, inserting, removing, replacing, rolling, Places, OneLine}
+use Rattle.index_rules.specs.Calls.{Call, insertCall, removeCall, replaceCall, rollbackCall, after, Allowed, nothing, inserting}
+use Rattle.index_rules.specs.Calls.{removing, replacing, rolling, Places, OneLine}
 use Rattle.index_rules.specs.Claims.{Demand3}
 use Rattle.index_rules.proofs.Listing.{ascends-map, ascends-same, length-without, first-all, without-in, with-all}
-use Rattle.index_rules.proofs.Undoing.{undoes-one, undoes-cut, undoes-frame, undoes-places, insert-undone, remove-undone, replace-undone}
+use Rattle.index_rules.proofs.Undoing.{undoes-one, undoes-cut, undoes-frame, undoes-places, insert-undone, remove-undone}
+use Rattle.index_rules.proofs.Undoing.{replace-undone}
 use Rattle.index_rules.proofs.Journal.{same-line}
 use Rattle.index_rules.proofs.Lists.{stands-listed, listing-distinct}
 use Rattle.index_rules.proofs.Unrolling.{tree-one, listing-most}
@@ -60,12 +63,14 @@ module _ (ix : Index) (h : Sound (ix .live)) where
     places : Places (listing sound)
 
   -- A line appended that takes the change back.
-  line-good : {jx kx : Index} (j : JournalLine) (g : Good jx) (s : Sound (kx .live)) → FitIndex kx → slotsOf (kx .live .names) ≡ slotsOf (jx .live .names)
+  line-good : {jx kx : Index} (j : JournalLine) (g : Good jx) (s : Sound (kx .live)) → FitIndex kx
+      → slotsOf (kx .live .names) ≡ slotsOf (jx .live .names)
       → OneLine (jx .lines) (kx .lines) j → UndoneTo slotCount j (listing s) (listing (g .sound)) → Places (listing s) → Good kx
   line-good {jx} {kx} j g s fit cap o undone words =
       let k = lengthOf (jx .lines) in
       let older : Undoes slotCount (kx .lines) mark k (listing (g .sound)) (listing h) =
-      undoes-frame (kx .lines) (λ i a b. same-line (jx .lines) (kx .lines) i (λ w l m. o .below w (omega arith) (omega arith))) (g .undoes) in
+      undoes-frame (kx .lines)
+      (λ i a b. same-line (jx .lines) (kx .lines) i (λ w l m. o .below w (omega arith) (omega arith))) (g .undoes) in
       let all : Undoes slotCount (kx .lines) mark (suc k) (listing s) (listing h) =
       down (g .above) (subst (λ (i : JournalLine). UndoneTo slotCount i (listing s) (listing (g .sound))) (sym (o .line)) undone) older in
       let len : lengthOf (kx .lines) ≡ suc k = o .count ∙ add-one k in
@@ -79,11 +84,13 @@ module _ (ix : Index) (h : Sound (ix .live)) where
         places = words;
       }
 
-  insert-good : (jx : Index) (hash key p : ℕ) → p < 4294967296 → Good jx → (x : ℕ) → inserts jx hash key p .answer ≡ given x → Good (inserts jx hash key p .left)
+  insert-good : (jx : Index) (hash key p : ℕ) → p < 4294967296 → Good jx → (x : ℕ) → inserts jx hash key p .answer ≡ given x
+      → Good (inserts jx hash key p .left)
   insert-good jx hash key p small g x q =
       let d = insert-claims jx hash key p .done x q (g .sound) in
       line-good _ g (d .0) (d .1) (d .6) (d .5) (rw (d .3) (insert-undone slotCount (entry hash key p) (listing (g .sound))))
-      (subst (λ (l : List Entry). Places l) (sym (d .3)) (first-all (λ (e : Entry). e .at < 4294967296) (entry hash key p) (listing (g .sound)) small (g .places)))
+      (subst (λ (l : List Entry). Places l) (sym (d .3))
+      (first-all (λ (e : Entry). e .at < 4294967296) (entry hash key p) (listing (g .sound)) small (g .places)))
 
   -- The entry of a slot that a call found.
   was-listed : (jx : Index) (g : Good jx) (r : Sound (jx .live)) (hash key x : ℕ) → Stands x (r .tree)
@@ -91,7 +98,8 @@ module _ (ix : Index) (h : Sound (ix .live)) where
       → In (entry hash key (cell (jx .live .cells) x place)) (listing (g .sound))
   was-listed jx g r hash key x z n =
       let stands : Stands x (g .sound .tree) = subst (λ (u : Tree). Stands x u) (tree-one (g .fit .tree) r (g .sound)) z in
-      let is : entryOf (jx .live) x ≡ entry hash key (cell (jx .live .cells) x place) = λ i. entry (n i .hash) (n i .key) (cell (jx .live .cells) x place) in
+      let is : entryOf (jx .live) x ≡ entry hash key (cell (jx .live .cells) x place) =
+      λ i. entry (n i .hash) (n i .key) (cell (jx .live .cells) x place) in
       subst (λ (e : Entry). In e (listing (g .sound))) is (stands-listed (g .sound) x stands)
 
   remove-good : (jx : Index) (hash key : ℕ) → Good jx → (x : ℕ) → removes jx hash key .answer ≡ given x → Good (removes jx hash key .left)
@@ -107,7 +115,8 @@ module _ (ix : Index) (h : Sound (ix .live)) where
       line-good (d .5 .0) g (d .0) (d .1) (d .6) (d .5 .2) (rw (d .3) (remove-undone distinct (d .5 .1) room (g .places e was)))
       (subst (λ (l : List Entry). Places l) (sym (d .3)) (λ y i. g .places y (without-in hash key (listing (g .sound)) y i)))
 
-  replace-good : (jx : Index) (hash key p : ℕ) → p < 4294967296 → Good jx → (x : ℕ) → replaces jx hash key p .answer ≡ given x → Good (replaces jx hash key p .left)
+  replace-good : (jx : Index) (hash key p : ℕ) → p < 4294967296 → Good jx → (x : ℕ) → replaces jx hash key p .answer ≡ given x
+      → Good (replaces jx hash key p .left)
   replace-good jx hash key p small g x q =
       let claim = replace-claims jx hash key p in
       let r = claim .asks .accepted x .0 q in
@@ -115,8 +124,10 @@ module _ (ix : Index) (h : Sound (ix .live)) where
       let e = entry hash key (cell (jx .live .cells) x place) in
       let was = was-listed jx g (r .1 .0) hash key x (r .1 .1) (r .1 .2) in
       let distinct = listing-distinct (g .sound) (g .fit .tree) in
-      line-good _ g (d .0) (d .1) (d .7) (d .6) (rw (d .3) (replace-undone slotCount e p (listing (g .sound)) distinct was small (g .places e was)))
-      (subst (λ (l : List Entry). Places l) (sym (d .3)) (with-all (λ (e : Entry). e .at < 4294967296) hash key p (listing (g .sound)) small (g .places)))
+      line-good _ g (d .0) (d .1) (d .7) (d .6)
+      (rw (d .3) (replace-undone slotCount e p (listing (g .sound)) distinct was small (g .places e was)))
+      (subst (λ (l : List Entry). Places l) (sym (d .3))
+      (with-all (λ (e : Entry). e .at < 4294967296) hash key p (listing (g .sound)) small (g .places)))
 
   -- A rollback to a mark above: the lines above it are undone, and the rest still fit.
   rollback-good : (jx : Index) (m : ℕ) → mark ≤ m → Good jx → (c : ℕ) → rolls jx m .answer ≡ given c → Good (rolls jx m .left)
@@ -131,7 +142,8 @@ module _ (ix : Index) (h : Sound (ix .live)) where
       let same : cut .0 ≡ listing s = undoes-one (cut .1) here in
       let lines′ = rolls jx m .left .lines in
       let rest : Undoes slotCount lines′ mark m (listing s) (listing h) =
-      undoes-frame lines′ (λ i a l. same-line (jx .lines) lines′ i (λ w c e. b .below w (omega arith) (omega arith))) (subst (λ (l : List Entry). Undoes slotCount (jx .lines) mark m l (listing h)) same (cut .2)) in
+      undoes-frame lines′ (λ i a l. same-line (jx .lines) lines′ i (λ w c e. b .below w (omega arith) (omega arith)))
+      (subst (λ (l : List Entry). Undoes slotCount (jx .lines) mark m l (listing h)) same (cut .2)) in
       record {
         fit = d .1;
         sound = s;
@@ -148,19 +160,24 @@ module _ (ix : Index) (h : Sound (ix .live)) where
   calls-good : (calls : List Call) → Allowed mark calls → (jx : Index) → Good jx → Good (after calls jx)
   unfolding after
   calls-good [] nothing jx g = g
-  calls-good (insertCall hash key p ∷ cs) (inserting small a) jx g = calls-good cs a (inserts jx hash key p .left) (go (insert-settled jx hash key p))
+  calls-good (insertCall hash key p ∷ cs) (inserting small a) jx g =
+      calls-good cs a (inserts jx hash key p .left) (go (insert-settled jx hash key p))
     where
-      go : (inserts jx hash key p .answer .number ≢ 0) ⊎ ((x : ℕ) × (inserts jx hash key p .answer ≡ given x)) → Good (inserts jx hash key p .left)
+      go : (inserts jx hash key p .answer .number ≢ 0) ⊎ ((x : ℕ) × (inserts jx hash key p .answer ≡ given x))
+          → Good (inserts jx hash key p .left)
       go (inl n) = stay (insert-claims jx hash key p .nothing-written n) g
       go (inr r) = insert-good jx hash key p small g (r .0) (r .1)
   calls-good (removeCall hash key ∷ cs) (removing a) jx g = calls-good cs a (removes jx hash key .left) (go (remove-settled jx hash key))
     where
-      go : (removes jx hash key .answer .number ≢ 0) ⊎ ((x : ℕ) × (removes jx hash key .answer ≡ given x)) → Good (removes jx hash key .left)
+      go : (removes jx hash key .answer .number ≢ 0) ⊎ ((x : ℕ) × (removes jx hash key .answer ≡ given x))
+          → Good (removes jx hash key .left)
       go (inl n) = stay (remove-claims jx hash key .asks .nothing-written n) g
       go (inr r) = remove-good jx hash key g (r .0) (r .1)
-  calls-good (replaceCall hash key p ∷ cs) (replacing small a) jx g = calls-good cs a (replaces jx hash key p .left) (go (replace-settled jx hash key p))
+  calls-good (replaceCall hash key p ∷ cs) (replacing small a) jx g =
+      calls-good cs a (replaces jx hash key p .left) (go (replace-settled jx hash key p))
     where
-      go : (replaces jx hash key p .answer .number ≢ 0) ⊎ ((x : ℕ) × (replaces jx hash key p .answer ≡ given x)) → Good (replaces jx hash key p .left)
+      go : (replaces jx hash key p .answer .number ≢ 0) ⊎ ((x : ℕ) × (replaces jx hash key p .answer ≡ given x))
+          → Good (replaces jx hash key p .left)
       go (inl n) = stay (replace-claims jx hash key p .asks .nothing-written n) g
       go (inr r) = replace-good jx hash key p small g (r .0) (r .1)
   calls-good (rollbackCall m ∷ cs) (rolling w a) jx g = calls-good cs a (rolls jx m .left) (go (rollback-settled jx m))
@@ -169,13 +186,24 @@ module _ (ix : Index) (h : Sound (ix .live)) where
       go (inl n) = stay (rollback-claims jx m .nothing-written n) g
       go (inr r) = rollback-good jx m w g (r .0) (r .1)
 
-  pub demand-three : (fit : FitIndex ix) (words : Places (contents h)) (calls : List Call) (allowed : Allowed mark calls) → Demand3 ix fit h words calls allowed
+  pub demand-three : (fit : FitIndex ix) (words : Places (contents h)) (calls : List Call) (allowed : Allowed mark calls)
+      → Demand3 ix fit h words calls allowed
   demand-three fit words calls allowed =
-      let start : Good ix = record { fit = fit; sound = h; capacity = refl; above = omega arith; kept = λ j a b. refl; undoes = back refl; places = λ e i. words e (list-claims (ix .live) (fit .tree) .same h e .0 i) } in
+      let start : Good ix =
+      record {
+        fit = fit;
+        sound = h;
+        capacity = refl;
+        above = omega arith;
+        kept = λ j a b. refl;
+        undoes = back refl;
+        places = λ e i. words e (list-claims (ix .live) (fit .tree) .same h e .0 i);
+      } in
       let g = calls-good calls allowed ix start in
       let jx = after calls ix in
       let claim = rollback-claims jx mark in
-      let here : Undoes (slotsOf (jx .live .names)) (jx .lines) mark (lengthOf (jx .lines)) (listing (g .sound)) (listing h) = rw (g .capacity) (g .undoes) in
+      let here : Undoes (slotsOf (jx .live .names)) (jx .lines) mark (lengthOf (jx .lines)) (listing (g .sound)) (listing h) =
+      rw (g .capacity) (g .undoes) in
       let q = claim .accepted (lengthOf (jx .lines) - mark) .1 (g .fit, g .above, refl, (g .sound, (listing h, here))) in
       let d = claim .done (lengthOf (jx .lines) - mark) q (g .sound) in
       let same = undoes-one (d .2) here in

@@ -45,7 +45,8 @@ module _ {t : Live} (fit : Fit t) (h : Sound t) (hash key : ℕ) where
         none = (lacks, at-none);
         never-nine = λ e. nine e (seen fit h hash key);
         once = find-claims (unsizedOf t) hash key .looks (fit-unsized fit) .once (λ e. nine e (seen fit h hash key));
-        not-deep = rw (find-fit (unsizedOf t) hash key (fit-unsized fit), sound-count h) (looks-squared (t .names) (t .cells) (rootOf t) hash key (h .t3 .rooted) (h .t5) (h .t6));
+        not-deep = rw (find-fit (unsizedOf t) hash key (fit-unsized fit), sound-count h)
+            (looks-squared (t .names) (t .cells) (rootOf t) hash key (h .t3 .rooted) (h .t5) (h .t6));
       }
     where
       to : (slot : ℕ) → finds (unsizedOf t) hash key .answer ≡ given slot → Stands slot (h .tree) × (pairOf (t .names) slot ≡ pair hash key)

@@ -35,10 +35,20 @@ none-of {x} {k} l e z f = let y : times k l ≡ times x l = ap (λ (j : ℕ). ti
 pub member : (x : ℕ) (l : List ℕ) → 1 ≤ times x l → (m : List ℕ) × Without x l m
 unfolding times
 member x [] z = absurd (omega arith)
-member x (y ∷ l) z = times-cases x y l z (λ e. (l, record { before = []; after = l; whole = ap (λ (j : ℕ). j ∷ l) (sym e); rest = refl })) (λ w. onward (member x l w))
+member x (y ∷ l) z =
+    times-cases x y l z (λ e. (l, record { before = []; after = l; whole = ap (λ (j : ℕ). j ∷ l) (sym e); rest = refl }))
+    (λ w. onward (member x l w))
   where
     onward : (m : List ℕ) × Without x l m → (m : List ℕ) × Without x (y ∷ l) m
-    onward (m, h) = (y ∷ m, record { before = y ∷ h .before; after = h .after; whole = ap (λ (j : List ℕ). y ∷ j) (h .whole); rest = ap (λ (j : List ℕ). y ∷ j) (h .rest) })
+    onward (m, h) = (
+      y ∷ m,
+      record {
+        before = y ∷ h .before;
+        after = h .after;
+        whole = ap (λ (j : List ℕ). y ∷ j) (h .whole);
+        rest = ap (λ (j : List ℕ). y ∷ j) (h .rest);
+      },
+    )
 
 -- From the cells c to d the slot k keeps its colour and its links of the tree.
 pub record Still (c d : List ℕ) (k : ℕ) : Type 0 where
@@ -52,7 +62,13 @@ unfolding slots
 hangs-frame e hangsNone = hangsNone
 hangs-frame e (hangsSome {l = l} {i} {r} w a b) =
     let s = e i (omega (arith, times-append i (slots l) (i ∷ slots r), times-head i (slots r))) in
-    hangsSome (record { inside = w .inside; above = s .parents ∙ w .above; lefts = s .lefts ∙ w .lefts; rights = s .rights ∙ w .rights; hued = s .states ∙ w .hued })
+    hangsSome (record {
+      inside = w .inside;
+      above = s .parents ∙ w .above;
+      lefts = s .lefts ∙ w .lefts;
+      rights = s .rights ∙ w .rights;
+      hued = s .states ∙ w .hued;
+    })
     (hangs-frame (λ k z. e k (omega (arith, times-append k (slots l) (i ∷ slots r)))) a)
     (hangs-frame (λ k z. e k (omega (arith, times-append k (slots l) (i ∷ slots r), times-rest k i (slots r)))) b)
 
@@ -68,12 +84,15 @@ chain-frame e (linked {i = i} {l} w p c) =
     linked {l = l} w (s .prevs ∙ p) (rw (s .nexts) (chain-frame (λ k z. e k (omega (arith, times-rest k i l))) c))
 
 -- The same chain after another slot: only the prev of its head is another.
-pub chain-behind : {n q q′ i : ℕ} {c d l : List ℕ} → ((k : ℕ) → times k l ≤ 1) → (i < n → cell d i prev ≡ q′) → ((k : ℕ) → 1 ≤ times k l → k ≢ i → cell d k prev ≡ cell c k prev)
+pub chain-behind : {n q q′ i : ℕ} {c d l : List ℕ} → ((k : ℕ) → times k l ≤ 1) → (i < n → cell d i prev ≡ q′)
+    → ((k : ℕ) → 1 ≤ times k l → k ≢ i → cell d k prev ≡ cell c k prev)
     → ((k : ℕ) → 1 ≤ times k l → cell d k next ≡ cell c k next) → Chain n c q i l → Chain n d q′ i l
 chain-behind once head prevs nexts (ended z) = ended z
 chain-behind {c = c} {d} once head prevs nexts (linked {i = i} {l} w p rest) =
     linked {l = l} w (head w) (rw (nexts i (omega (arith, times-head i l)))
-    (chain-frame (λ k z. record { prevs = prevs k (omega (arith, times-rest k i l)) (other k z); nexts = nexts k (omega (arith, times-rest k i l)) }) rest))
+    (chain-frame
+    (λ k z. record { prevs = prevs k (omega (arith, times-rest k i l)) (other k z); nexts = nexts k (omega (arith, times-rest k i l)) })
+    rest))
   where
     other : (k : ℕ) → 1 ≤ times k l → k ≢ i
     other k z = none-of l (omega (arith, once i, times-head i l)) z
@@ -94,19 +113,24 @@ pub record Seated (n : ℕ) (c d : List ℕ) (x y q : ℕ) : Type 0 where
   pub nexts : (k : ℕ) → k ≢ x → k ≢ y → cell d k next ≡ cell c k next
 
 -- What follows in a chain is null or another slot of it.
-pub chain-next : {n q i : ℕ} {c : List ℕ} (a : List ℕ) (y : ℕ) (b : List ℕ) → Chain n c q i (a ++ (y ∷ b)) → (cell c y next ≡ null) ⊎ (1 ≤ times (cell c y next) b)
+pub chain-next : {n q i : ℕ} {c : List ℕ} (a : List ℕ) (y : ℕ) (b : List ℕ) → Chain n c q i (a ++ (y ∷ b))
+    → (cell c y next ≡ null) ⊎ (1 ≤ times (cell c y next) b)
 chain-next [] y b (linked w p r) = chain-starts r
 chain-next (z ∷ a) y b (linked w p r) = chain-next a y b r
 
-pub seated-front : {n x q : ℕ} {c d l : List ℕ} → Seated n c d x null q → ((k : ℕ) → times k l ≤ 1) → times x l ≡ 0 → ((k : ℕ) → 1 ≤ times k l → k < null)
+pub seated-front : {n x q : ℕ} {c d l : List ℕ} → Seated n c d x null q → ((k : ℕ) → times k l ≤ 1) → times x l ≡ 0
+    → ((k : ℕ) → 1 ≤ times k l → k < null)
     → Chain n c null q l → Chain n d null x (x ∷ l)
 seated-front {n} {x} {q} {l = l} s once away below chain =
     linked {l = l} (s .inside) (s .x-prev)
     (rw (s .x-next)
-    (chain-behind once (s .q-prev) (λ k z d. s .prevs k (none-of l away z) d) (λ k z. s .nexts k (none-of l away z) (λ e. omega (arith, below k z))) chain))
+    (chain-behind once (s .q-prev) (λ k z d. s .prevs k (none-of l away z) d)
+    (λ k z. s .nexts k (none-of l away z) (λ e. omega (arith, below k z))) chain))
 
-pub seated-behind : {n q i x y : ℕ} {c d : List ℕ} (a b : List ℕ) → Seated n c d x y (cell c y next) → n ≤ null → ((k : ℕ) → times k (a ++ (y ∷ b)) ≤ 1)
-    → times x (a ++ (y ∷ b)) ≡ 0 → (f : (cell c y next ≡ null) ⊎ (1 ≤ times (cell c y next) b)) → Chain n c q i (a ++ (y ∷ b)) → Chain n d q i (a ++ (y ∷ (x ∷ b)))
+pub seated-behind : {n q i x y : ℕ} {c d : List ℕ} (a b : List ℕ) → Seated n c d x y (cell c y next) → n ≤ null
+    → ((k : ℕ) → times k (a ++ (y ∷ b)) ≤ 1)
+    → times x (a ++ (y ∷ b)) ≡ 0 → (f : (cell c y next ≡ null) ⊎ (1 ≤ times (cell c y next) b)) → Chain n c q i (a ++ (y ∷ b))
+    → Chain n d q i (a ++ (y ∷ (x ∷ b)))
 seated-behind {n} {q} {i} {x} {y} {c} {d} [] b s bound once away f (linked w p r) =
     let not-x : (k : ℕ) → 1 ≤ times k (y ∷ b) → k ≢ x = λ k z. none-of (y ∷ b) away z in
     let own = not-x y (omega (arith, times-head y b)) in
@@ -120,7 +144,8 @@ seated-behind {n} {q} {i} {x} {y} {c} {d} [] b s bound once away f (linked w p r
   where
     follows : (cell c y next ≡ null) ⊎ (1 ≤ times (cell c y next) b) → y ≢ cell c y next
     follows (inl e) g = omega arith
-    follows (inr z) g = let m : times (cell c y next) b ≡ times y b = ap (λ (k : ℕ). times k b) (sym g) in omega (arith, once y, times-head y b)
+    follows (inr z) g =
+        let m : times (cell c y next) b ≡ times y b = ap (λ (k : ℕ). times k b) (sym g) in omega (arith, once y, times-head y b)
 
     apart : (k : ℕ) → 1 ≤ times k b → k ≢ y
     apart k z g = let m : times k b ≡ times y b = ap (λ (j : ℕ). times j b) g in omega (arith, once y, times-head y b)
@@ -128,21 +153,26 @@ seated-behind {n} {q} {i} {x} {y} {c} {d} (u ∷ a) b s bound once away f (linke
     let own : u ≢ x = none-of (u ∷ (a ++ (y ∷ b))) away (omega (arith, times-head u (a ++ (y ∷ b)))) in
     linked {l = a ++ (y ∷ (x ∷ b))} w (s .prevs u own (before f) ∙ p)
     (rw (s .nexts u own (other y (omega (arith, times-append y a (y ∷ b), times-head y b))))
-    (seated-behind a b s bound (λ k. omega (arith, once k, times-rest k u (a ++ (y ∷ b)))) (omega (arith, times-rest x u (a ++ (y ∷ b)))) f r))
+    (seated-behind a b s bound (λ k. omega (arith, once k, times-rest k u (a ++ (y ∷ b))))
+    (omega (arith, times-rest x u (a ++ (y ∷ b)))) f r))
   where
     -- what stands further on is another slot
     other : (k : ℕ) → 1 ≤ times k (a ++ (y ∷ b)) → u ≢ k
-    other k z g = let m : times k (a ++ (y ∷ b)) ≡ times u (a ++ (y ∷ b)) = ap (λ (j : ℕ). times j (a ++ (y ∷ b))) (sym g) in omega (arith, once u, times-head u (a ++ (y ∷ b)))
+    other k z g =
+        let m : times k (a ++ (y ∷ b)) ≡ times u (a ++ (y ∷ b)) = ap (λ (j : ℕ). times j (a ++ (y ∷ b))) (sym g) in
+        omega (arith, once u, times-head u (a ++ (y ∷ b)))
 
     before : (cell c y next ≡ null) ⊎ (1 ≤ times (cell c y next) b) → u ≢ cell c y next
     before (inl e) g = omega arith
     before (inr z) g = other (cell c y next) (omega (arith, times-append (cell c y next) a (y ∷ b), times-rest (cell c y next) y b)) g
 
 -- The order reads the pairs of its slots.
-below-frame : {names other l : List ℕ} {p : Pair} → ((k : ℕ) → 1 ≤ times k l → pairOf other k ≡ pairOf names k) → Below names p l → Below other p l
+below-frame : {names other l : List ℕ} {p : Pair} → ((k : ℕ) → 1 ≤ times k l → pairOf other k ≡ pairOf names k) → Below names p l
+    → Below other p l
 below-frame e last = last
 below-frame {p = p} e (before {i} {l} h b) =
-    before (subst (λ (q : Pair). Less p q) (sym (e i (omega (arith, times-head i l)))) h) (below-frame (λ k z. e k (omega (arith, times-rest k i l))) b)
+    before (subst (λ (q : Pair). Less p q) (sym (e i (omega (arith, times-head i l)))) h)
+    (below-frame (λ k z. e k (omega (arith, times-rest k i l))) b)
 
 pub rising-frame : {names other l : List ℕ} → ((k : ℕ) → 1 ≤ times k l → pairOf other k ≡ pairOf names k) → Rising names l → Rising other l
 rising-frame e empty = empty
@@ -160,7 +190,9 @@ rising-around [] x b (rise h r) = r
 rising-around (y ∷ a) x b (rise h r) = rise (below-without a x b h) (rising-around a x b r)
 
 pub rising-without : {names : List ℕ} {x : ℕ} {l m : List ℕ} → Without x l m → Rising names l → Rising names m
-rising-without {names} {x} e r = subst (λ (k : List ℕ). Rising names k) (sym (e .rest)) (rising-around (e .before) x (e .after) (subst (λ (k : List ℕ). Rising names k) (e .whole) r))
+rising-without {names} {x} e r =
+    subst (λ (k : List ℕ). Rising names k) (sym (e .rest))
+    (rising-around (e .before) x (e .after) (subst (λ (k : List ℕ). Rising names k) (e .whole) r))
 
 -- How often a slot stands in a list with one slot less.
 pub without-else : {x : ℕ} {l m : List ℕ} (k : ℕ) → Without x l m → k ≢ x → times k l ≡ times k m
@@ -225,10 +257,13 @@ module _ (head : List ℕ) (root first count : ℕ) where
 
   pub headed-first : length head ≡ 3 → getD (headed head root first count) 1 null ≡ first
   headed-first e =
-      getD-set-other (set (set head 0 root) 1 first) 2 1 count null (omega arith) ∙ getD-set-same (set head 0 root) 1 first null (omega (arith, length-set head 0 root))
+      getD-set-other (set (set head 0 root) 1 first) 2 1 count null (omega arith)
+      ∙ getD-set-same (set head 0 root) 1 first null (omega (arith, length-set head 0 root))
 
   pub headed-count : length head ≡ 3 → getD (headed head root first count) 2 null ≡ count
-  headed-count e = getD-set-same (set (set head 0 root) 1 first) 2 count null (omega (arith, length-set (set head 0 root) 1 first, length-set head 0 root))
+  headed-count e =
+      getD-set-same (set (set head 0 root) 1 first) 2 count null
+      (omega (arith, length-set (set head 0 root) 1 first, length-set head 0 root))
 
 -- In a sound tree the slots of the tree, of the chain and the used ones are the same, and the count is their number.
 module _ {t : Live} (h : Sound t) where

@@ -32,7 +32,8 @@ none-onward cells k m d h j l w = go (ℕ-discrete j k)
     go (yes e) = rw e d
     go (no e) = h j (omega arith) w
 
-scanned : (m : ℕ) (cells : List ℕ) (k : ℕ) → Least cells k (k + m) (freeFrom m cells k) ⊎ ((freeFrom m cells k ≡ null) × NoneFree cells k (k + m))
+scanned : (m : ℕ) (cells : List ℕ) (k : ℕ)
+    → Least cells k (k + m) (freeFrom m cells k) ⊎ ((freeFrom m cells k ≡ null) × NoneFree cells k (k + m))
 unfolding freeFrom NoneFree
 scanned zero cells k = inr (refl, λ j l w. absurd (omega arith))
 scanned (suc m) cells k = go (eqb (cell cells k state) free) refl (scanned m cells (suc k))
@@ -40,11 +41,20 @@ scanned (suc m) cells k = go (eqb (cell cells k state) free) refl (scanned m cel
     to : suc k + m ≡ k + suc m
     to = omega arith
 
-    go : (b : Bool) → eqb (cell cells k state) free ≡ b → Least cells (suc k) (suc k + m) (freeFrom m cells (suc k)) ⊎ ((freeFrom m cells (suc k) ≡ null) × NoneFree cells (suc k) (suc k + m))
-        → Least cells k (k + suc m) (pick b k (freeFrom m cells (suc k))) ⊎ ((pick b k (freeFrom m cells (suc k)) ≡ null) × NoneFree cells k (k + suc m))
-    go true e h = inl (record { least = omega arith; inside = omega arith; unused = eqb-true _ _ e; before = λ j l w. absurd (omega arith) })
+    go : (b : Bool) → eqb (cell cells k state) free ≡ b
+        → Least cells (suc k) (suc k + m) (freeFrom m cells (suc k))
+        ⊎ ((freeFrom m cells (suc k) ≡ null) × NoneFree cells (suc k) (suc k + m))
+        → Least cells k (k + suc m) (pick b k (freeFrom m cells (suc k)))
+        ⊎ ((pick b k (freeFrom m cells (suc k)) ≡ null) × NoneFree cells k (k + suc m))
+    go true e h =
+        inl (record { least = omega arith; inside = omega arith; unused = eqb-true _ _ e; before = λ j l w. absurd (omega arith) })
     go false e (inl h) =
-        inl (record { least = omega (arith, h .least); inside = omega (arith, h .inside); unused = h .unused; before = none-onward cells k _ (eqb-false _ _ e) (h .before) })
+        inl (record {
+          least = omega (arith, h .least);
+          inside = omega (arith, h .inside);
+          unused = h .unused;
+          before = none-onward cells k _ (eqb-false _ _ e) (h .before);
+        })
     go false e (inr h) = inr (h .0, none-onward cells k (k + suc m) (eqb-false _ _ e) (rw to at (h .1)))
 
 -- The slot x is free, and none below it is.
@@ -58,7 +68,9 @@ module _ (t : Live) where
   unfolding lowestFree NoneFree
   lowest-free d = go (scanned (slotsOf (t .names)) (t .cells) 0)
     where
-      go : Least (t .cells) 0 (0 + slotsOf (t .names)) (lowestFree t) ⊎ ((lowestFree t ≡ null) × NoneFree (t .cells) 0 (0 + slotsOf (t .names))) → LowestFree t (lowestFree t)
+      go : Least (t .cells) 0 (0 + slotsOf (t .names)) (lowestFree t)
+          ⊎ ((lowestFree t ≡ null) × NoneFree (t .cells) 0 (0 + slotsOf (t .names)))
+          → LowestFree t (lowestFree t)
       go (inl h) = record { inside = omega (arith, h .inside); unused = h .unused; lowest = λ k l. h .before k (omega arith) l }
       go (inr h) = absurd (d (h .0))
 
@@ -66,7 +78,8 @@ module _ (t : Live) where
   unfolding lowestFree NoneFree
   none-free small = go (scanned (slotsOf (t .names)) (t .cells) 0)
     where
-      go : Least (t .cells) 0 (0 + slotsOf (t .names)) (lowestFree t) ⊎ ((lowestFree t ≡ null) × NoneFree (t .cells) 0 (0 + slotsOf (t .names)))
+      go : Least (t .cells) 0 (0 + slotsOf (t .names)) (lowestFree t)
+          ⊎ ((lowestFree t ≡ null) × NoneFree (t .cells) 0 (0 + slotsOf (t .names)))
           → (lowestFree t ≡ null) ↔ ((k : ℕ) → k < slotsOf (t .names) → cell (t .cells) k state ≢ free)
       go (inl h) = (λ e. absurd (omega (arith, h .inside)), λ f. absurd (f (lowestFree t) (omega (arith, h .inside)) (h .unused)))
       go (inr h) = (λ e k l. h .1 k (omega arith) (omega arith), λ f. h .0)

@@ -10,7 +10,8 @@ use lib.ListN.{length, getD, set, length-set, List·getD-eq-default}
 use lib.Seq.{getD-set-same, getD-set-other}
 use lib.Dec.{ltb, leb}
 use borrow.Author.Tests.{eqb-true, leb-true, eq-eqb, le-leb}
-use Rattle.slots.specs.Words.{null, place, state, parent, left, right, prev, next, free, fields, parts, cell, nameOf, rename, hashPart, keyPart}
+use Rattle.slots.specs.Words.{null, place, state, parent, left, right, prev, next, free, fields, parts, cell, nameOf, rename, hashPart}
+use Rattle.slots.specs.Words.{keyPart}
 use Rattle.slots.specs.Answers.{given, refused}
 use Rattle.slots.proofs.Laws.{number, cell-same, cell-across, cell-else, roomy-write, length-write}
 use Rattle.tree_rules.specs.Tree.{leaf, slots, times, Hangs, Rising, Calm, Meets, end}
@@ -27,7 +28,8 @@ use Rattle.index_rules.specs.Contents.{contents}
 use Rattle.index_rules.specs.Claims.{Freshes}
 use Rattle.index_rules.proofs.Fit.{both, half, fit-fits, fits-fit}
 use Rattle.index_rules.proofs.Journal.{whole-is, is-whole, rolledLines, rolled-length, rolled-count, rolled-zero}
-use Rattle.index_rules.proofs.Frames.{roomy-cells, roomy-names, name-same, name-across, name-else, roomy-rename, length-rename, headed-length, headed-root, headed-first, headed-count}
+use Rattle.index_rules.proofs.Frames.{roomy-cells, roomy-names, name-same, name-across, name-else, roomy-rename, length-rename}
+use Rattle.index_rules.proofs.Frames.{headed-length, headed-root, headed-first, headed-count}
 use Rattle.tree_rules.specs.Find.{slotsOf}
 
 -- The slot i is free and cleared.
@@ -37,7 +39,13 @@ record Blank (t : Live) (i : ℕ) : Type 0 where
 
 -- One slot cleared.
 abbrev bare : ℕ → Live → Live
-bare k t = record { names = rename (rename (t .names) k hashPart 0) k keyPart 0; cells = wiped (t .cells) k; head = t .head; sizes = set (t .sizes) k 0 }
+bare k t =
+    record {
+      names = rename (rename (t .names) k hashPart 0) k keyPart 0;
+      cells = wiped (t .cells) k;
+      head = t .head;
+      sizes = set (t .sizes) k 0;
+    }
 
 bare-long : (k : ℕ) (t : Live) → length (bare k t .cells) ≡ length (t .cells)
 unfolding wiped
@@ -125,10 +133,12 @@ unfolding bared
 bared-name zero t i f l s = refl
 bared-name (suc k) t i f l s = bared-name k (bare k t) i f (omega arith) s ∙ bare-name k t i f (omega arith) s
 
-bared-blank : {n : ℕ} (k : ℕ) (t : Live) → length (t .cells) ≡ 7 * n → length (t .names) ≡ 2 * n → k ≤ n → (i : ℕ) → i < k → Blank (bared k t) i
+bared-blank : {n : ℕ} (k : ℕ) (t : Live) → length (t .cells) ≡ 7 * n → length (t .names) ≡ 2 * n → k ≤ n → (i : ℕ) → i < k
+    → Blank (bared k t) i
 unfolding bared
 bared-blank zero t c d b i l = absurd (omega arith)
-bared-blank {n} (suc k) t c d b i l = go (ℕ-discrete i k) (λ m. bared-blank k (bare k t) (bare-long k t ∙ c) (bare-wide k t ∙ d) (omega arith) i m)
+bared-blank {n} (suc k) t c d b i l =
+    go (ℕ-discrete i k) (λ m. bared-blank k (bare k t) (bare-long k t ∙ c) (bare-wide k t ∙ d) (omega arith) i m)
   where
     u : Live
     u = bared k (bare k t)
@@ -163,7 +173,8 @@ bared-blank {n} (suc k) t c d b i l = go (ℕ-discrete i k) (λ m. bared-blank k
     go (no m) again = again (omega arith)
 
 -- A tree whose slots are all blank, with a header of nothing.
-module _ {t : Live} (fit : Fit t) (blank : (i : ℕ) → i < slotsOf (t .names) → Blank t i) (root : rootOf t ≡ null) (first : firstOf t ≡ null) (none : countOf t ≡ 0)
+module _ {t : Live} (fit : Fit t) (blank : (i : ℕ) → i < slotsOf (t .names) → Blank t i) (root : rootOf t ≡ null) (first : firstOf t ≡ null)
+    (none : countOf t ≡ 0)
     (weightless : (k : ℕ) → sizeWord (t .sizes) k ≡ 0) where
   unused : (i : ℕ) → i < slotsOf (t .names) → used (t .cells) i ≡ 0
   unused i l = simp (eq-eqb (cell (t .cells) i state) free (blank i l .states))
@@ -176,7 +187,13 @@ module _ {t : Live} (fit : Fit t) (blank : (i : ℕ) → i < slotsOf (t .names) 
         chain = [];
         t1 =
             record {
-              links = λ i l. (let q = blank i l .cleared in record { parents = inl (q .parents); lefts = inl (q .lefts); rights = inl (q .rights); prevs = inl (q .prevs); nexts = inl (q .nexts) });
+              links = λ i l. (let q = blank i l .cleared in record {
+                parents = inl (q .parents);
+                lefts = inl (q .lefts);
+                rights = inl (q .rights);
+                prevs = inl (q .prevs);
+                nexts = inl (q .nexts);
+              });
               root = inl root;
               first = inl first;
               states = λ i l. omega (arith, blank i l .states);
@@ -280,15 +297,33 @@ module _ (ix : Index) where
       where
         go : Dec (k < slotsOf (ix .live .names)) → sizeWord (emptied .sizes) k ≡ 0
         go (yes l) = bared-zero (slotsOf (ix .live .names)) (ix .live) k l
-        go (no n) = List·getD-eq-default (emptied .sizes) 0 (omega (arith, bared-each (slotsOf (ix .live .names)) (ix .live), h .tree .each, half (h .tree)))
+        go (no n) =
+            List·getD-eq-default (emptied .sizes) 0
+            (omega (arith, bared-each (slotsOf (ix .live .names)) (ix .live), h .tree .each, half (h .tree)))
 
     blank : (i : ℕ) → i < slotsOf (emptied .names) → Blank emptied i
     blank i l =
-        let b = bared-blank {n = h .tree .capacity} (slotsOf (ix .live .names)) (ix .live) (h .tree .seven) (h .tree .two) (omega (arith, half (h .tree))) i (omega (arith, same-capacity)) in
-        record { states = b .states; cleared = record { hash = b .cleared .hash; key = b .cleared .key; placed = b .cleared .placed; parents = b .cleared .parents; lefts = b .cleared .lefts; rights = b .cleared .rights; prevs = b .cleared .prevs; nexts = b .cleared .nexts } }
+        let b =
+        bared-blank {n = h .tree .capacity} (slotsOf (ix .live .names)) (ix .live) (h .tree .seven) (h .tree .two)
+        (omega (arith, half (h .tree))) i (omega (arith, same-capacity)) in
+        record {
+          states = b .states;
+          cleared = record {
+            hash = b .cleared .hash;
+            key = b .cleared .key;
+            placed = b .cleared .placed;
+            parents = b .cleared .parents;
+            lefts = b .cleared .lefts;
+            rights = b .cleared .rights;
+            prevs = b .cleared .prevs;
+            nexts = b .cleared .nexts;
+          };
+        }
 
     unfoldable sound : Sound emptied
-    sound = empty-sound fit blank (headed-root (bareTree .head) null null 0 head-three) (headed-first (bareTree .head) null null 0 head-three) (headed-count (bareTree .head) null null 0 head-three) weightless
+    sound =
+        empty-sound fit blank (headed-root (bareTree .head) null null 0 head-three) (headed-first (bareTree .head) null null 0 head-three)
+        (headed-count (bareTree .head) null null 0 head-three) weightless
 
     room : at (0 + linesOf (ix .lines)) 0 ≤ length (ix .lines)
     room = omega (arith, lines-of h, h .words)
@@ -323,5 +358,6 @@ module _ (ix : Index) where
         one = (λ e h. omega (arith, number (sym (made h) ∙ e)), λ n. unfit-one (refuted n) .0);
         made = (from-made, made);
         nothing-written = kept;
-        done = λ h. rw (left-is h) (sound h, fit-index h, nothing-held h, rolled-count (linesOf (ix .lines)) (ix .lines) 0 (room h), zero-word h, same-capacity h);
+        done = λ h. rw (left-is h)
+            (sound h, fit-index h, nothing-held h, rolled-count (linesOf (ix .lines)) (ix .lines) 0 (room h), zero-word h, same-capacity h);
       }

@@ -33,7 +33,11 @@ use Rattle.index_rules.specs.Calls.{Alike, Takes}
 use Rattle.index_rules.proofs.Fit.{half}
 use Rattle.index_rules.proofs.Rules.{small}
 use Rattle.index_rules.proofs.Building.{built-sound, built-tree, built-chain}
-use Rattle.index_rules.proofs.Frames.{Still, none-of, off-chain, sound-balanced, same-slots, free-nowhere, nowhere-free, sound-count, hangs-frame, chain-frame, chain-starts, member, Seated, chain-next, seated-front, seated-behind, rising-frame, without-else, without-same, without-length, roomy-cells, roomy-names, name-same, name-across, name-else, roomy-rename, length-rename, headed-length, headed-root, headed-first, headed-count}
+use Rattle.index_rules.proofs.Frames.{Still, none-of, off-chain, sound-balanced, same-slots, free-nowhere, nowhere-free, sound-count}
+use Rattle.index_rules.proofs.Frames.{hangs-frame, chain-frame, chain-starts, member, Seated, chain-next, seated-front}
+use Rattle.index_rules.proofs.Frames.{seated-behind, rising-frame, without-else, without-same, without-length, roomy-cells}
+use Rattle.index_rules.proofs.Frames.{roomy-names, name-same, name-across, name-else, roomy-rename, length-rename, headed-length}
+use Rattle.index_rules.proofs.Frames.{headed-root, headed-first, headed-count}
 use Rattle.tree_rules.specs.Find.{slotsOf}
 
 -- The slot x joins a chain right behind y, at the front where y is null.
@@ -44,7 +48,12 @@ pub data Joins (x y : ℕ) (l l′ : List ℕ) : Type 0 where
 joins-one : {x y : ℕ} {l l′ : List ℕ} → Joins x y l l′ → OneFewer x l′ l
 joins-one {x} {y} {l} (front e q) = record { before = []; after = l; whole = q; rest = refl }
 joins-one {x} {y} (after a b d e q) =
-    record { before = a ++ (y ∷ []); after = b; whole = q ∙ sym (append-assoc a (y ∷ []) (x ∷ b)); rest = e ∙ sym (append-assoc a (y ∷ []) b) }
+    record {
+      before = a ++ (y ∷ []);
+      after = b;
+      whole = q ∙ sym (append-assoc a (y ∷ []) (x ∷ b));
+      rest = e ∙ sym (append-assoc a (y ∷ []) b);
+    }
 
 pub joins-front : {x y : ℕ} {l l′ : List ℕ} → Joins x y l l′ → y ≡ null → l′ ≡ x ∷ l
 joins-front (front e q) f = q
@@ -58,7 +67,8 @@ pub record Grown (t u : Live) (h : Sound t) (x y hash key p : ℕ) : Type 0 wher
   pub keeps : (k : ℕ) → 1 ≤ times k (slots (h .tree)) → Alike t u k
   pub takes : Takes t u x hash key p
 
-module _ {t : Live} (fit : Fit t) (h : Sound t) (x y hash key p : ℕ) (inside : x < slotsOf (t .names)) (unused : cell (t .cells) x state ≡ free)
+module _ {t : Live} (fit : Fit t) (h : Sound t) (x y hash key p : ℕ) (inside : x < slotsOf (t .names))
+    (unused : cell (t .cells) x state ≡ free)
     (seat : (y ≡ null) ⊎ (1 ≤ times y (h .chain))) where
   absent : times x (slots (h .tree)) ≡ 0
   absent = free-nowhere h x inside unused
@@ -95,12 +105,19 @@ module _ {t : Live} (fit : Fit t) (h : Sound t) (x y hash key p : ℕ) (inside :
   follows = go seat
     where
       after-y : (m : List ℕ) × OneFewer y (h .chain) m → (cell (t .cells) y next ≡ null) ⊎ (1 ≤ times (cell (t .cells) y next) (h .chain))
-      after-y (m, o) = up (chain-next (o .before) y (o .after) (subst (λ (l : List ℕ). Chain (slotsOf (t .names)) (t .cells) null (firstOf t) l) (o .whole) (h .t7 .linked)))
+      after-y (m, o) =
+          up (chain-next (o .before) y (o .after)
+          (subst (λ (l : List ℕ). Chain (slotsOf (t .names)) (t .cells) null (firstOf t) l) (o .whole) (h .t7 .linked)))
         where
-          up : (cell (t .cells) y next ≡ null) ⊎ (1 ≤ times (cell (t .cells) y next) (o .after)) → (cell (t .cells) y next ≡ null) ⊎ (1 ≤ times (cell (t .cells) y next) (h .chain))
+          up : (cell (t .cells) y next ≡ null) ⊎ (1 ≤ times (cell (t .cells) y next) (o .after))
+              → (cell (t .cells) y next ≡ null) ⊎ (1 ≤ times (cell (t .cells) y next) (h .chain))
           up (inl e) = inl e
           up (inr z) =
-              inr (rw (o .whole) (omega (arith, times-append (cell (t .cells) y next) (o .before) (y ∷ o .after), times-rest (cell (t .cells) y next) y (o .after))))
+              inr (rw (o .whole) (omega (
+                arith,
+                times-append (cell (t .cells) y next) (o .before) (y ∷ o .after),
+                times-rest (cell (t .cells) y next) y (o .after),
+              )))
 
       go : (y ≡ null) ⊎ (1 ≤ times y (h .chain)) → (q ≡ null) ⊎ (1 ≤ times q (h .chain))
       go (inl e) = rw (at-front e) (chain-starts (h .t7 .linked))
@@ -148,7 +165,8 @@ module _ {t : Live} (fit : Fit t) (h : Sound t) (x y hash key p : ℕ) (inside :
     where
       go : (y ≡ null) ⊎ (1 ≤ times y (h .chain)) → (l : List ℕ) × Joins x y (h .chain) l × Chain (slotsOf (t .names)) wide null top l
       go (inl e) =
-          let s : Seated (slotsOf (t .names)) (t .cells) wide x null q = subst (λ (j : ℕ). Seated (slotsOf (t .names)) (t .cells) wide x j q) e seats in
+          let s : Seated (slotsOf (t .names)) (t .cells) wide x null q =
+          subst (λ (j : ℕ). Seated (slotsOf (t .names)) (t .cells) wide x j q) e seats in
           let c : Chain (slotsOf (t .names)) (t .cells) null q (h .chain) = rw (at-front e) (h .t7 .linked) in (
             x ∷ h .chain,
             front e refl,
@@ -156,7 +174,8 @@ module _ {t : Live} (fit : Fit t) (h : Sound t) (x y hash key p : ℕ) (inside :
           )
       go (inr z) = behind (member y (h .chain) z)
         where
-          behind : (m : List ℕ) × OneFewer y (h .chain) m → (l : List ℕ) × Joins x y (h .chain) l × Chain (slotsOf (t .names)) wide null top l
+          behind : (m : List ℕ) × OneFewer y (h .chain) m
+              → (l : List ℕ) × Joins x y (h .chain) l × Chain (slotsOf (t .names)) wide null top l
           behind (m, o) =
               let s : Seated (slotsOf (t .names)) (t .cells) wide x y (cell (t .cells) y next) =
               subst (λ (j : ℕ). Seated (slotsOf (t .names)) (t .cells) wide x y j) (further (not-null z)) seats in
@@ -166,7 +185,8 @@ module _ {t : Live} (fit : Fit t) (h : Sound t) (x y hash key p : ℕ) (inside :
               let none : times x (o .before ++ (y ∷ o .after)) ≡ 0 = rw (o .whole) at no-x in (
                 o .before ++ (y ∷ (x ∷ o .after)),
                 after (o .before) (o .after) (not-null z) (o .whole) refl,
-                rw (pick-ne x (firstOf t) (not-null z)) (seated-behind (o .before) (o .after) s (small fit) few none (chain-next (o .before) y (o .after) c) c),
+                rw (pick-ne x (firstOf t) (not-null z))
+                    (seated-behind (o .before) (o .after) s (small fit) few none (chain-next (o .before) y (o .after) c) c),
               )
 
   roomN : roomy parts (t .names) x ≡ true
@@ -228,7 +248,8 @@ module _ {t : Live} (fit : Fit t) (h : Sound t) (x y hash key p : ℕ) (inside :
         let d = not-x (e .slot) (e .stands) in
         fresh (record { slot = e .slot; stands = e .stands; named = sym (takes .others (e .slot) d .pairs) ∙ e .named })
 
-    result : (u : Tree) × Holds (slotsOf (t .names)) hung u × RedBlackTree u × Rising names (slots u) × OneFewer x (slots u) (slots (h .tree))
+    result : (u : Tree) × Holds (slotsOf (t .names)) hung u × RedBlackTree u × Rising names (slots u)
+        × OneFewer x (slots u) (slots (h .tree))
     result = hangs-slot .hangs holds (sound-balanced h) risen fresh-still inside absent (takes .named) (omega arith)
 
     hung-sized : SizedTree (slotsOf (t .names)) hung (result .0)
@@ -253,7 +274,9 @@ module _ {t : Live} (fit : Fit t) (h : Sound t) (x y hash key p : ℕ) (inside :
     spared k d z = hangs-slot .spares holds (sound-balanced h) risen fresh-still inside absent (omega arith) k d z
 
     hung-chain : Chain (slotsOf (t .names)) (hung .cells) null top (joined .0)
-    hung-chain = chain-frame (λ k z. record { prevs = hangs-slot .keeps prev prev-aside .same k; nexts = hangs-slot .keeps next next-aside .same k }) (joined .2)
+    hung-chain =
+        chain-frame (λ k z. record { prevs = hangs-slot .keeps prev prev-aside .same k; nexts = hangs-slot .keeps next next-aside .same k })
+        (joined .2)
 
     same : (k : ℕ) → k < slotsOf (t .names) → times k (slots (result .0)) ≡ times k (joined .0)
     same k l = go (ℕ-discrete k x)
@@ -262,7 +285,8 @@ module _ {t : Live} (fit : Fit t) (h : Sound t) (x y hash key p : ℕ) (inside :
         go (yes e) = rw e (without-same (result .4) ∙ omega (arith, without-same (joins-one (joined .1)), same-slots h x inside))
         go (no d) = without-else k (result .4) d ∙ same-slots h k l ∙ sym (without-else k (joins-one (joined .1)) d)
 
-    others : (k : ℕ) → k < slotsOf (t .names) → times k (slots (result .0)) ≡ 0 → (cell (hung .cells) k state ≡ free) × Cleared (grown t x y hash key p) k
+    others : (k : ℕ) → k < slotsOf (t .names) → times k (slots (result .0)) ≡ 0
+        → (cell (hung .cells) k state ≡ free) × Cleared (grown t x y hash key p) k
     unfolding grown
     others k l z =
         let s = wide-still k in

@@ -24,17 +24,20 @@ map-append t [] b = refl
 map-append t (x ∷ a) b = ap (λ (l : List Entry). entryOf t x ∷ l) (map-append t a b)
 
 -- An entry is its pair and its place.
-pub entry-is : (t u : Live) (k : ℕ) → pairOf (u .names) k ≡ pairOf (t .names) k → cell (u .cells) k place ≡ cell (t .cells) k place → entryOf u k ≡ entryOf t k
+pub entry-is : (t u : Live) (k : ℕ) → pairOf (u .names) k ≡ pairOf (t .names) k → cell (u .cells) k place ≡ cell (t .cells) k place
+    → entryOf u k ≡ entryOf t k
 entry-is t u k e f = λ i. entry (e i .hash) (e i .key) (f i)
 
-pub entry-as : (u : Live) (k hash key p : ℕ) → pairOf (u .names) k ≡ pair hash key → cell (u .cells) k place ≡ p → entryOf u k ≡ entry hash key p
+pub entry-as : (u : Live) (k hash key p : ℕ) → pairOf (u .names) k ≡ pair hash key → cell (u .cells) k place ≡ p
+    → entryOf u k ≡ entry hash key p
 entry-as u k hash key p e f = λ i. entry (e i .hash) (e i .key) (f i)
 
 pub map-same : (t u : Live) (l : List ℕ) → ((k : ℕ) → 1 ≤ times k l → Alike t u k) → map (entryOf u) l ≡ map (entryOf t) l
 map-same t u [] h = refl
 map-same t u (x ∷ l) h =
     let k = h x (omega (arith, times-head x l)) in
-    (λ i. entry-is t u x (k .pairs) (k .places) i ∷ map (entryOf u) l) ∙ ap (λ (r : List Entry). entryOf t x ∷ r) (map-same t u l (λ j z. h j (omega (arith, times-rest j x l))))
+    (λ i. entry-is t u x (k .pairs) (k .places) i ∷ map (entryOf u) l)
+    ∙ ap (λ (r : List Entry). entryOf t x ∷ r) (map-same t u l (λ j z. h j (omega (arith, times-rest j x l))))
 
 -- The list with the entry of x between what lies below and above it.
 pub record Split (t u : Live) (l k : List ℕ) (e : Entry) : Type 0 where
@@ -69,7 +72,10 @@ module _ {t u : Live} {h : Sound t} {x y hash key p : ℕ} (g : Grown t u h x y 
   grown-ascends = rw (grown-split .more) at (ascends-map u (g .sound .t4))
 
   pub grown-contents : contents (g .sound) ≡ put (entry hash key p) (contents h)
-  grown-contents = grown-split .more ∙ sym (ap (put (entry hash key p)) (grown-split .less) ∙ put-at (entry hash key p) (grown-split .lower) (grown-split .upper) grown-ascends)
+  grown-contents =
+      grown-split .more
+      ∙ sym (ap (put (entry hash key p)) (grown-split .less)
+      ∙ put-at (entry hash key p) (grown-split .lower) (grown-split .upper) grown-ascends)
 
 -- The other way round: t has the slot x, which u has not.
 module _ {t u : Live} {h : Sound t} {x : ℕ} (g : Shrunk t u h x) where
@@ -84,7 +90,9 @@ module _ {t u : Live} {h : Sound t} {x : ℕ} (g : Shrunk t u h x) where
   pub shrunk-contents : contents (g .sound) ≡ without (entryOf t x .hash) (entryOf t x .key) (contents h)
   shrunk-contents =
       shrunk-split .less
-      ∙ sym (ap (without (entryOf t x .hash) (entryOf t x .key)) (shrunk-split .more) ∙ without-at (entryOf t x) (shrunk-split .lower) (shrunk-split .upper) (lower-lacks (entryOf t x) (shrunk-split .lower) (shrunk-split .upper) shrunk-ascends))
+      ∙ sym (ap (without (entryOf t x .hash) (entryOf t x .key)) (shrunk-split .more)
+      ∙ without-at (entryOf t x) (shrunk-split .lower) (shrunk-split .upper)
+      (lower-lacks (entryOf t x) (shrunk-split .lower) (shrunk-split .upper) shrunk-ascends))
 
 -- The contents are as many as the count.
 pub contents-length : {t : Live} (h : Sound t) → length (contents h) ≡ countOf t
@@ -124,7 +132,9 @@ pub in-stands : {t : Live} (h : Sound t) {e : Entry} → In e (contents h) → S
 in-stands {t} h i = map-in t (slots (h .tree)) i
 
 -- The tree lacks a pair exactly where its contents do.
-pub lacks-map : (t : Live) (l : List ℕ) (hash key : ℕ) → ((k : ℕ) → 1 ≤ times k l → pairOf (t .names) k ≡ pair hash key → ⊥) → Lacks hash key (map (entryOf t) l)
+pub lacks-map : (t : Live) (l : List ℕ) (hash key : ℕ) → ((k : ℕ) → 1 ≤ times k l → pairOf (t .names) k ≡ pair hash key → ⊥)
+    → Lacks hash key (map (entryOf t) l)
 lacks-map t [] hash key n = empty
 lacks-map t (x ∷ l) hash key n =
-    other (λ e f. n x (omega (arith, times-head x l)) (λ i. pair (e i) (f i))) (lacks-map t l hash key (λ k z e. n k (omega (arith, times-rest k x l)) e))
+    other (λ e f. n x (omega (arith, times-head x l)) (λ i. pair (e i) (f i)))
+    (lacks-map t l hash key (λ k z e. n k (omega (arith, times-rest k x l)) e))

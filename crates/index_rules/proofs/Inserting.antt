@@ -49,7 +49,8 @@ module _ (ix : Index) where
   unsound-false f n = false-of (sound (ix .live)) (λ e. n (yes-sound (f .tree) e))
 
 -- The slot that the search names is the one that has the pair.
-pub sought-at : {t : Live} → Fit t → (h : Sound t) (hash key x : ℕ) → Stands x (h .tree) → pairOf (t .names) x ≡ pair hash key → soughtIn t hash key ≡ some x
+pub sought-at : {t : Live} → Fit t → (h : Sound t) (hash key x : ℕ) → Stands x (h .tree) → pairOf (t .names) x ≡ pair hash key
+    → soughtIn t hash key ≡ some x
 unfolding soughtIn
 sought-at fit h hash key x z n = ap (λ (r : Answer). r .value) (found-at fit h hash key x z n)
 
@@ -71,14 +72,18 @@ lowest-is {t} fit x l = go (ℕ-discrete (lowestFree t) null)
   where
     go : Dec (lowestFree t ≡ null) → lowestFree t ≡ x
     go (yes e) = absurd (none-free t (small fit) .0 e x (l .inside) (l .unused))
-    go (no d) = let f = lowest-free t d in least-one {P = λ (k : ℕ). cell (t .cells) k state ≡ free} (lowestFree t) x (f .unused) (l .unused) (f .lowest) (l .lower)
+    go (no d) =
+        let f = lowest-free t d in
+        least-one {P = λ (k : ℕ). cell (t .cells) k state ≡ free} (lowestFree t) x (f .unused) (l .unused) (f .lowest) (l .lower)
 
 module _ (ix : Index) (hash key p : ℕ) where
   -- What an accepted insert leaves, of the very tree h.
   Leaves : Sound (ix .live) → ℕ → Outcome → Type 0
   Leaves h x o =
       (g : Sound (o .left .live)) × FitIndex (o .left) × (contents g ≡ put (entry hash key p) (contents h))
-      × (listing g ≡ entry hash key p ∷ listing h) × (g .chain ≡ x ∷ h .chain) × OneLine (ix .lines) (o .left .lines) (plainLine insertKind hash key p) × (slotsOf (o .left .live .names) ≡ slotsOf (ix .live .names))
+      × (listing g ≡ entry hash key p ∷ listing h) × (g .chain ≡ x ∷ h .chain)
+      × OneLine (ix .lines) (o .left .lines) (plainLine insertKind hash key p)
+      × (slotsOf (o .left .live .names) ≡ slotsOf (ix .live .names))
       × Takes (ix .live) (o .left .live) x hash key p
 
   line-more : FitIndex ix → lengthOf (ix .lines) ≢ linesOf (ix .lines)
@@ -94,7 +99,8 @@ module _ (ix : Index) (hash key p : ℕ) where
   damaged-two e f = rw (e, f)
 
   module _ (e : fitsIndex ix ≡ true) (f : sound (ix .live) ≡ true) where
-    present-three : (slot : ℕ) → soughtIn (ix .live) hash key ≡ some slot → inserts ix hash key p ≡ outcome (record { number = 3; value = some slot }) ix
+    present-three : (slot : ℕ) → soughtIn (ix .live) hash key ≡ some slot
+        → inserts ix hash key p ≡ outcome (record { number = 3; value = some slot }) ix
     unfolding inserts
     present-three slot s = rw (e, f, s)
 
@@ -103,7 +109,8 @@ module _ (ix : Index) (hash key p : ℕ) where
       unfolding inserts
       full-five d = rw (e, f, s, eq-eqb (lowestFree (ix .live)) null d)
 
-      no-line-six : lowestFree (ix .live) ≢ null → lengthOf (ix .lines) ≡ linesOf (ix .lines) → inserts ix hash key p ≡ outcome (refused 6) ix
+      no-line-six : lowestFree (ix .live) ≢ null → lengthOf (ix .lines) ≡ linesOf (ix .lines)
+          → inserts ix hash key p ≡ outcome (refused 6) ix
       unfolding inserts
       no-line-six d l = rw (e, f, s, ne-eqb (lowestFree (ix .live)) null d, eq-eqb (lengthOf (ix .lines)) (linesOf (ix .lines)) l)
 
@@ -142,10 +149,13 @@ module _ (ix : Index) (hash key p : ℕ) where
     two : FitIndex ix → (Sound (ix .live) → ⊥) → inserts ix hash key p ≡ outcome (refused 2) ix → Did
     three : FitIndex ix → (h : Sound (ix .live)) (slot : ℕ) → Stands slot (h .tree) → pairOf (ix .live .names) slot ≡ pair hash key
         → inserts ix hash key p ≡ outcome (record { number = 3; value = some slot }) ix → Did
-    five : FitIndex ix → (h : Sound (ix .live)) → (Has (ix .live .names) (h .tree) hash key → ⊥) → lowestFree (ix .live) ≡ null → inserts ix hash key p ≡ outcome (refused 5) ix → Did
-    six : FitIndex ix → (h : Sound (ix .live)) → (Has (ix .live .names) (h .tree) hash key → ⊥) → lowestFree (ix .live) ≢ null → lengthOf (ix .lines) ≡ linesOf (ix .lines)
+    five : FitIndex ix → (h : Sound (ix .live)) → (Has (ix .live .names) (h .tree) hash key → ⊥) → lowestFree (ix .live) ≡ null
+        → inserts ix hash key p ≡ outcome (refused 5) ix → Did
+    six : FitIndex ix → (h : Sound (ix .live)) → (Has (ix .live .names) (h .tree) hash key → ⊥) → lowestFree (ix .live) ≢ null
+        → lengthOf (ix .lines) ≡ linesOf (ix .lines)
         → inserts ix hash key p ≡ outcome (refused 6) ix → Did
-    taken : FitIndex ix → (h : Sound (ix .live)) → (Has (ix .live .names) (h .tree) hash key → ⊥) → lowestFree (ix .live) ≢ null → lengthOf (ix .lines) ≢ linesOf (ix .lines)
+    taken : FitIndex ix → (h : Sound (ix .live)) → (Has (ix .live .names) (h .tree) hash key → ⊥) → lowestFree (ix .live) ≢ null
+        → lengthOf (ix .lines) ≢ linesOf (ix .lines)
         → inserts ix hash key p .answer ≡ given (lowestFree (ix .live))
         → ((g : Sound (ix .live)) → (Has (ix .live .names) (g .tree) hash key → ⊥)
         → Leaves g (lowestFree (ix .live)) (inserts ix hash key p)) → Did
@@ -153,15 +163,18 @@ module _ (ix : Index) (hash key p : ℕ) where
   did : Did
   did = go (fitsIndex ix) refl (sound (ix .live)) refl
     where
-      line : (f : FitIndex ix) (e : fitsIndex ix ≡ true) (s : sound (ix .live) ≡ true) (h : Sound (ix .live)) (n : Has (ix .live .names) (h .tree) hash key → ⊥)
-          → soughtIn (ix .live) hash key ≡ none → Dec (lowestFree (ix .live) ≡ null) → Dec (lengthOf (ix .lines) ≡ linesOf (ix .lines)) → Did
+      line : (f : FitIndex ix) (e : fitsIndex ix ≡ true) (s : sound (ix .live) ≡ true) (h : Sound (ix .live))
+          (n : Has (ix .live .names) (h .tree) hash key → ⊥)
+          → soughtIn (ix .live) hash key ≡ none → Dec (lowestFree (ix .live) ≡ null)
+          → Dec (lengthOf (ix .lines) ≡ linesOf (ix .lines)) → Did
       line f e s h n q (yes d) l = five f h n d (full-five e s q d)
       line f e s h n q (no d) (yes l) = six f h n d l (no-line-six e s q d l)
       line f e s h n q (no d) (no l) = taken f h n d l (done-given e s q d l) (done-leaves e s q d l f)
 
       look : (f : FitIndex ix) (e : fitsIndex ix ≡ true) (s : sound (ix .live) ≡ true) (h : Sound (ix .live)) → Seen h hash key → Did
       look f e s h (there x z n q) = three f h x z n (present-three e s x q)
-      look f e s h (absent n q) = line f e s h n q (ℕ-discrete (lowestFree (ix .live)) null) (ℕ-discrete (lengthOf (ix .lines)) (linesOf (ix .lines)))
+      look f e s h (absent n q) =
+          line f e s h n q (ℕ-discrete (lowestFree (ix .live)) null) (ℕ-discrete (lengthOf (ix .lines)) (linesOf (ix .lines)))
 
       go : (a : Bool) → fitsIndex ix ≡ a → (b : Bool) → sound (ix .live) ≡ b → Did
       go false e b s = one (λ f. false≢true (sym e ∙ index-fits ix f)) (unfit-one e)
@@ -207,7 +220,9 @@ module _ (ix : Index) (hash key p : ℕ) where
       go : Did → FitIndex ix × ((h : Sound (ix .live)) × Stands slot (h .tree) × (pairOf (ix .live .names) slot ≡ pair hash key))
       go (one n e) = absurd (omega (arith, clash e q))
       go (two f n e) = absurd (omega (arith, clash e q))
-      go (three f h x z n e) = let y : x ≡ slot = value-inj (sym (answer e) ∙ q) refl refl in (f, (h, subst (λ (k : ℕ). Stands k (h .tree)) y z, subst (λ (k : ℕ). pairOf (ix .live .names) k ≡ pair hash key) y n))
+      go (three f h x z n e) =
+          let y : x ≡ slot = value-inj (sym (answer e) ∙ q) refl refl in
+          (f, (h, subst (λ (k : ℕ). Stands k (h .tree)) y z, subst (λ (k : ℕ). pairOf (ix .live .names) k ≡ pair hash key) y n))
       go (five f h n d e) = absurd (omega (arith, clash e q))
       go (six f h n d l e) = absurd (omega (arith, clash e q))
       go (taken f h n d l e r) = absurd (omega (arith, number (sym q ∙ e)))
@@ -225,10 +240,13 @@ module _ (ix : Index) (hash key p : ℕ) where
       go (taken f h n d l e r) = absurd (omega (arith, number (sym q ∙ e)))
 
   six-then : inserts ix hash key p .answer ≡ refused 6
-      → FitIndex ix × ((h : Sound (ix .live)) × (Has (ix .live .names) (h .tree) hash key → ⊥) × ((x : ℕ) × Lowest (ix .live) x) × (lengthOf (ix .lines) ≡ linesOf (ix .lines)))
+      → FitIndex ix
+      × ((h : Sound (ix .live)) × (Has (ix .live .names) (h .tree) hash key → ⊥) × ((x : ℕ) × Lowest (ix .live) x)
+      × (lengthOf (ix .lines) ≡ linesOf (ix .lines)))
   six-then q = go did
     where
-      go : Did → FitIndex ix × ((h : Sound (ix .live)) × (Has (ix .live .names) (h .tree) hash key → ⊥) × ((x : ℕ) × Lowest (ix .live) x) × (lengthOf (ix .lines) ≡ linesOf (ix .lines)))
+      go : Did → FitIndex ix × ((h : Sound (ix .live)) × (Has (ix .live .names) (h .tree) hash key → ⊥) × ((x : ℕ) × Lowest (ix .live) x)
+          × (lengthOf (ix .lines) ≡ linesOf (ix .lines)))
       go (one n e) = absurd (omega (arith, clash e q))
       go (two f n e) = absurd (omega (arith, clash e q))
       go (three f h x z n e) = absurd (omega (arith, clash e q))
@@ -237,10 +255,13 @@ module _ (ix : Index) (hash key p : ℕ) where
       go (taken f h n d l e r) = absurd (omega (arith, number (sym q ∙ e)))
 
   given-then : (x : ℕ) → inserts ix hash key p .answer ≡ given x
-      → FitIndex ix × ((h : Sound (ix .live)) × (Has (ix .live .names) (h .tree) hash key → ⊥) × Lowest (ix .live) x × (lengthOf (ix .lines) < linesOf (ix .lines)))
+      → FitIndex ix
+      × ((h : Sound (ix .live)) × (Has (ix .live .names) (h .tree) hash key → ⊥) × Lowest (ix .live) x
+      × (lengthOf (ix .lines) < linesOf (ix .lines)))
   given-then x q = go did
     where
-      go : Did → FitIndex ix × ((h : Sound (ix .live)) × (Has (ix .live .names) (h .tree) hash key → ⊥) × Lowest (ix .live) x × (lengthOf (ix .lines) < linesOf (ix .lines)))
+      go : Did → FitIndex ix × ((h : Sound (ix .live)) × (Has (ix .live .names) (h .tree) hash key → ⊥) × Lowest (ix .live) x
+          × (lengthOf (ix .lines) < linesOf (ix .lines)))
       go (one n e) = absurd (omega (arith, clash e q))
       go (two f n e) = absurd (omega (arith, clash e q))
       go (three f h y z n e) = absurd (omega (arith, clash e q))
@@ -287,17 +308,20 @@ module _ (ix : Index) (hash key p : ℕ) where
         three = λ slot. (
           three-then slot,
           λ r. (let h = r .1 .0 in
-              answer (present-three (index-fits ix (r .0)) (sound-yes (r .0 .tree) h) slot (sought-at (r .0 .tree) h hash key slot (r .1 .1) (r .1 .2)))),
+              answer (present-three (index-fits ix (r .0)) (sound-yes (r .0 .tree) h) slot
+              (sought-at (r .0 .tree) h hash key slot (r .1 .1) (r .1 .2)))),
         );
         five = (
           five-then,
           λ r. (let h = r .1 .0 in
-              answer (full-five (index-fits ix (r .0)) (sound-yes (r .0 .tree) h) (sought-none (r .0 .tree) h hash key (r .1 .1)) (none-free (ix .live) (small (r .0 .tree)) .1 (r .1 .2)))),
+              answer (full-five (index-fits ix (r .0)) (sound-yes (r .0 .tree) h) (sought-none (r .0 .tree) h hash key (r .1 .1))
+              (none-free (ix .live) (small (r .0 .tree)) .1 (r .1 .2)))),
         );
         six = (
           six-then,
           λ r. (let h = r .1 .0 in
-              answer (no-line-six (index-fits ix (r .0)) (sound-yes (r .0 .tree) h) (sought-none (r .0 .tree) h hash key (r .1 .1)) (has-free (r .0) (r .1 .2 .0) (r .1 .2 .1)) (r .1 .3))),
+              answer (no-line-six (index-fits ix (r .0)) (sound-yes (r .0 .tree) h) (sought-none (r .0 .tree) h hash key (r .1 .1))
+              (has-free (r .0) (r .1 .2 .0) (r .1 .2 .1)) (r .1 .3))),
         );
         accepted = λ x. (
           given-then x,

@@ -12,7 +12,8 @@ use lib.Dec.{eqb, leb}
 use borrow.Author.Tests.{eqb-true, leb-true, eq-eqb, le-leb}
 use Rattle.slots.specs.Words.{mostLines}
 use Rattle.index_rules.specs.Live.{fits}
-use Rattle.index_rules.specs.Index.{Index, FitIndex, JournalLine, lineWords, wholeLines, fitsJournal, fitsIndex, lengthOf, linesOf, at, plainLine, lineWord, lineOf, lined, appended}
+use Rattle.index_rules.specs.Index.{Index, FitIndex, JournalLine, lineWords, wholeLines, fitsJournal, fitsIndex, lengthOf, linesOf}
+use Rattle.index_rules.specs.Index.{at, plainLine, lineWord, lineOf, lined, appended}
 use Rattle.index_rules.specs.Rollback.{blanked}
 use Rattle.index_rules.specs.Calls.{OneLine, BackTo}
 use Rattle.index_rules.proofs.Fit.{both, fits-fit, fit-fits}
@@ -53,7 +54,8 @@ pub index-fits : (ix : Index) → FitIndex ix → fitsIndex ix ≡ true
 unfolding fitsIndex fitsJournal
 index-fits ix f =
     and (fit-fits (ix .live) (f .tree))
-    (and (is-whole (ix .lines) (f .capacity) (f .most) (f .words)) (le-leb (lengthOf (ix .lines)) (linesOf (ix .lines)) (omega (arith, f .within, lines-capacity f))))
+    (and (is-whole (ix .lines) (f .capacity) (f .most) (f .words))
+    (le-leb (lengthOf (ix .lines)) (linesOf (ix .lines)) (omega (arith, f .within, lines-capacity f))))
 
 module _ (lines : List ℕ) (k : ℕ) (j : JournalLine) where
   abbrev one : List ℕ
@@ -79,7 +81,8 @@ module _ (lines : List ℕ) (k : ℕ) (j : JournalLine) where
   lined-else : (i : ℕ) → ((f : ℕ) → f < lineWords → i ≢ at k f) → getD (lined lines k j) i 0 ≡ getD lines i 0
   unfolding lined
   lined-else i d =
-      getD-set-other five (at k 5) i (j .priorKey) 0 (d 5 (omega arith)) ∙ getD-set-other four (at k 4) i (j .priorHash) 0 (d 4 (omega arith))
+      getD-set-other five (at k 5) i (j .priorKey) 0 (d 5 (omega arith))
+      ∙ getD-set-other four (at k 4) i (j .priorHash) 0 (d 4 (omega arith))
       ∙ getD-set-other three (at k 3) i (j .place) 0 (d 3 (omega arith)) ∙ getD-set-other two (at k 2) i (j .key) 0 (d 2 (omega arith))
       ∙ getD-set-other one (at k 1) i (j .hash) 0 (d 1 (omega arith)) ∙ getD-set-other lines (at k 0) i (j .kind) 0 (d 0 (omega arith))
 
@@ -100,18 +103,27 @@ module _ (lines : List ℕ) (k : ℕ) (j : JournalLine) where
   unfolding lined
   lined-line room =
       λ i. record {
-        kind = (off five 5 0 (j .priorKey) (omega arith) ∙ off four 4 0 (j .priorHash) (omega arith) ∙ off three 3 0 (j .place) (omega arith) ∙ off two 2 0 (j .key) (omega arith) ∙ off one 1 0 (j .hash) (omega arith)
+        kind =
+            (off five 5 0 (j .priorKey) (omega arith) ∙ off four 4 0 (j .priorHash) (omega arith) ∙ off three 3 0 (j .place) (omega arith)
+            ∙ off two 2 0 (j .key) (omega arith) ∙ off one 1 0 (j .hash) (omega arith)
             ∙ on lines 0 (j .kind) refl room (omega arith)) i;
-        hash = (off five 5 1 (j .priorKey) (omega arith) ∙ off four 4 1 (j .priorHash) (omega arith) ∙ off three 3 1 (j .place) (omega arith) ∙ off two 2 1 (j .key) (omega arith)
+        hash =
+            (off five 5 1 (j .priorKey) (omega arith) ∙ off four 4 1 (j .priorHash) (omega arith) ∙ off three 3 1 (j .place) (omega arith)
+            ∙ off two 2 1 (j .key) (omega arith)
             ∙ on one 1 (j .hash) (simp length-set) room (omega arith)) i;
-        key = (off five 5 2 (j .priorKey) (omega arith) ∙ off four 4 2 (j .priorHash) (omega arith) ∙ off three 3 2 (j .place) (omega arith) ∙ on two 2 (j .key) (simp length-set) room (omega arith)) i;
-        place = (off five 5 3 (j .priorKey) (omega arith) ∙ off four 4 3 (j .priorHash) (omega arith) ∙ on three 3 (j .place) (simp length-set) room (omega arith)) i;
+        key =
+            (off five 5 2 (j .priorKey) (omega arith) ∙ off four 4 2 (j .priorHash) (omega arith) ∙ off three 3 2 (j .place) (omega arith)
+            ∙ on two 2 (j .key) (simp length-set) room (omega arith)) i;
+        place =
+            (off five 5 3 (j .priorKey) (omega arith) ∙ off four 4 3 (j .priorHash) (omega arith)
+            ∙ on three 3 (j .place) (simp length-set) room (omega arith)) i;
         priorHash = (off five 5 4 (j .priorKey) (omega arith) ∙ on four 4 (j .priorHash) (simp length-set) room (omega arith)) i;
         priorKey = on five 5 (j .priorKey) (simp length-set) room (omega arith) i;
       }
 
 -- A line goes by its words.
-pub same-line : (lines lines′ : List ℕ) (k : ℕ) → ((i : ℕ) → at k 0 ≤ i → i < at (suc k) 0 → getD lines′ i 0 ≡ getD lines i 0) → lineOf lines′ k ≡ lineOf lines k
+pub same-line : (lines lines′ : List ℕ) (k : ℕ) → ((i : ℕ) → at k 0 ≤ i → i < at (suc k) 0 → getD lines′ i 0 ≡ getD lines i 0)
+    → lineOf lines′ k ≡ lineOf lines k
 same-line lines lines′ k h =
     λ i. record {
       kind = h (at k 0) (omega arith) (omega arith) i;
@@ -133,8 +145,10 @@ module _ (lines : List ℕ) (j : JournalLine) (room : at (lengthOf lines + 1) 0 
   one-line =
       record {
         long = length-set (lined lines (lengthOf lines) j) 0 (lengthOf lines + 1) ∙ lined-length lines (lengthOf lines) j;
-        count = getD-set-same (lined lines (lengthOf lines) j) 0 (lengthOf lines + 1) 0 (omega (arith, lined-length lines (lengthOf lines) j));
-        line = same-line (lined lines (lengthOf lines) j) (appended lines j) (lengthOf lines) (λ i l h. appended-word i (omega arith)) ∙ lined-line lines (lengthOf lines) j (omega arith);
+        count =
+            getD-set-same (lined lines (lengthOf lines) j) 0 (lengthOf lines + 1) 0 (omega (arith, lined-length lines (lengthOf lines) j));
+        line = same-line (lined lines (lengthOf lines) j) (appended lines j) (lengthOf lines) (λ i l h. appended-word i (omega arith))
+            ∙ lined-line lines (lengthOf lines) j (omega arith);
         below = λ i l h. appended-word i l ∙ lined-other lines (lengthOf lines) j i h;
         past = λ i l. appended-word i (omega arith) ∙ lined-past lines (lengthOf lines) j i (omega arith);
       }
@@ -143,17 +157,21 @@ module _ (lines : List ℕ) (j : JournalLine) (room : at (lengthOf lines + 1) 0 
 pub blanked-length : (c : ℕ) (lines : List ℕ) (m : ℕ) → length (blanked c lines m) ≡ length lines
 unfolding blanked
 blanked-length zero lines m = refl
-blanked-length (suc c) lines m = blanked-length c (lined lines (m + c) (plainLine 0 0 0 0)) m ∙ lined-length lines (m + c) (plainLine 0 0 0 0)
+blanked-length (suc c) lines m =
+    blanked-length c (lined lines (m + c) (plainLine 0 0 0 0)) m ∙ lined-length lines (m + c) (plainLine 0 0 0 0)
 
 pub blanked-below : (c : ℕ) (lines : List ℕ) (m j : ℕ) → j < at m 0 → getD (blanked c lines m) j 0 ≡ getD lines j 0
 unfolding blanked
 blanked-below zero lines m j l = refl
-blanked-below (suc c) lines m j l = blanked-below c (lined lines (m + c) (plainLine 0 0 0 0)) m j l ∙ lined-other lines (m + c) (plainLine 0 0 0 0) j (omega arith)
+blanked-below (suc c) lines m j l =
+    blanked-below c (lined lines (m + c) (plainLine 0 0 0 0)) m j l ∙ lined-other lines (m + c) (plainLine 0 0 0 0) j (omega arith)
 
 pub blanked-past : (c : ℕ) (lines : List ℕ) (m j : ℕ) → at (m + c) 0 ≤ j → getD (blanked c lines m) j 0 ≡ getD lines j 0
 unfolding blanked
 blanked-past zero lines m j l = refl
-blanked-past (suc c) lines m j l = blanked-past c (lined lines (m + c) (plainLine 0 0 0 0)) m j (omega arith) ∙ lined-past lines (m + c) (plainLine 0 0 0 0) j (omega arith)
+blanked-past (suc c) lines m j l =
+    blanked-past c (lined lines (m + c) (plainLine 0 0 0 0)) m j (omega arith)
+    ∙ lined-past lines (m + c) (plainLine 0 0 0 0) j (omega arith)
 
 -- A word of a line is one of six.
 nth : (P : ℕ → Type 0) → P 0 → P 1 → P 2 → P 3 → P 4 → P 5 → (f : ℕ) → f < lineWords → P f
@@ -168,18 +186,22 @@ nth P a b c d e g (suc (suc (suc (suc (suc (suc f)))))) l = absurd (omega arith)
 -- The words of a line of zeros.
 zero-word : (lines : List ℕ) (k f : ℕ) → f < lineWords → lineOf lines k ≡ plainLine 0 0 0 0 → lineWord lines k f ≡ 0
 zero-word lines k f l e =
-    nth (λ i. lineWord lines k i ≡ 0) (λ i. e i .kind) (λ i. e i .hash) (λ i. e i .key) (λ i. e i .place) (λ i. e i .priorHash) (λ i. e i .priorKey) f l
+    nth (λ i. lineWord lines k i ≡ 0) (λ i. e i .kind) (λ i. e i .hash) (λ i. e i .key) (λ i. e i .place) (λ i. e i .priorHash)
+    (λ i. e i .priorKey) f l
 
-pub blanked-zero : (c : ℕ) (lines : List ℕ) (m i : ℕ) → at (m + c) 0 ≤ length lines → at m 0 ≤ i → i < at (m + c) 0 → getD (blanked c lines m) i 0 ≡ 0
+pub blanked-zero : (c : ℕ) (lines : List ℕ) (m i : ℕ) → at (m + c) 0 ≤ length lines → at m 0 ≤ i → i < at (m + c) 0
+    → getD (blanked c lines m) i 0 ≡ 0
 unfolding blanked
 blanked-zero zero lines m i room a b = absurd (omega arith)
 blanked-zero (suc c) lines m i room a b =
-    go (decLt i (at (m + c) 0)) (λ l. blanked-zero c (lined lines (m + c) (plainLine 0 0 0 0)) m i (omega (arith, lined-length lines (m + c) (plainLine 0 0 0 0))) a l)
+    go (decLt i (at (m + c) 0))
+    (λ l. blanked-zero c (lined lines (m + c) (plainLine 0 0 0 0)) m i (omega (arith, lined-length lines (m + c) (plainLine 0 0 0 0))) a l)
   where
     word : (i : ℕ) → at (m + c) 0 ≤ i → i < at (suc (m + c)) 0 → getD (lined lines (m + c) (plainLine 0 0 0 0)) i 0 ≡ 0
     word i a b =
         let e : at (m + c) (i - at (m + c) 0) ≡ i = omega arith in
-        rw e at (zero-word (lined lines (m + c) (plainLine 0 0 0 0)) (m + c) (i - at (m + c) 0) (omega arith) (lined-line lines (m + c) (plainLine 0 0 0 0) (omega arith)))
+        rw e at (zero-word (lined lines (m + c) (plainLine 0 0 0 0)) (m + c) (i - at (m + c) 0) (omega arith)
+        (lined-line lines (m + c) (plainLine 0 0 0 0) (omega arith)))
 
     go : Dec (i < at (m + c) 0) → (i < at (m + c) 0 → getD (blanked c (lined lines (m + c) (plainLine 0 0 0 0)) m) i 0 ≡ 0)
         → getD (blanked c (lined lines (m + c) (plainLine 0 0 0 0)) m) i 0 ≡ 0
@@ -206,7 +228,8 @@ module _ (c : ℕ) (lines : List ℕ) (m : ℕ) (room : at (m + c) 0 ≤ length 
   pub rolled-past : (j : ℕ) → at (m + c) 0 ≤ j → getD (rolledLines c lines m) j 0 ≡ getD lines j 0
   rolled-past j l = getD-set-other (blanked c lines m) 0 j m 0 (omega arith) ∙ blanked-past c lines m j l
 
-pub back-to : (lines : List ℕ) (m : ℕ) → m ≤ lengthOf lines → at (lengthOf lines) 0 ≤ length lines → BackTo m lines (rolledLines (lengthOf lines - m) lines m)
+pub back-to : (lines : List ℕ) (m : ℕ) → m ≤ lengthOf lines → at (lengthOf lines) 0 ≤ length lines
+    → BackTo m lines (rolledLines (lengthOf lines - m) lines m)
 back-to lines m l room =
     let e : m + (lengthOf lines - m) ≡ lengthOf lines = omega arith in
     let fits : at (m + (lengthOf lines - m)) 0 ≤ length lines = rw e room in

@@ -14,7 +14,8 @@ use Rattle.slots.specs.Pairs.{Pair, pair, pairOf, Less, before}
 use Rattle.slots.proofs.Order.{less-irreflexive, less-transitive, before-less}
 use Rattle.tree_rules.specs.Tree.{Below, Rising}
 use Rattle.index_rules.specs.Live.{Live}
-use Rattle.index_rules.specs.Contents.{Entry, entry, entryOf, put, isPair, without, behind, withPlace, In, first, later, Lacks, empty, other}
+use Rattle.index_rules.specs.Contents.{Entry, entry, entryOf, put, isPair, without, behind, withPlace, In, first, later, Lacks, empty}
+use Rattle.index_rules.specs.Contents.{other}
 
 abbrev pub pairIn : Entry → Pair
 pairIn e = pair (e .hash) (e .key)
@@ -49,7 +50,9 @@ not-before : (e x : Entry) → Less (pairIn x) (pairIn e) → before (e .hash) (
 not-before e x h = go (before (e .hash) (e .key) (x .hash) (x .key)) refl
   where
     go : (b : Bool) → before (e .hash) (e .key) (x .hash) (x .key) ≡ b → before (e .hash) (e .key) (x .hash) (x .key) ≡ false
-    go true z = absurd (less-irreflexive (pairIn e) (less-transitive (pairIn e) (pairIn x) (pairIn e) (before-less (e .hash) (e .key) (x .hash) (x .key) .0 z) h))
+    go true z =
+        absurd (less-irreflexive (pairIn e)
+        (less-transitive (pairIn e) (pairIn x) (pairIn e) (before-less (e .hash) (e .key) (x .hash) (x .key) .0 z) h))
     go false z = z
 
 pub is-pair : (hash key : ℕ) (x : Entry) → x .hash ≡ hash → x .key ≡ key → isPair hash key x ≡ true
@@ -88,7 +91,8 @@ without-at e [] b n = rw (is-pair (e .hash) (e .key) e refl refl)
 without-at e (x ∷ a) b (other n k) = rw (not-pair (e .hash) (e .key) x n) (ap (λ (l : List Entry). x ∷ l) (without-at e a b k))
 
 -- To put an entry behind its pair.
-pub behind-at : (q e : Entry) (a b : List Entry) → Lacks (q .hash) (q .key) a → behind (q .hash) (q .key) e (a ++ (q ∷ b)) ≡ a ++ (q ∷ (e ∷ b))
+pub behind-at : (q e : Entry) (a b : List Entry) → Lacks (q .hash) (q .key) a
+    → behind (q .hash) (q .key) e (a ++ (q ∷ b)) ≡ a ++ (q ∷ (e ∷ b))
 unfolding behind
 behind-at q e [] b n = rw (is-pair (q .hash) (q .key) q refl refl)
 behind-at q e (x ∷ a) b (other n k) = rw (not-pair (q .hash) (q .key) x n) (ap (λ (l : List Entry). x ∷ l) (behind-at q e a b k))
@@ -116,7 +120,8 @@ pub record Placed (e : Entry) (l : List Entry) : Type 0 where
 
 pub in-placed : {e : Entry} {l : List Entry} → In e l → Placed e l
 in-placed {e} (first {l}) = record { lower = []; upper = l; is = refl }
-in-placed (later {x} i) = let h = in-placed i in record { lower = x ∷ h .lower; upper = h .upper; is = ap (λ (l : List Entry). x ∷ l) (h .is) }
+in-placed (later {x} i) =
+    let h = in-placed i in record { lower = x ∷ h .lower; upper = h .upper; is = ap (λ (l : List Entry). x ∷ l) (h .is) }
 
 lacks-in : {hash key : ℕ} {e : Entry} {l : List Entry} → Lacks hash key l → In e l → e .hash ≡ hash → e .key ≡ key → ⊥
 lacks-in (other n k) first p q = n p q
@@ -178,7 +183,8 @@ with-all P hash key p (y ∷ l) q h x i = go (isPair hash key y) i (λ j. with-a
     go true j again = head (in-case j (entry hash key p) l refl)
     go false j again = rest again (in-case j y (withPlace hash key p l) refl)
 
-pub behind-all : (P : Entry → Type 0) (hash key : ℕ) (e : Entry) (l : List Entry) → P e → ((x : Entry) → In x l → P x) → (x : Entry) → In x (behind hash key e l) → P x
+pub behind-all : (P : Entry → Type 0) (hash key : ℕ) (e : Entry) (l : List Entry) → P e → ((x : Entry) → In x l → P x) → (x : Entry)
+    → In x (behind hash key e l) → P x
 unfolding behind
 behind-all P hash key e [] q h x i = h x i
 behind-all P hash key e (y ∷ l) q h x i = go (isPair hash key y) i (λ j. behind-all P hash key e l q (λ z w. h z (later w)) x j)
@@ -222,7 +228,13 @@ module _ (e : Entry) (l : List Entry) (r : Distinct l) (i : In e l) where
   length-without =
       let less : without (e .hash) (e .key) l ≡ split-at .lower ++ split-at .upper =
       ap (without (e .hash) (e .key)) (split-at .is) ∙ without-at e (split-at .lower) (split-at .upper) alone in
-      omega (arith, ap length less, ap length (split-at .is), length-append (split-at .lower) (split-at .upper), length-append (split-at .lower) (e ∷ split-at .upper))
+      omega (
+        arith,
+        ap length less,
+        ap length (split-at .is),
+        length-append (split-at .lower) (split-at .upper),
+        length-append (split-at .lower) (e ∷ split-at .upper),
+      )
 
   moves : (p : ℕ) → withPlace (e .hash) (e .key) p l ≡ split-at .lower ++ (entry (e .hash) (e .key) p ∷ split-at .upper)
   moves p = ap (withPlace (e .hash) (e .key) p) (split-at .is) ∙ with-at e p (split-at .lower) (split-at .upper) alone

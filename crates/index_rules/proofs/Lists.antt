@@ -30,12 +30,15 @@ use Rattle.index_rules.proofs.Listing.{Distinct, nobody, another, disti
 use Rattle.index_rules.proofs.Holding.{map-append, entry-is, entry-as, map-same, split, in-map, Slotted, map-in, lacks-map}
 use Rattle.index_rules.proofs.Placing.{Placed, placed-map, slot-one, placed-own}
 
-distinct-map : (t : Live) (l : List ℕ) → ((k : ℕ) → times k l ≤ 1) → ((j k : ℕ) → 1 ≤ times j l → 1 ≤ times k l → pairOf (t .names) j ≡ pairOf (t .names) k → j ≡ k)
+distinct-map : (t : Live) (l : List ℕ) → ((k : ℕ) → times k l ≤ 1)
+    → ((j k : ℕ) → 1 ≤ times j l → 1 ≤ times k l → pairOf (t .names) j ≡ pairOf (t .names) k → j ≡ k)
     → Distinct (map (entryOf t) l)
 distinct-map t [] once only = nobody
 distinct-map t (x ∷ l) once only =
-    another (lacks-map t l (nameOf (t .names) x hashPart) (nameOf (t .names) x keyPart) (λ k z e. away k z (only k x (omega (arith, times-rest k x l)) (omega (arith, times-head x l)) e)))
-    (distinct-map t l (λ k. omega (arith, once k, times-rest k x l)) (λ j k z w e. only j k (omega (arith, times-rest j x l)) (omega (arith, times-rest k x l)) e))
+    another (lacks-map t l (nameOf (t .names) x hashPart) (nameOf (t .names) x keyPart)
+    (λ k z e. away k z (only k x (omega (arith, times-rest k x l)) (omega (arith, times-head x l)) e)))
+    (distinct-map t l (λ k. omega (arith, once k, times-rest k x l))
+    (λ j k z w e. only j k (omega (arith, times-rest j x l)) (omega (arith, times-rest k x l)) e))
   where
     away : (k : ℕ) → 1 ≤ times k l → k ≡ x → ⊥
     away k z e = let m : times k l ≡ times x l = ap (λ (j : ℕ). times j l) e in omega (arith, once x, times-head x l)
@@ -63,7 +66,8 @@ module _ {t : Live} (h : Sound t) where
   pub listing-length : length (listing h) ≡ length (contents h)
   listing-length =
       length-map (h .chain) (entryOf t)
-      ∙ exactly-length (slotsOf (t .names)) (h .chain) (λ k z. chain-inside (slotsOf (t .names)) (t .cells) (h .t7 .linked) z) (used (t .cells)) (h .t7 .all)
+      ∙ exactly-length (slotsOf (t .names)) (h .chain) (λ k z. chain-inside (slotsOf (t .names)) (t .cells) (h .t7 .linked) z)
+      (used (t .cells)) (h .t7 .all)
       ∙ sym (exactly-length (slotsOf (t .names)) (slots (h .tree)) (tree-inside h) (used (t .cells)) (h .t3 .all))
       ∙ sym (length-map (slots (h .tree)) (entryOf t))
 
@@ -104,7 +108,8 @@ module _ {t u : Live} {h : Sound t} {x y hash key p : ℕ} (fit : Fit t) (g : Gr
           let same : entryOf u y ≡ entryOf t y = entry-is t u y (stays .pairs) (stays .places) in
           let after-is : listing (g .sound) ≡ map (entryOf t) a ++ (entryOf t y ∷ (entry hash key p ∷ map (entryOf t) b)) =
           ap (map (entryOf u)) q ∙ map-append u a (y ∷ (x ∷ b)) ∙ (λ i. lower i ++ (same i ∷ (own i ∷ upper i))) in
-          let before-is : listing h ≡ map (entryOf t) a ++ (entryOf t y ∷ map (entryOf t) b) = ap (map (entryOf t)) f ∙ map-append t a (y ∷ b) in
+          let before-is : listing h ≡ map (entryOf t) a ++ (entryOf t y ∷ map (entryOf t) b) =
+          ap (map (entryOf t)) f ∙ map-append t a (y ∷ b) in
           after-is
           ∙ sym (behind-at (entryOf t y) (entry hash key p) (map (entryOf t) a) (map (entryOf t) b)
           (distinct-lower (entryOf t y) (map (entryOf t) a) (map (entryOf t) b) (rw before-is at (listing-distinct h fit))))
@@ -131,7 +136,9 @@ removal-notes {t} fit h x hash key z n = go (member x (h .chain) (in-chain h x z
     is = λ i. entry (n i .hash) (n i .key) (cell (t .cells) x place)
 
     go : (m : List ℕ) × OneFewer x (h .chain) m → Notes (entry hash key (cell (t .cells) x place)) (listing h) (removalOf t hash key x)
-    go (m, o) = by (chain-last (o .before) x (o .after) (subst (λ (l : List ℕ). Chain (slotsOf (t .names)) (t .cells) null (firstOf t) l) (o .whole) (h .t7 .linked)))
+    go (m, o) =
+        by (chain-last (o .before) x (o .after)
+        (subst (λ (l : List ℕ). Chain (slotsOf (t .names)) (t .cells) null (firstOf t) l) (o .whole) (h .t7 .linked)))
       where
         whole : listing h ≡ map (entryOf t) (o .before) ++ (entryOf t x ∷ map (entryOf t) (o .after))
         whole = ap (map (entryOf t)) (o .whole) ∙ map-append t (o .before) (x ∷ o .after)
@@ -139,17 +146,32 @@ removal-notes {t} fit h x hash key z n = go (member x (h .chain) (in-chain h x z
         by : ((cell (t .cells) x prev ≡ null) × (o .before ≡ [])) ⊎ ((c : List ℕ) × (o .before ≡ c ++ (cell (t .cells) x prev ∷ [])))
             → Notes (entry hash key (cell (t .cells) x place)) (listing h) (removalOf t hash key x)
         by (inl e) =
-            rw (pick-eq (plainLine removeKind hash key (cell (t .cells) x place)) (notedLine hash key (cell (t .cells) x place) (nameOf (t .names) (cell (t .cells) x prev) hashPart) (nameOf (t .names) (cell (t .cells) x prev) keyPart)) (e .0))
+            rw (pick-eq (plainLine removeKind hash key (cell (t .cells) x place))
+            (notedLine hash key (cell (t .cells) x place) (nameOf (t .names) (cell (t .cells) x prev) hashPart)
+            (nameOf (t .names) (cell (t .cells) x prev) keyPart)) (e .0))
             (none (map (entryOf t) (o .after)) (whole ∙ (λ i. map (entryOf t) (e .1 i) ++ (is i ∷ map (entryOf t) (o .after)))))
         by (inr (c, e)) =
             let there : 1 ≤ times (cell (t .cells) x prev) (h .chain) =
-            rw (o .whole) (omega (arith, times-append (cell (t .cells) x prev) (o .before) (x ∷ o .after), ap (λ (l : List ℕ). times (cell (t .cells) x prev) l) e, times-append (cell (t .cells) x prev) c (cell (t .cells) x prev ∷ []), times-head (cell (t .cells) x prev) [])) in
-            let d : cell (t .cells) x prev ≢ null = λ q. omega (arith, chain-inside (slotsOf (t .names)) (t .cells) (h .t7 .linked) there, small fit) in
-            let lower : map (entryOf t) (o .before) ≡ map (entryOf t) c ++ (entryOf t (cell (t .cells) x prev) ∷ []) = ap (map (entryOf t)) e ∙ map-append t c (cell (t .cells) x prev ∷ []) in
-            let all : listing h ≡ map (entryOf t) c ++ (entryOf t (cell (t .cells) x prev) ∷ (entry hash key (cell (t .cells) x place) ∷ map (entryOf t) (o .after))) =
+            rw (o .whole) (omega (
+              arith,
+              times-append (cell (t .cells) x prev) (o .before) (x ∷ o .after),
+              ap (λ (l : List ℕ). times (cell (t .cells) x prev) l) e,
+              times-append (cell (t .cells) x prev) c (cell (t .cells) x prev ∷ []),
+              times-head (cell (t .cells) x prev) [],
+            )) in
+            let d : cell (t .cells) x prev ≢ null =
+            λ q. omega (arith, chain-inside (slotsOf (t .names)) (t .cells) (h .t7 .linked) there, small fit) in
+            let lower : map (entryOf t) (o .before) ≡ map (entryOf t) c ++ (entryOf t (cell (t .cells) x prev) ∷ []) =
+            ap (map (entryOf t)) e ∙ map-append t c (cell (t .cells) x prev ∷ []) in
+            let all : listing h
+            ≡ map (entryOf t) c
+            ++ (entryOf t (cell (t .cells) x prev) ∷ (entry hash key (cell (t .cells) x place) ∷ map (entryOf t) (o .after))) =
             whole ∙ (λ i. lower i ++ (is i ∷ map (entryOf t) (o .after)))
-            ∙ append-assoc (map (entryOf t) c) (entryOf t (cell (t .cells) x prev) ∷ []) (entry hash key (cell (t .cells) x place) ∷ map (entryOf t) (o .after)) in
-            rw (pick-ne (plainLine removeKind hash key (cell (t .cells) x place)) (notedLine hash key (cell (t .cells) x place) (nameOf (t .names) (cell (t .cells) x prev) hashPart) (nameOf (t .names) (cell (t .cells) x prev) keyPart)) d)
+            ∙ append-assoc (map (entryOf t) c) (entryOf t (cell (t .cells) x prev) ∷ [])
+            (entry hash key (cell (t .cells) x place) ∷ map (entryOf t) (o .after)) in
+            rw (pick-ne (plainLine removeKind hash key (cell (t .cells) x place))
+            (notedLine hash key (cell (t .cells) x place) (nameOf (t .names) (cell (t .cells) x prev) hashPart)
+            (nameOf (t .names) (cell (t .cells) x prev) keyPart)) d)
             (one (map (entryOf t) c) (map (entryOf t) (o .after)) (entryOf t (cell (t .cells) x prev)) all)
 
 -- A slot that is placed anew.
@@ -157,4 +179,5 @@ pub placed-listing : {t u : Live} {h : Sound t} {x p : ℕ} → Fit t → (g : P
     → pairOf (t .names) x ≡ pair hash key → listing (g .sound) ≡ withPlace hash key p (listing h)
 placed-listing {t} {u} {h} {x} {p} fit g z hash key n =
     ap (map (entryOf u)) (g .chain)
-    ∙ placed-map t u x hash key p (h .chain) (placed-own g hash key n) n (g .others) (λ j w m. slot-one fit h hash key x j z n (in-tree h j w) m) (chain-is-once h fit x)
+    ∙ placed-map t u x hash key p (h .chain) (placed-own g hash key n) n (g .others)
+    (λ j w m. slot-one fit h hash key x j z n (in-tree h j w) m) (chain-is-once h fit x)

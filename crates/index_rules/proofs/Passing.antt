@@ -32,16 +32,19 @@ head-back : {n q j : ℕ} {cells m : List ℕ} → Chain n cells q j m → j ≢
 head-back (ended e) f = absurd (f e)
 head-back (linked w p c) f = p
 
-chain-next : {n q i : ℕ} {cells l : List ℕ} (k : ℕ) → Chain n cells q i l → 1 ≤ times k l → cell cells k next ≢ null → cell cells (cell cells k next) prev ≡ k
+chain-next : {n q i : ℕ} {cells l : List ℕ} (k : ℕ) → Chain n cells q i l → 1 ≤ times k l → cell cells k next ≢ null
+    → cell cells (cell cells k next) prev ≡ k
 unfolding times
 chain-next k (ended e) z d = absurd (omega arith)
-chain-next {cells = cells} k (linked {i = i} {l = l} w p c) z d = times-cases k i l z (λ e. rw e (head-back c (λ y. d (rw e y)))) (λ y. chain-next k c y d)
+chain-next {cells = cells} k (linked {i = i} {l = l} w p c) z d =
+    times-cases k i l z (λ e. rw e (head-back c (λ y. d (rw e y)))) (λ y. chain-next k c y d)
 
 chain-back : {n q i : ℕ} {cells l : List ℕ} (k : ℕ) → Chain n cells q i l → 1 ≤ times k l
     → ((cell cells k prev ≡ q) × (k ≡ i)) ⊎ (cell cells (cell cells k prev) next ≡ k)
 unfolding times
 chain-back k (ended e) z = absurd (omega arith)
-chain-back {q = q} {cells = cells} k (linked {i = i} {l = l} w p c) z = times-cases k i l z (λ e. inl (rw e p, e)) (λ y. go (chain-back k c y))
+chain-back {q = q} {cells = cells} k (linked {i = i} {l = l} w p c) z =
+    times-cases k i l z (λ e. inl (rw e p, e)) (λ y. go (chain-back k c y))
   where
     go : ((cell cells k prev ≡ i) × (k ≡ cell cells i next)) ⊎ (cell cells (cell cells k prev) next ≡ k)
         → ((cell cells k prev ≡ q) × (k ≡ i)) ⊎ (cell cells (cell cells k prev) next ≡ k)
@@ -104,7 +107,8 @@ record Beside (names cells : List ℕ) (t : Tree) : Type 0 where
 
 module _ (names cells : List ℕ) (few : slotsOf names ≤ null) where
   -- The eight tests at the top of a tree.
-  all-pass : {q : ℕ} {c : Colour} {l r : Tree} {i : ℕ} → Hangs (slotsOf names) cells q (node c l i r) → Calm (node c l i r) → Rising names (slots (node c l i r))
+  all-pass : {q : ℕ} {c : Colour} {l r : Tree} {i : ℕ} → Hangs (slotsOf names) cells q (node c l i r) → Calm (node c l i r)
+      → Rising names (slots (node c l i r))
       → (q ≢ null → (cell cells q left ≡ i) ⊎ (cell cells q right ≡ i)) → Beside names cells (node c l i r) → firstFailing names cells i ≡ 0
   unfolding slots
   all-pass {q} {c} {l} {r} {i} (hangsSome k a b) calm rising above beside =
@@ -116,9 +120,13 @@ module _ (names cells : List ℕ) (few : slotsOf names ≤ null) where
       (h .next-test .1 (beside .nexts i here))
       (h .parent-test .1 (λ d. (let z = above (λ e. d (k .above ∙ e)) in rw (k .above) z)))
       (h .left-parent .1 (λ d. (let z = top-above a (λ e. d (k .lefts ∙ e)) in rw (k .lefts) z)))
-      (h .left-hash .1 (λ d. (let z = rising-before (slots l) i (slots r) (top l) rising (top-in l (λ e. d (k .lefts ∙ e))) in rw (k .lefts) (hash-least _ _ z))))
+      (h .left-hash .1
+      (λ d. (let z = rising-before (slots l) i (slots r) (top l) rising (top-in l (λ e. d (k .lefts ∙ e))) in
+      rw (k .lefts) (hash-least _ _ z))))
       (h .right-parent .1 (λ d. (let z = top-above b (λ e. d (k .rights ∙ e)) in rw (k .rights) z)))
-      (h .right-hash .1 (λ d. (let z = rising-after (slots l) i (slots r) (top r) rising (top-in r (λ e. d (k .rights ∙ e))) in rw (k .rights) (hash-least _ _ z))))
+      (h .right-hash .1
+      (λ d. (let z = rising-after (slots l) i (slots r) (top r) rising (top-in r (λ e. d (k .rights ∙ e))) in
+      rw (k .rights) (hash-least _ _ z))))
       (h .children-red .1 (λ e d f x y. (let z : c ≡ red = red-code c (sym (k .hued) ∙ e) in
       black-top a (λ w. d (k .lefts ∙ w)) (calm-red (rw z at calm) .0) (rw (k .lefts) at x)))))
 
@@ -130,20 +138,35 @@ module _ (names cells : List ℕ) (few : slotsOf names ≤ null) where
   passes hangsNone calm rising above beside v w = let z : v - 0 ≡ v = omega arith in rw z (absent refl)
   passes (hangsSome {c = c} {l} {i} {r} k a b) calm rising above beside v w =
       let n = length-node c l i r in
-      let inside : (j : ℕ) → times j (slots l) + times j (i ∷ slots r) ≡ times j (slots l ++ (i ∷ slots r)) = λ j. sym (times-append j (slots l) (i ∷ slots r)) in
+      let inside : (j : ℕ) → times j (slots l) + times j (i ∷ slots r) ≡ times j (slots l ++ (i ∷ slots r)) =
+      λ j. sym (times-append j (slots l) (i ∷ slots r)) in
       let solid : i ≢ null = omega (arith, k .inside) in
       let here : 1 ≤ times i (slots l ++ (i ∷ slots r)) = omega (arith, inside i, times-head i (slots r)) in
-      let lefts : Beside names cells l = record { links = λ j z. beside .links j (omega (arith, inside j)); nexts = λ j z. beside .nexts j (omega (arith, inside j)); prevs = λ j z. beside .prevs j (omega (arith, inside j)) } in
-      let rights : Beside names cells r = record { links = λ j z. beside .links j (omega (arith, inside j, times-rest j i (slots r))); nexts = λ j z. beside .nexts j (omega (arith, inside j, times-rest j i (slots r))); prevs = λ j z. beside .prevs j (omega (arith, inside j, times-rest j i (slots r))) } in
+      let lefts : Beside names cells l =
+      record {
+        links = λ j z. beside .links j (omega (arith, inside j));
+        nexts = λ j z. beside .nexts j (omega (arith, inside j));
+        prevs = λ j z. beside .prevs j (omega (arith, inside j));
+      } in
+      let rights : Beside names cells r =
+      record {
+        links = λ j z. beside .links j (omega (arith, inside j, times-rest j i (slots r)));
+        nexts = λ j z. beside .nexts j (omega (arith, inside j, times-rest j i (slots r)));
+        prevs = λ j z. beside .prevs j (omega (arith, inside j, times-rest j i (slots r)));
+      } in
       let x : Walks names cells (top l) (v - 1) (passed (v - 1 - length (slots l))) =
       passes a (calm-left calm) (rising-front (slots l) (i ∷ slots r) rising) (λ d e. inl (k .lefts)) lefts (v - 1) (omega (arith, n)) in
       let y : Walks names cells (top r) (v - 1 - length (slots l)) (passed (v - 1 - length (slots l) - length (slots r))) =
-      passes b (calm-right calm) (rising-tail (rising-back (slots l) (i ∷ slots r) rising)) (λ d e. inr (k .rights)) rights (v - 1 - length (slots l)) (omega (arith, n)) in
+      passes b (calm-right calm) (rising-tail (rising-back (slots l) (i ∷ slots r) rising)) (λ d e. inr (k .rights)) rights
+      (v - 1 - length (slots l)) (omega (arith, n)) in
       let x′ : Walks names cells (cell cells i left) (v - 1) (passed (v - 1 - length (slots l))) = rw (k .lefts) x in
-      let y′ : Walks names cells (cell cells i right) (v - 1 - length (slots l)) (passed (v - 1 - length (slots l) - length (slots r))) = rw (k .rights) y in
+      let y′ : Walks names cells (cell cells i right) (v - 1 - length (slots l)) (passed (v - 1 - length (slots l) - length (slots r))) =
+      rw (k .rights) y in
       let some-left : v ≢ 0 = omega (arith, n) in
       let same : v - length (slots l ++ (i ∷ slots r)) ≡ v - 1 - length (slots l) - length (slots r) = omega (arith, n) in
-      rw same (both {m = v - 1 - length (slots l)} solid (k .inside) some-left (beside .links i here) (all-pass (hangsSome k a b) calm rising (above solid) beside) x′ y′)
+      rw same
+      (both {m = v - 1 - length (slots l)} solid (k .inside) some-left (beside .links i here)
+      (all-pass (hangsSome k a b) calm rising (above solid) beside) x′ y′)
 
 pub sound-passes : {t : Live} → Fit t → Sound t → checks (unsizedOf t) ≡ nothing
 sound-passes {t} fit h =
@@ -169,7 +192,8 @@ sound-passes {t} fit h =
     in-chain : (k : ℕ) → 1 ≤ times k (slots (h .tree)) → 1 ≤ times k (h .chain)
     in-chain k z = omega (arith, z, h .t3 .all k (inside k z), h .t7 .all k (inside k z))
 
-    back : (k : ℕ) → cell (t .cells) k prev ≢ null → ((cell (t .cells) k prev ≡ null) × (k ≡ firstOf t)) ⊎ (cell (t .cells) (cell (t .cells) k prev) next ≡ k)
+    back : (k : ℕ) → cell (t .cells) k prev ≢ null
+        → ((cell (t .cells) k prev ≡ null) × (k ≡ firstOf t)) ⊎ (cell (t .cells) (cell (t .cells) k prev) next ≡ k)
         → cell (t .cells) (cell (t .cells) k prev) next ≡ k
     back k d (inl e) = absurd (d (e .0))
     back k d (inr e) = e

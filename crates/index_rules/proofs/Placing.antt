@@ -26,20 +26,25 @@ use Rattle.index_rules.specs.Calls.{OthersStay, OnlyPlace}
 use Rattle.index_rules.proofs.Built.{Built}
 use Rattle.index_rules.proofs.Fit.{half}
 use Rattle.index_rules.proofs.Building.{built-sound, built-tree, built-chain}
-use Rattle.index_rules.proofs.Frames.{none-of, tree-inside, same-slots, nowhere-free, sound-count, hangs-frame, chain-frame, roomy-cells}
+use Rattle.index_rules.proofs.Frames.{none-of, tree-inside, same-slots, nowhere-free, sound-count, hangs-frame, chain-frame}
+use Rattle.index_rules.proofs.Frames.{roomy-cells}
 use Rattle.index_rules.proofs.Seeking.{found-at}
 use Rattle.index_rules.proofs.Listing.{is-pair, not-pair}
 use Rattle.index_rules.proofs.Holding.{entry-is, entry-as, map-same}
 
 -- One slot's place is another: the list of entries along any slots, where x is the one slot with the pair.
-pub placed-map : (t u : Live) (x hash key p : ℕ) (l : List ℕ) → entryOf u x ≡ entry hash key p → pairOf (t .names) x ≡ pair hash key → OthersStay t u x
-    → ((j : ℕ) → 1 ≤ times j l → pairOf (t .names) j ≡ pair hash key → j ≡ x) → times x l ≤ 1 → map (entryOf u) l ≡ withPlace hash key p (map (entryOf t) l)
+pub placed-map : (t u : Live) (x hash key p : ℕ) (l : List ℕ) → entryOf u x ≡ entry hash key p → pairOf (t .names) x ≡ pair hash key
+    → OthersStay t u x
+    → ((j : ℕ) → 1 ≤ times j l → pairOf (t .names) j ≡ pair hash key → j ≡ x) → times x l ≤ 1
+    → map (entryOf u) l ≡ withPlace hash key p (map (entryOf t) l)
 unfolding withPlace
 placed-map t u x hash key p [] e n stay only once = refl
 placed-map t u x hash key p (y ∷ l) e n stay only once =
-    go (ℕ-discrete y x) (placed-map t u x hash key p l e n stay (λ j z. only j (omega (arith, times-rest j y l))) (omega (arith, times-rest x y l)))
+    go (ℕ-discrete y x)
+    (placed-map t u x hash key p l e n stay (λ j z. only j (omega (arith, times-rest j y l))) (omega (arith, times-rest x y l)))
   where
-    go : Dec (y ≡ x) → map (entryOf u) l ≡ withPlace hash key p (map (entryOf t) l) → map (entryOf u) (y ∷ l) ≡ withPlace hash key p (map (entryOf t) (y ∷ l))
+    go : Dec (y ≡ x) → map (entryOf u) l ≡ withPlace hash key p (map (entryOf t) l)
+        → map (entryOf u) (y ∷ l) ≡ withPlace hash key p (map (entryOf t) (y ∷ l))
     go (yes q) rest =
         let named : pairOf (t .names) y ≡ pair hash key = rw q n in
         let within : times x (x ∷ l) ≤ 1 = subst (λ (j : ℕ). times x (j ∷ l) ≤ 1) q once in
@@ -50,7 +55,8 @@ placed-map t u x hash key p (y ∷ l) e n stay only once =
     go (no d) rest =
         let s = stay y d in
         let own : entryOf u y ≡ entryOf t y = entry-is t u y (s .pairs) (s .places) in
-        rw (not-pair hash key (entryOf t y) (λ a b. d (only y (omega (arith, times-head y l)) (λ i. pair (a i) (b i))))) (λ i. own i ∷ rest i)
+        rw (not-pair hash key (entryOf t y) (λ a b. d (only y (omega (arith, times-head y l)) (λ i. pair (a i) (b i)))))
+        (λ i. own i ∷ rest i)
 
 -- A write of a slot's place leaves every other word.
 word-away : (cells : List ℕ) (x p j : ℕ) → j ≢ fields * x + place → getD (write cells x place p) j 0 ≡ getD cells j 0
@@ -105,10 +111,13 @@ module _ {t : Live} (fit : Fit t) (h : Sound t) (x p : ℕ) (z : Stands x (h .tr
       }
 
   -- A free slot is another one, and stays cleared.
-  cleared : (k : ℕ) → k < slotsOf (t .names) → times k (slots (h .tree)) ≡ 0 → (cell (placedAt t x p .cells) k state ≡ free) × Cleared (placedAt t x p) k
+  cleared : (k : ℕ) → k < slotsOf (t .names) → times k (slots (h .tree)) ≡ 0
+      → (cell (placedAt t x p .cells) k state ≡ free) × Cleared (placedAt t x p) k
   unfolding placedAt
   cleared k l e =
-      let d : k ≢ x = λ q. (let y : times k (slots (h .tree)) ≡ times x (slots (h .tree)) = ap (λ (j : ℕ). times j (slots (h .tree))) q in omega (arith, z)) in
+      let d : k ≢ x =
+      λ q. (let y : times k (slots (h .tree)) ≡ times x (slots (h .tree)) = ap (λ (j : ℕ). times j (slots (h .tree))) q in
+      omega (arith, z)) in
       let c = h .t1 .cleared k l (nowhere-free h k l e) in (
         across k state refl refl ∙ nowhere-free h k l e,
         record {
@@ -176,11 +185,14 @@ module _ {t : Live} (fit : Fit t) (h : Sound t) (x p : ℕ) (z : Stands x (h .tr
         others = stay;
       }
 
-pub placed-own : {t u : Live} {h : Sound t} {x p : ℕ} (g : Placed t u h x p) (hash key : ℕ) → pairOf (t .names) x ≡ pair hash key → entryOf u x ≡ entry hash key p
-placed-own {t} {u} {h} {x} {p} g hash key n = entry-as u x hash key p (ap (λ (l : List ℕ). pairOf l x) (g .only .names) ∙ n) (g .only .placed)
+pub placed-own : {t u : Live} {h : Sound t} {x p : ℕ} (g : Placed t u h x p) (hash key : ℕ) → pairOf (t .names) x ≡ pair hash key
+    → entryOf u x ≡ entry hash key p
+placed-own {t} {u} {h} {x} {p} g hash key n =
+    entry-as u x hash key p (ap (λ (l : List ℕ). pairOf l x) (g .only .names) ∙ n) (g .only .placed)
 
 pub placed-contents : {t u : Live} {h : Sound t} {x p : ℕ} → Fit t → (g : Placed t u h x p) → Stands x (h .tree) → (hash key : ℕ)
     → pairOf (t .names) x ≡ pair hash key → contents (g .sound) ≡ withPlace hash key p (contents h)
 placed-contents {t} {u} {h} {x} {p} fit g z hash key n =
     ap (λ (r : Tree). map (entryOf u) (slots r)) (g .tree)
-    ∙ placed-map t u x hash key p (slots (h .tree)) (placed-own g hash key n) n (g .others) (λ j w m. slot-one fit h hash key x j z n w m) (h .t3 .rooted .once x)
+    ∙ placed-map t u x hash key p (slots (h .tree)) (placed-own g hash key n) n (g .others) (λ j w m. slot-one fit h hash key x j z n w m)
+    (h .t3 .rooted .once x)

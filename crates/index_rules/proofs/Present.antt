@@ -52,15 +52,18 @@ module _ (ix : Index) (hash key : ℕ) (leaving : ℕ → Index) where
     one : (FitIndex ix → ⊥) → asked ≡ outcome (refused 1) ix → Did
     two : FitIndex ix → (Sound (ix .live) → ⊥) → asked ≡ outcome (refused 2) ix → Did
     four : FitIndex ix → (h : Sound (ix .live)) → (Has (ix .live .names) (h .tree) hash key → ⊥) → asked ≡ outcome (refused 4) ix → Did
-    six : FitIndex ix → (h : Sound (ix .live)) (x : ℕ) → Stands x (h .tree) → pairOf (ix .live .names) x ≡ pair hash key → lengthOf (ix .lines) ≡ linesOf (ix .lines)
+    six : FitIndex ix → (h : Sound (ix .live)) (x : ℕ) → Stands x (h .tree) → pairOf (ix .live .names) x ≡ pair hash key
+        → lengthOf (ix .lines) ≡ linesOf (ix .lines)
         → asked ≡ outcome (refused 6) ix → Did
-    taken : FitIndex ix → (h : Sound (ix .live)) (x : ℕ) → Stands x (h .tree) → pairOf (ix .live .names) x ≡ pair hash key → lengthOf (ix .lines) ≢ linesOf (ix .lines)
+    taken : FitIndex ix → (h : Sound (ix .live)) (x : ℕ) → Stands x (h .tree) → pairOf (ix .live .names) x ≡ pair hash key
+        → lengthOf (ix .lines) ≢ linesOf (ix .lines)
         → asked ≡ outcome (given x) (leaving x) → Did
 
   did : Did
   did = go (fitsIndex ix) refl (sound (ix .live)) refl
     where
-      line : (f : FitIndex ix) (e : fitsIndex ix ≡ true) (s : sound (ix .live) ≡ true) (h : Sound (ix .live)) (x : ℕ) → Stands x (h .tree) → pairOf (ix .live .names) x ≡ pair hash key
+      line : (f : FitIndex ix) (e : fitsIndex ix ≡ true) (s : sound (ix .live) ≡ true) (h : Sound (ix .live)) (x : ℕ) → Stands x (h .tree)
+          → pairOf (ix .live .names) x ≡ pair hash key
           → soughtIn (ix .live) hash key ≡ some x → Dec (lengthOf (ix .lines) ≡ linesOf (ix .lines)) → Did
       line f e s h x z n q (yes l) = six f h x z n l (no-line-six e s x q l)
       line f e s h x z n q (no l) = taken f h x z n l (taken-left e s x q l)
@@ -115,7 +118,8 @@ module _ (ix : Index) (hash key : ℕ) (leaving : ℕ → Index) where
       → FitIndex ix × ((h : Sound (ix .live)) × Has (ix .live .names) (h .tree) hash key × (lengthOf (ix .lines) ≡ linesOf (ix .lines)))
   six-then q = go did
     where
-      go : Did → FitIndex ix × ((h : Sound (ix .live)) × Has (ix .live .names) (h .tree) hash key × (lengthOf (ix .lines) ≡ linesOf (ix .lines)))
+      go : Did
+          → FitIndex ix × ((h : Sound (ix .live)) × Has (ix .live .names) (h .tree) hash key × (lengthOf (ix .lines) ≡ linesOf (ix .lines)))
       go (one n e) = absurd (omega (arith, clash e q))
       go (two f n e) = absurd (omega (arith, clash e q))
       go (four f h n e) = absurd (omega (arith, clash e q))
@@ -123,10 +127,13 @@ module _ (ix : Index) (hash key : ℕ) (leaving : ℕ → Index) where
       go (taken f h y z n l e) = absurd (omega (arith, clash e q))
 
   given-then : (x : ℕ) → asked .answer ≡ given x
-      → FitIndex ix × ((h : Sound (ix .live)) × Stands x (h .tree) × (pairOf (ix .live .names) x ≡ pair hash key) × (lengthOf (ix .lines) < linesOf (ix .lines)))
+      → FitIndex ix
+      × ((h : Sound (ix .live)) × Stands x (h .tree) × (pairOf (ix .live .names) x ≡ pair hash key)
+      × (lengthOf (ix .lines) < linesOf (ix .lines)))
   given-then x q = go did
     where
-      go : Did → FitIndex ix × ((h : Sound (ix .live)) × Stands x (h .tree) × (pairOf (ix .live .names) x ≡ pair hash key) × (lengthOf (ix .lines) < linesOf (ix .lines)))
+      go : Did → FitIndex ix × ((h : Sound (ix .live)) × Stands x (h .tree) × (pairOf (ix .live .names) x ≡ pair hash key)
+          × (lengthOf (ix .lines) < linesOf (ix .lines)))
       go (one n e) = absurd (omega (arith, clash e q))
       go (two f n e) = absurd (omega (arith, clash e q))
       go (four f h n e) = absurd (omega (arith, clash e q))
@@ -165,16 +172,22 @@ module _ (ix : Index) (hash key : ℕ) (leaving : ℕ → Index) where
       record {
         one = (one-then, λ n. answer (unfit-one (unfit-false ix n)));
         two = (two-then, λ r. answer (damaged-two (index-fits ix (r .0)) (unsound-false ix (r .0) (r .1))));
-        four = (four-then, λ r. (let h = r .1 .0 in answer (absent-four (index-fits ix (r .0)) (sound-yes (r .0 .tree) h) (sought-none (r .0 .tree) h hash key (r .1 .1)))));
+        four = (
+          four-then,
+          λ r. (let h = r .1 .0 in
+              answer (absent-four (index-fits ix (r .0)) (sound-yes (r .0 .tree) h) (sought-none (r .0 .tree) h hash key (r .1 .1)))),
+        );
         six = (
           six-then,
           λ r. (let h = r .1 .0 in let a = r .1 .1 in
-              answer (no-line-six (index-fits ix (r .0)) (sound-yes (r .0 .tree) h) (a .slot) (sought-at (r .0 .tree) h hash key (a .slot) (a .stands) (a .named)) (r .1 .2))),
+              answer (no-line-six (index-fits ix (r .0)) (sound-yes (r .0 .tree) h) (a .slot)
+              (sought-at (r .0 .tree) h hash key (a .slot) (a .stands) (a .named)) (r .1 .2))),
         );
         accepted = λ x. (
           given-then x,
           λ r. (let h = r .1 .0 in
-              answer (taken-left (index-fits ix (r .0)) (sound-yes (r .0 .tree) h) x (sought-at (r .0 .tree) h hash key x (r .1 .1) (r .1 .2))
+              answer (taken-left (index-fits ix (r .0)) (sound-yes (r .0 .tree) h) x
+              (sought-at (r .0 .tree) h hash key x (r .1 .1) (r .1 .2))
               (omega (arith, r .1 .3)))),
         );
         nothing-written = nothing-written;

@@ -77,16 +77,19 @@ module _ {t : Live} (fit : Fit t) (h : Sound t) where
   placed-at : (k hash key : ℕ) → k < length (slots (h .tree)) → pairOf (t .names) (nth k) ≡ pair hash key → StandsAt k hash key (contents h)
   placed-at k hash key l e =
       let s = split-nth (slots (h .tree)) k l in
-      let is : entryOf t (nth k) ≡ entry hash key (cell (t .cells) (nth k) place) = λ i. entry (e i .hash) (e i .key) (cell (t .cells) (nth k) place) in
+      let is : entryOf t (nth k) ≡ entry hash key (cell (t .cells) (nth k) place) =
+      λ i. entry (e i .hash) (e i .key) (cell (t .cells) (nth k) place) in
       record {
         lower = map (entryOf t) (s .0);
         upper = map (entryOf t) (s .1);
         at = cell (t .cells) (nth k) place;
-        is = ap (map (entryOf t)) (s .2) ∙ map-splits t (s .0) (s .1) (nth k) ∙ (λ i. map (entryOf t) (s .0) ++ (is i ∷ map (entryOf t) (s .1)));
+        is = ap (map (entryOf t)) (s .2) ∙ map-splits t (s .0) (s .1) (nth k)
+            ∙ (λ i. map (entryOf t) (s .0) ++ (is i ∷ map (entryOf t) (s .1)));
         before = length-map (s .0) (entryOf t) ∙ s .3;
       }
 
-  at-place : (k hash key : ℕ) → StandsAt k hash key (contents h) → (k < length (slots (h .tree))) × (pairOf (t .names) (nth k) ≡ pair hash key)
+  at-place : (k hash key : ℕ) → StandsAt k hash key (contents h)
+      → (k < length (slots (h .tree))) × (pairOf (t .names) (nth k) ≡ pair hash key)
   at-place k hash key s =
       let r = map-nth t (slots (h .tree)) (entry hash key (s .at)) (s .lower) (s .upper) (s .is) in
       let q : entryOf t (nth k) ≡ entry hash key (s .at) = rw (← s .before) (r .1) in
@@ -95,15 +98,19 @@ module _ {t : Live} (fit : Fit t) (h : Sound t) where
   rank-at : (k hash key : ℕ) → k < length (slots (h .tree)) → pairOf (t .names) (nth k) ≡ pair hash key
       → rankFrom n (t .names) (t .cells) (t .sizes) (rootOf t) hash key 0 ≡ some k
   rank-at k hash key l e =
-      ap (λ (p : Pair). rankFrom n (t .names) (t .cells) (t .sizes) (rootOf t) (p .hash) (p .key) 0) (sym e) ∙ weighs .rank (h .t3 .rooted) (h .t8) (h .t4) k l
+      ap (λ (p : Pair). rankFrom n (t .names) (t .cells) (t .sizes) (rootOf t) (p .hash) (p .key) 0) (sym e)
+      ∙ weighs .rank (h .t3 .rooted) (h .t8) (h .t4) k l
 
-  rank-absent : (hash key : ℕ) → (Has (t .names) (h .tree) hash key → ⊥) → rankFrom n (t .names) (t .cells) (t .sizes) (rootOf t) hash key 0 ≡ none
+  rank-absent : (hash key : ℕ) → (Has (t .names) (h .tree) hash key → ⊥)
+      → rankFrom n (t .names) (t .cells) (t .sizes) (rootOf t) hash key 0 ≡ none
   rank-absent hash key no-pair = go (rankFrom n (t .names) (t .cells) (t .sizes) (rootOf t) hash key 0) refl
     where
-      go : (v : Value) → rankFrom n (t .names) (t .cells) (t .sizes) (rootOf t) hash key 0 ≡ v → rankFrom n (t .names) (t .cells) (t .sizes) (rootOf t) hash key 0 ≡ none
+      go : (v : Value) → rankFrom n (t .names) (t .cells) (t .sizes) (rootOf t) hash key 0 ≡ v
+          → rankFrom n (t .names) (t .cells) (t .sizes) (rootOf t) hash key 0 ≡ none
       go none e = e
       go (some v) e =
-          let r = rank-has (t .names) (t .cells) (t .sizes) (omega (arith, fit .each, half fit, small fit)) n hash key 0 v (h .t3 .rooted .hangs)
+          let r =
+          rank-has (t .names) (t .cells) (t .sizes) (omega (arith, fit .each, half fit, small fit)) n hash key 0 v (h .t3 .rooted .hangs)
           (ap (λ (i : ℕ). rankFrom n (t .names) (t .cells) (t .sizes) i hash key 0) (sym (h .t3 .rooted .from)) ∙ e) in
           absurd (no-pair (record { slot = r .0; stands = r .1; named = r .2 }))
 
@@ -141,7 +148,8 @@ module _ (t : Live) (k : ℕ) where
   unfolding kths
   out-fifteen e f l = rw (e, f, le-ltb k (countOf t) l)
 
-  found-slot : (fit : Fit t) (h : Sound t) → fits t ≡ true → sound t ≡ true → k < length (slots (h .tree)) → kths t k ≡ given (getD (slots (h .tree)) k null)
+  found-slot : (fit : Fit t) (h : Sound t) → fits t ≡ true → sound t ≡ true → k < length (slots (h .tree))
+      → kths t k ≡ given (getD (slots (h .tree)) k null)
   unfolding kths
   found-slot fit h e f l =
       rw (e, f, lt-ltb k (countOf t) (omega (arith, many fit h))) (ap given (weighs fit h .kth (h .t3 .rooted) (h .t8) k l))
@@ -167,7 +175,9 @@ module _ (t : Live) (k : ℕ) where
         slot = λ x. (
           slot-then x,
           λ r. (let h = r .1 .0 in
-              found-slot (r .0) h (fit-fits t (r .0)) (sound-yes (r .0) h) (omega (arith, r .1 .1, length-map (slots (h .tree)) (entryOf t))) ∙ ap given (r .1 .2)),
+              found-slot (r .0) h (fit-fits t (r .0)) (sound-yes (r .0) h)
+              (omega (arith, r .1 .1, length-map (slots (h .tree)) (entryOf t)))
+              ∙ ap given (r .1 .2)),
         );
       }
     where
@@ -227,7 +237,8 @@ module _ (t : Live) (hash key : ℕ) where
   unfolding positions
   absent-four fit h n = rw (fit-fits t fit, sound-yes fit h, rank-absent fit h hash key n)
 
-  found-at-position : (fit : Fit t) (h : Sound t) (k : ℕ) → k < length (slots (h .tree)) → pairOf (t .names) (getD (slots (h .tree)) k null) ≡ pair hash key
+  found-at-position : (fit : Fit t) (h : Sound t) (k : ℕ) → k < length (slots (h .tree))
+      → pairOf (t .names) (getD (slots (h .tree)) k null) ≡ pair hash key
       → positions t hash key ≡ given k
   unfolding positions
   found-at-position fit h k l e = rw (fit-fits t fit, sound-yes fit h, rank-at fit h k hash key l e)
@@ -279,13 +290,20 @@ module _ (t : Live) (hash key : ℕ) where
       → Fit t × ((h : Sound t) × (k < length (slots (h .tree))) × (pairOf (t .names) (getD (slots (h .tree)) k null) ≡ pair hash key))
   place-then k q = go position-did
     where
-      go : PositionDid → Fit t × ((h : Sound t) × (k < length (slots (h .tree))) × (pairOf (t .names) (getD (slots (h .tree)) k null) ≡ pair hash key))
+      go : PositionDid
+          → Fit t × ((h : Sound t) × (k < length (slots (h .tree))) × (pairOf (t .names) (getD (slots (h .tree)) k null) ≡ pair hash key))
       go (one n e) = absurd (omega (arith, number (sym q ∙ e)))
       go (two f n e) = absurd (omega (arith, number (sym q ∙ e)))
       go (four f h n e) = absurd (omega (arith, number (sym q ∙ e)))
       go (found f h j l p e) =
-          let same : j ≡ k = given-is (sym e ∙ q) in
-          (f, (h, subst (λ (i : ℕ). i < length (slots (h .tree))) same l, subst (λ (i : ℕ). pairOf (t .names) (getD (slots (h .tree)) i null) ≡ pair hash key) same p))
+          let same : j ≡ k = given-is (sym e ∙ q) in (
+            f,
+            (
+              h,
+              subst (λ (i : ℕ). i < length (slots (h .tree))) same l,
+              subst (λ (i : ℕ). pairOf (t .names) (getD (slots (h .tree)) i null) ≡ pair hash key) same p,
+            ),
+          )
 
   pub position-claims : Positions t hash key
   position-claims =

@@ -1,4 +1,5 @@
--- find and check answer 1 exactly where the words are not fit; on fit words they are the search and the walk, whose answers are none of them 1.
+-- find and check answer 1 exactly where the words are not fit; on fit words they are the search and the walk,
+-- whose answers are none of them 1.
 use mathlib.Core.Path.{_≡_, refl, ap, sym, _∙_}
 use mathlib.Core.Logic.{_↔_}
 use mathlib.Core.Bool.{Bool, true, false}
@@ -66,7 +67,8 @@ module _ (t : Unsized) (hash key : ℕ) where
   unfolding finds
   find-unfit n = go (fitsUnsized t) refl
     where
-      go : (b : Bool) → fitsUnsized t ≡ b → pick (fitsUnsized t) (found (t .names) (t .cells) (rootWord (t .head)) hash key) (ends (refused 1)) ≡ ends (refused 1)
+      go : (b : Bool) → fitsUnsized t ≡ b
+          → pick (fitsUnsized t) (found (t .names) (t .cells) (rootWord (t .head)) hash key) (ends (refused 1)) ≡ ends (refused 1)
       go true z = absurd (n (fits-unsized t z))
       go false z = simp z
 

@@ -27,8 +27,10 @@ module _ (ix : Index) (hash key : ℕ) where
   -- What an accepted removal leaves, of the very tree h.
   Leaves : Sound (ix .live) → ℕ → Index → Type 0
   Leaves h x jx =
-      (g : Sound (jx .live)) × FitIndex jx × (contents g ≡ without hash key (contents h)) × (listing g ≡ without hash key (listing h)) × OneFewer x (h .chain) (g .chain)
-      × ((j : JournalLine) × Notes (entry hash key (cell (ix .live .cells) x place)) (listing h) j × OneLine (ix .lines) (jx .lines) j) × (slotsOf (jx .live .names) ≡ slotsOf (ix .live .names))
+      (g : Sound (jx .live)) × FitIndex jx × (contents g ≡ without hash key (contents h)) × (listing g ≡ without hash key (listing h))
+      × OneFewer x (h .chain) (g .chain)
+      × ((j : JournalLine) × Notes (entry hash key (cell (ix .live .cells) x place)) (listing h) j × OneLine (ix .lines) (jx .lines) j)
+      × (slotsOf (jx .live .names) ≡ slotsOf (ix .live .names))
       × Frees (ix .live) (jx .live) x
 
   leaves : FitIndex ix → (h : Sound (ix .live)) (x : ℕ) → Stands x (h .tree) → pairOf (ix .live .names) x ≡ pair hash key

@@ -26,7 +26,8 @@ module _ (ix : Index) (hash key p : ℕ) where
   -- What an accepted replace leaves, of the very tree h.
   Leaves : Sound (ix .live) → ℕ → Index → Type 0
   Leaves h x jx =
-      (g : Sound (jx .live)) × FitIndex jx × (contents g ≡ withPlace hash key p (contents h)) × (listing g ≡ withPlace hash key p (listing h))
+      (g : Sound (jx .live)) × FitIndex jx × (contents g ≡ withPlace hash key p (contents h))
+      × (listing g ≡ withPlace hash key p (listing h))
       × (g .tree ≡ h .tree) × (g .chain ≡ h .chain)
       × OneLine (ix .lines) (jx .lines) (plainLine replaceKind hash key (bothPlaces p (cell (ix .live .cells) x place)))
       × (slotsOf (jx .live .names) ≡ slotsOf (ix .live .names)) × OnlyPlace (ix .live) (jx .live) x p
@@ -37,7 +38,8 @@ module _ (ix : Index) (hash key p : ℕ) where
   leaves fit h x z n l =
       let g = placed-sound (fit .tree) h x p z in
       let j =
-      one-line (ix .lines) (plainLine replaceKind hash key (bothPlaces p (cell (ix .live .cells) x place))) (omega (arith, fit .within, fit .words, lines-capacity fit)) in (
+      one-line (ix .lines) (plainLine replaceKind hash key (bothPlaces p (cell (ix .live .cells) x place)))
+      (omega (arith, fit .within, fit .words, lines-capacity fit)) in (
         g .sound,
         record {
           tree = g .fit;

@@ -96,7 +96,8 @@ module _ (ix : Index) (m : ℕ) where
     one : (FitIndex ix → ⊥) → rolls ix m ≡ outcome (refused 1) ix → Did
     two : FitIndex ix → (Sound (ix .live) → ⊥) → rolls ix m ≡ outcome (refused 2) ix → Did
     seven : FitIndex ix → Sound (ix .live) → lengthOf (ix .lines) < m → rolls ix m ≡ outcome (refused 7) ix → Did
-    eight : FitIndex ix → (h : Sound (ix .live)) → m ≤ lengthOf (ix .lines) → (Fits (slotsOf (ix .live .names)) (ix .lines) m (lengthOf (ix .lines)) (listing h) → ⊥)
+    eight : FitIndex ix → (h : Sound (ix .live)) → m ≤ lengthOf (ix .lines)
+        → (Fits (slotsOf (ix .live .names)) (ix .lines) m (lengthOf (ix .lines)) (listing h) → ⊥)
         → rolls ix m ≡ outcome (refused 8) ix → Did
     taken : FitIndex ix → (h : Sound (ix .live)) → m ≤ lengthOf (ix .lines) → (t : Live) → unrolled count (ix .live) (ix .lines) m ≡ stays t
         → rolls ix m .answer ≡ given count → ((h : Sound (ix .live)) → Leaves h (rolls ix m)) → Did
@@ -109,7 +110,8 @@ module _ (ix : Index) (m : ℕ) where
       undo f e s h l (stays t) q = taken f h l t q (done-given e s t l q) (done-leaves e s t l q f)
       undo f e s h l misfit q = eight f h l (λ r. not-stays (sym q ∙ of-fits f h l r .1)) (misfit-eight e s l q)
 
-      look : (f : FitIndex ix) (e : fitsIndex ix ≡ true) (s : sound (ix .live) ≡ true) (h : Sound (ix .live)) → Dec (lengthOf (ix .lines) < m) → Did
+      look : (f : FitIndex ix) (e : fitsIndex ix ≡ true) (s : sound (ix .live) ≡ true) (h : Sound (ix .live))
+          → Dec (lengthOf (ix .lines) < m) → Did
       look f e s h (yes l) = seven f h l (mark-seven e s l)
       look f e s h (no l) = undo f e s h (omega arith) (unrolled count (ix .live) (ix .lines) m) refl
 
@@ -156,10 +158,13 @@ module _ (ix : Index) (m : ℕ) where
       go (taken f h l t s e r) = absurd (omega (arith, number (sym q ∙ e)))
 
   eight-then : rolls ix m .answer ≡ refused 8
-      → FitIndex ix × (m ≤ lengthOf (ix .lines)) × ((h : Sound (ix .live)) × (Fits (slotsOf (ix .live .names)) (ix .lines) m (lengthOf (ix .lines)) (listing h) → ⊥))
+      → FitIndex ix × (m ≤ lengthOf (ix .lines))
+      × ((h : Sound (ix .live)) × (Fits (slotsOf (ix .live .names)) (ix .lines) m (lengthOf (ix .lines)) (listing h) → ⊥))
   eight-then q = go did
     where
-      go : Did → FitIndex ix × (m ≤ lengthOf (ix .lines)) × ((h : Sound (ix .live)) × (Fits (slotsOf (ix .live .names)) (ix .lines) m (lengthOf (ix .lines)) (listing h) → ⊥))
+      go : Did
+          → FitIndex ix × (m ≤ lengthOf (ix .lines))
+          × ((h : Sound (ix .live)) × (Fits (slotsOf (ix .live .names)) (ix .lines) m (lengthOf (ix .lines)) (listing h) → ⊥))
       go (one n e) = absurd (omega (arith, clash e q))
       go (two f n e) = absurd (omega (arith, clash e q))
       go (seven f h l e) = absurd (omega (arith, clash e q))
@@ -167,10 +172,13 @@ module _ (ix : Index) (m : ℕ) where
       go (taken f h l t s e r) = absurd (omega (arith, number (sym q ∙ e)))
 
   given-then : (c : ℕ) → rolls ix m .answer ≡ given c
-      → FitIndex ix × (m ≤ lengthOf (ix .lines)) × (c ≡ lengthOf (ix .lines) - m) × ((h : Sound (ix .live)) × Fits (slotsOf (ix .live .names)) (ix .lines) m (lengthOf (ix .lines)) (listing h))
+      → FitIndex ix × (m ≤ lengthOf (ix .lines)) × (c ≡ lengthOf (ix .lines) - m)
+      × ((h : Sound (ix .live)) × Fits (slotsOf (ix .live .names)) (ix .lines) m (lengthOf (ix .lines)) (listing h))
   given-then c q = go did
     where
-      go : Did → FitIndex ix × (m ≤ lengthOf (ix .lines)) × (c ≡ lengthOf (ix .lines) - m) × ((h : Sound (ix .live)) × Fits (slotsOf (ix .live .names)) (ix .lines) m (lengthOf (ix .lines)) (listing h))
+      go : Did
+          → FitIndex ix × (m ≤ lengthOf (ix .lines)) × (c ≡ lengthOf (ix .lines) - m)
+          × ((h : Sound (ix .live)) × Fits (slotsOf (ix .live .names)) (ix .lines) m (lengthOf (ix .lines)) (listing h))
       go (one n e) = absurd (omega (arith, clash e q))
       go (two f n e) = absurd (omega (arith, clash e q))
       go (seven f h l e) = absurd (omega (arith, clash e q))
@@ -224,7 +232,8 @@ module _ (ix : Index) (m : ℕ) where
         done = done;
       }
     where
-      no-undo : FitIndex ix → (h : Sound (ix .live)) → m ≤ lengthOf (ix .lines) → (Fits (slotsOf (ix .live .names)) (ix .lines) m (lengthOf (ix .lines)) (listing h) → ⊥)
+      no-undo : FitIndex ix → (h : Sound (ix .live)) → m ≤ lengthOf (ix .lines)
+          → (Fits (slotsOf (ix .live .names)) (ix .lines) m (lengthOf (ix .lines)) (listing h) → ⊥)
           → unrolled count (ix .live) (ix .lines) m ≡ misfit
       no-undo f h l n = go (unrolled count (ix .live) (ix .lines) m) refl
         where

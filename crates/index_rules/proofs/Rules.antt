@@ -10,7 +10,8 @@ use native.Mathlib.Omega.{arith}
 use lib.ListN.{length}
 use lib.Dec.{eqb, leb}
 use borrow.Author.Tests.{eqb-true, eqb-false, eq-eqb, ne-eqb, leb-true, le-leb}
-use Rattle.slots.specs.Words.{null, pick, place, state, parent, left, right, prev, next, free, cell, nameOf, hashPart, keyPart, Colour, black, red, code}
+use Rattle.slots.specs.Words.{null, pick, place, state, parent, left, right, prev, next, free, cell, nameOf, hashPart, keyPart, Colour}
+use Rattle.slots.specs.Words.{black, red, code}
 use Rattle.slots.specs.Answers.{Value, some, none}
 use Rattle.tree_rules.specs.Check.{inRange, linksIn, LinksNamed}
 use Rattle.tree_rules.specs.Tree.{Tree, slots, times}
@@ -23,7 +24,8 @@ use Rattle.tree_rules.proofs.Rising.{rises-rising}
 use Rattle.tree_rules.proofs.Colouring.{coloured-coloured}
 use Rattle.tree_rules.proofs.Levelling.{level-level}
 use Rattle.index_rules.specs.Live.{Live, Fit, rootOf, firstOf, countOf}
-use Rattle.index_rules.specs.Sound.{used, Cleared, T1, T2, T3, T4, T5, T6, T7, isCleared, slotFine, slotsFine, rule1, agree, rule2, leaves, rule3, rule4, rule5, rule6, rule7}
+use Rattle.index_rules.specs.Sound.{used, Cleared, T1, T2, T3, T4, T5, T6, T7, isCleared, slotFine, slotsFine, rule1, agree, rule2}
+use Rattle.index_rules.specs.Sound.{leaves, rule3, rule4, rule5, rule6, rule7}
 use Rattle.index_rules.proofs.Fit.{both, half}
 use Rattle.tree_rules.specs.Find.{slotsOf}
 
@@ -78,7 +80,12 @@ module _ (t : Live) where
     where
       go : linksIn n (t .cells) i ≡ true → (b : Bool) → eqb (cell (t .cells) i state) free ≡ b
           → pick b (isCleared t i) (leb (cell (t .cells) i state) 2) ≡ true → Fine n i
-      go l true z f = record { links = links-named n (t .cells) i l; states = omega (arith, eqb-true (cell (t .cells) i state) free z); cleared = λ y. is-cleared i f }
+      go l true z f =
+          record {
+            links = links-named n (t .cells) i l;
+            states = omega (arith, eqb-true (cell (t .cells) i state) free z);
+            cleared = λ y. is-cleared i f;
+          }
       go l false z f = record { links = links-named n (t .cells) i l; states = leb-true _ _ f; cleared = λ y. absurd (eqb-false _ _ z y) }
 
   is-fine : (n i : ℕ) → Fine n i → slotFine n t i ≡ true
@@ -123,8 +130,10 @@ module _ (t : Live) where
 
       from : T1 t → rule1 t ≡ true
       from h =
-          and (fine-all (slotsOf (t .names)) (slotsOf (t .names)) (λ i l. record { links = h .links i l; states = h .states i l; cleared = h .cleared i l }))
-          (and (ranged (slotsOf (t .names)) (rootOf t) (h .root)) (and (ranged (slotsOf (t .names)) (firstOf t) (h .first)) (eq-eqb _ _ (h .count))))
+          and (fine-all (slotsOf (t .names)) (slotsOf (t .names))
+          (λ i l. record { links = h .links i l; states = h .states i l; cleared = h .cleared i l }))
+          (and (ranged (slotsOf (t .names)) (rootOf t) (h .root))
+          (and (ranged (slotsOf (t .names)) (firstOf t) (h .first)) (eq-eqb _ _ (h .count))))
 
 -- Two tests agree where one holds exactly if the other does.
 agrees : (a b x y : ℕ) → agree (eqb a b) (eqb x y) ≡ true → (a ≡ b) ↔ (x ≡ y)
@@ -147,8 +156,11 @@ agreed a b x y h = go (ℕ-discrete a b) (ℕ-discrete x y)
 
 pub rule-two : (t : Live) → (rule2 t ≡ true) ↔ T2 t
 unfolding rule2
-rule-two t =
-    (λ e. (let h = both (agree (eqb (rootOf t) null) (eqb (countOf t) 0)) _ e in record { root = agrees _ _ _ _ (h .0); first = agrees _ _ _ _ (h .1) }), λ h. and (agreed _ _ _ _ (h .root)) (agreed _ _ _ _ (h .first)))
+rule-two t = (
+  λ e. (let h = both (agree (eqb (rootOf t) null) (eqb (countOf t) 0)) _ e in
+      record { root = agrees _ _ _ _ (h .0); first = agrees _ _ _ _ (h .1) }),
+  λ h. and (agreed _ _ _ _ (h .root)) (agreed _ _ _ _ (h .first)),
+)
 
 -- A slot with a colour is used.
 pub used-hued : (cells : List ℕ) (k : ℕ) (c : Colour) → cell cells k state ≡ code c → used cells k ≡ 1
@@ -167,12 +179,14 @@ pub all-but : (n l m : ℕ) → l ≤ n → l ≡ m → n - (n - l) ≡ m
 all-but n l m h e = omega arith
 
 -- In a chain only the first slot has no slot before it.
-chain-prev : {n q i k : ℕ} {cells l : List ℕ} → Chain n cells q i l → 1 ≤ times k l → ((cell cells k prev ≡ q) × (k ≡ i)) ⊎ (cell cells k prev < n)
+chain-prev : {n q i k : ℕ} {cells l : List ℕ} → Chain n cells q i l → 1 ≤ times k l
+    → ((cell cells k prev ≡ q) × (k ≡ i)) ⊎ (cell cells k prev < n)
 unfolding times
 chain-prev (ended e) z = absurd (omega arith)
 chain-prev {n} {q} {i} {k} {cells} (linked {l = l} w p c) z = times-cases k i l z (λ e. inl (rw e p, e)) (λ y. go (chain-prev c y))
   where
-    go : ((cell cells k prev ≡ i) × (k ≡ cell cells i next)) ⊎ (cell cells k prev < n) → ((cell cells k prev ≡ q) × (k ≡ i)) ⊎ (cell cells k prev < n)
+    go : ((cell cells k prev ≡ i) × (k ≡ cell cells i next)) ⊎ (cell cells k prev < n)
+        → ((cell cells k prev ≡ q) × (k ≡ i)) ⊎ (cell cells k prev < n)
     go (inl h) = inr (omega (arith, h .0))
     go (inr h) = inr h
 
@@ -190,8 +204,10 @@ module _ {t : Live} (fit : Fit t) (one : T1 t) where
             record {
               rooted = r .1;
               all =
-                  exactly (slotsOf (t .names)) (slots tree) (λ k z. hangs-inside (slotsOf (t .names)) (t .cells) (r .1 .hangs) z) (used (t .cells)) (r .1 .once)
-                  (λ k z. (let s = hangs-stand (slotsOf (t .names)) (t .cells) (r .1 .hangs) z in used-hued (t .cells) k (s .hue) (s .words .hued)))
+                  exactly (slotsOf (t .names)) (slots tree) (λ k z. hangs-inside (slotsOf (t .names)) (t .cells) (r .1 .hangs) z)
+                  (used (t .cells)) (r .1 .once)
+                  (λ k z. (let s = hangs-stand (slotsOf (t .names)) (t .cells) (r .1 .hangs) z in
+                  used-hued (t .cells) k (s .hue) (s .words .hued)))
                   (omega (arith, r .2, h .2, one .count));
             },
           )
@@ -199,8 +215,11 @@ module _ {t : Live} (fit : Fit t) (one : T1 t) where
       from : (tree : Tree) → T3 t tree → rule3 t ≡ true
       from tree h =
           let m = rooted-most (slotsOf (t .names)) (t .cells) (small fit) (rootOf t) (h .rooted) in
-          let c = exactly-length (slotsOf (t .names)) (slots tree) (λ k z. hangs-inside (slotsOf (t .names)) (t .cells) (h .rooted .hangs) z) (used (t .cells)) (h .all) in
-          rw (rooted-reached (slotsOf (t .names)) (t .cells) (small fit) (rootOf t) (h .rooted)) (eq-eqb _ _ (all-but (slotsOf (t .names)) (length (slots tree)) (countOf t) m (c ∙ sym (one .count))))
+          let c =
+          exactly-length (slotsOf (t .names)) (slots tree) (λ k z. hangs-inside (slotsOf (t .names)) (t .cells) (h .rooted .hangs) z)
+          (used (t .cells)) (h .all) in
+          rw (rooted-reached (slotsOf (t .names)) (t .cells) (small fit) (rootOf t) (h .rooted))
+          (eq-eqb _ _ (all-but (slotsOf (t .names)) (length (slots tree)) (countOf t) m (c ∙ sym (one .count))))
 
   module _ {tree : Tree} (three : T3 t tree) where
     pub rule-four : (rule4 t ≡ true) ↔ T4 t tree
@@ -220,7 +239,8 @@ module _ {t : Live} (fit : Fit t) (one : T1 t) where
       → (k : ℕ) → 1 ≤ times k chain → used (t .cells) k ≡ 1
   chain-used c d k z = used-not (t .cells) k (λ e. go e (chain-prev c z))
     where
-      go : cell (t .cells) k state ≡ free → ((cell (t .cells) k prev ≡ null) × (k ≡ firstOf t)) ⊎ (cell (t .cells) k prev < slotsOf (t .names)) → ⊥
+      go : cell (t .cells) k state ≡ free
+          → ((cell (t .cells) k prev ≡ null) × (k ≡ firstOf t)) ⊎ (cell (t .cells) k prev < slotsOf (t .names)) → ⊥
       go e (inl h) = d (rw (h .1) at e)
       go e (inr h) = omega (arith, small fit, one .cleared k (chain-inside (slotsOf (t .names)) (t .cells) c z) e .prevs)
 
@@ -271,9 +291,12 @@ module _ {t : Live} (fit : Fit t) (one : T1 t) where
       from : (chain : List ℕ) → T7 t chain → rule7 t ≡ true
       from chain h =
           let m = chain-most (slotsOf (t .names)) (t .cells) (small fit) (firstOf t) (h .linked) in
-          let c = exactly-length (slotsOf (t .names)) chain (λ k z. chain-inside (slotsOf (t .names)) (t .cells) (h .linked) z) (used (t .cells)) (h .all) in
+          let c =
+          exactly-length (slotsOf (t .names)) chain (λ k z. chain-inside (slotsOf (t .names)) (t .cells) (h .linked) z)
+          (used (t .cells)) (h .all) in
           and (used-first (λ d z. unused d z))
-          (rw (chain-chained (slotsOf (t .names)) (t .cells) (small fit) (firstOf t) (h .linked)) (eq-eqb _ _ (all-but (slotsOf (t .names)) (length chain) (countOf t) m (c ∙ sym (one .count)))))
+          (rw (chain-chained (slotsOf (t .names)) (t .cells) (small fit) (firstOf t) (h .linked))
+          (eq-eqb _ _ (all-but (slotsOf (t .names)) (length chain) (countOf t) m (c ∙ sym (one .count)))))
         where
           unused : firstOf t ≢ null → cell (t .cells) (firstOf t) state ≡ free → ⊥
           unused d z =

@@ -42,11 +42,13 @@ module _ (names cells : List ℕ) (few : slotsOf names ≤ null) (hash key : ℕ
   tail (Rising.rise h r) = r
 
   -- A pair that is sought and lies below another, or above it, by its parts.
-  under : (x i : ℕ) → Sought x → Less (pairOf names x) (pairOf names i) → (hash < nameOf names i hashPart) ⊎ ((hash ≡ nameOf names i hashPart) × (key < nameOf names i keyPart))
+  under : (x i : ℕ) → Sought x → Less (pairOf names x) (pairOf names i)
+      → (hash < nameOf names i hashPart) ⊎ ((hash ≡ nameOf names i hashPart) × (key < nameOf names i keyPart))
   unfolding Less
   under x i s h = subst (λ (p : Pair). Less p (pairOf names i)) s h
 
-  over : (x i : ℕ) → Sought x → Less (pairOf names i) (pairOf names x) → (nameOf names i hashPart < hash) ⊎ ((nameOf names i hashPart ≡ hash) × (nameOf names i keyPart < key))
+  over : (x i : ℕ) → Sought x → Less (pairOf names i) (pairOf names x)
+      → (nameOf names i hashPart < hash) ⊎ ((nameOf names i hashPart ≡ hash) × (nameOf names i keyPart < key))
   unfolding Less
   over x i s h = subst (λ (p : Pair). Less (pairOf names i) p) s h
 
@@ -55,7 +57,8 @@ module _ (names cells : List ℕ) (few : slotsOf names ≤ null) (hash key : ℕ
 
   -- What goes on to a subtree answers for the whole, where the pair can only be there.
   goes : {c : Colour} {l r u : Tree} {i : ℕ} {a : Answer} → Answers u a
-      → ((x : ℕ) → 1 ≤ times x (slots (node c l i r)) → Sought x → 1 ≤ times x (slots u)) → ((x : ℕ) → 1 ≤ times x (slots u) → 1 ≤ times x (slots (node c l i r)))
+      → ((x : ℕ) → 1 ≤ times x (slots (node c l i r)) → Sought x → 1 ≤ times x (slots u))
+      → ((x : ℕ) → 1 ≤ times x (slots u) → 1 ≤ times x (slots (node c l i r)))
       → Answers (node c l i r) a
   goes h into out = record { at = λ x z s. h .at x (into x z s) s; none = λ f. h .none (λ k z s. f k (out k z) s) }
 
@@ -72,7 +75,8 @@ module _ (names cells : List ℕ) (few : slotsOf names ≤ null) (hash key : ℕ
   in-right c l r i x z = omega (arith, times-append x (slots l) (i ∷ slots r), times-rest x i (slots r))
 
   -- Where a sought slot stands in a node: on the left below it, there, or on the right above it.
-  where-is : (c : Colour) (l r : Tree) (i x : ℕ) → Rising names (slots (node c l i r)) → 1 ≤ times x (slots (node c l i r)) → Sought x → {A : Type 0}
+  where-is : (c : Colour) (l r : Tree) (i x : ℕ) → Rising names (slots (node c l i r)) → 1 ≤ times x (slots (node c l i r))
+      → Sought x → {A : Type 0}
       → (1 ≤ times x (slots l) → (hash < nameOf names i hashPart) ⊎ ((hash ≡ nameOf names i hashPart) × (key < nameOf names i keyPart)) → A)
       → (x ≡ i → A)
       → (1 ≤ times x (slots r) → (nameOf names i hashPart < hash) ⊎ ((nameOf names i hashPart ≡ hash) × (nameOf names i keyPart < key)) → A)
@@ -90,13 +94,17 @@ module _ (names cells : List ℕ) (few : slotsOf names ≤ null) (hash key : ℕ
   no-slots (node c l i r) (hangsSome k a b) e x z = omega (arith, k .inside)
 
   -- The answer of a look that goes on, and of one that ends.
-  step-on : {i q : ℕ} (v : ℕ) → i < slotsOf names → looked names cells i hash key ≡ on q → searched names cells (suc v) i hash key .answer ≡ searched names cells v q hash key .answer
+  step-on : {i q : ℕ} (v : ℕ) → i < slotsOf names → looked names cells i hash key ≡ on q
+      → searched names cells (suc v) i hash key .answer ≡ searched names cells v q hash key .answer
   step-on {i} v l e =
-      ap (λ (s : Search). s .answer) (at-slot names cells hash key v i (omega arith) l ∙ ap (λ (o : Look). lookedThen o i (λ q. searched names cells v q hash key)) e)
+      ap (λ (s : Search). s .answer)
+      (at-slot names cells hash key v i (omega arith) l ∙ ap (λ (o : Look). lookedThen o i (λ q. searched names cells v q hash key)) e)
 
-  step-here : {i : ℕ} (v : ℕ) → i < slotsOf names → looked names cells i hash key ≡ here → searched names cells (suc v) i hash key .answer ≡ given i
+  step-here : {i : ℕ} (v : ℕ) → i < slotsOf names → looked names cells i hash key ≡ here
+      → searched names cells (suc v) i hash key .answer ≡ given i
   step-here {i} v l e =
-      ap (λ (s : Search). s .answer) (at-slot names cells hash key v i (omega arith) l ∙ ap (λ (o : Look). lookedThen o i (λ q. searched names cells v q hash key)) e)
+      ap (λ (s : Search). s .answer)
+      (at-slot names cells hash key v i (omega arith) l ∙ ap (λ (o : Look). lookedThen o i (λ q. searched names cells v q hash key)) e)
 
   answered : {t : Tree} {a b : Answer} → a ≡ b → Answers t b → Answers t a
   answered e h = record { at = λ x z s. e ∙ h .at x z s; none = λ f. e ∙ h .none f }
@@ -108,7 +116,8 @@ module _ (names cells : List ℕ) (few : slotsOf names ≤ null) (hash key : ℕ
       → Answers (node c l i r) (searched names cells (suc v) i hash key .answer)
   unfolding looked
   node-seeks c l r i v w el er hl hr rising al ar =
-      go (decLt hash own-hash) (decLt own-hash hash) (ℕ-discrete own-key key) (ℕ-discrete (cell cells i left) null) (ℕ-discrete (cell cells i right) null) (decLt key own-key)
+      go (decLt hash own-hash) (decLt own-hash hash) (ℕ-discrete own-key key) (ℕ-discrete (cell cells i left) null)
+      (ℕ-discrete (cell cells i right) null) (decLt key own-key)
     where
       own-hash : ℕ
       own-hash = nameOf names i hashPart
@@ -122,46 +131,60 @@ module _ (names cells : List ℕ) (few : slotsOf names ≤ null) (hash key : ℕ
       to-left : looked names cells i hash key ≡ on (cell cells i left)
           → ((x : ℕ) → 1 ≤ times x (slots (node c l i r)) → Sought x → 1 ≤ times x (slots l))
           → Answers (node c l i r) (searched names cells (suc v) i hash key .answer)
-      to-left e into = answered (step-on v w e ∙ ap (λ (q : ℕ). searched names cells v q hash key .answer) el) (goes al into (in-left c l r i))
+      to-left e into =
+          answered (step-on v w e ∙ ap (λ (q : ℕ). searched names cells v q hash key .answer) el) (goes al into (in-left c l r i))
 
       to-right : looked names cells i hash key ≡ on (cell cells i right)
           → ((x : ℕ) → 1 ≤ times x (slots (node c l i r)) → Sought x → 1 ≤ times x (slots r))
           → Answers (node c l i r) (searched names cells (suc v) i hash key .answer)
-      to-right e into = answered (step-on v w e ∙ ap (λ (q : ℕ). searched names cells v q hash key .answer) er) (goes ar into (in-right c l r i))
+      to-right e into =
+          answered (step-on v w e ∙ ap (λ (q : ℕ). searched names cells v q hash key .answer) er) (goes ar into (in-right c l r i))
 
-      lefts : ((x : ℕ) → x ≡ i → Sought x → ⊥) → ((nameOf names i hashPart < hash) ⊎ ((nameOf names i hashPart ≡ hash) × (nameOf names i keyPart < key)) → ⊥)
+      lefts : ((x : ℕ) → x ≡ i → Sought x → ⊥)
+          → ((nameOf names i hashPart < hash) ⊎ ((nameOf names i hashPart ≡ hash) × (nameOf names i keyPart < key)) → ⊥)
           → (x : ℕ) → 1 ≤ times x (slots (node c l i r)) → Sought x → 1 ≤ times x (slots l)
       lefts no-own no-right x z s = where-is c l r i x rising z s (λ y h. y) (λ e. absurd (no-own x e s)) (λ y h. absurd (no-right h))
 
-      rights : ((x : ℕ) → x ≡ i → Sought x → ⊥) → ((hash < nameOf names i hashPart) ⊎ ((hash ≡ nameOf names i hashPart) × (key < nameOf names i keyPart)) → ⊥)
+      rights : ((x : ℕ) → x ≡ i → Sought x → ⊥)
+          → ((hash < nameOf names i hashPart) ⊎ ((hash ≡ nameOf names i hashPart) × (key < nameOf names i keyPart)) → ⊥)
           → (x : ℕ) → 1 ≤ times x (slots (node c l i r)) → Sought x → 1 ≤ times x (slots r)
       rights no-own no-left x z s = where-is c l r i x rising z s (λ y h. absurd (no-left h)) (λ e. absurd (no-own x e s)) (λ y h. y)
 
       not-own : (nameOf names i hashPart ≡ hash → nameOf names i keyPart ≡ key → ⊥) → (x : ℕ) → x ≡ i → Sought x → ⊥
       not-own n x e s = let o = own i (subst (λ (j : ℕ). Sought j) e s) in n (o .0) (o .1)
 
-      here-only : nameOf names i hashPart ≡ hash → nameOf names i keyPart ≡ key → (x : ℕ) → 1 ≤ times x (slots (node c l i r)) → Sought x → x ≡ i
+      here-only : nameOf names i hashPart ≡ hash → nameOf names i keyPart ≡ key → (x : ℕ) → 1 ≤ times x (slots (node c l i r))
+          → Sought x → x ≡ i
       here-only eh ek x z s =
           where-is c l r i x rising z s
           (λ y h. absurd (below-not (omega arith) (λ e. omega arith) h))
           (λ e. e)
           (λ y h. absurd (below-not (omega arith) (λ e. omega arith) h))
 
-      go : Dec (hash < nameOf names i hashPart) → Dec (nameOf names i hashPart < hash) → Dec (nameOf names i keyPart ≡ key) → Dec (cell cells i left ≡ null)
-          → Dec (cell cells i right ≡ null) → Dec (key < nameOf names i keyPart) → Answers (node c l i r) (searched names cells (suc v) i hash key .answer)
-      go (yes h) b k x y d = to-left (look .greater h) (lefts (not-own (λ e f. omega arith)) (below-not (omega arith) (λ e. absurd (omega arith))))
-      go (no a) (yes h) k x y d = to-right (look .less h) (rights (not-own (λ e f. omega arith)) (below-not (omega arith) (λ e. absurd (omega arith))))
+      go : Dec (hash < nameOf names i hashPart) → Dec (nameOf names i hashPart < hash) → Dec (nameOf names i keyPart ≡ key)
+          → Dec (cell cells i left ≡ null)
+          → Dec (cell cells i right ≡ null) → Dec (key < nameOf names i keyPart)
+          → Answers (node c l i r) (searched names cells (suc v) i hash key .answer)
+      go (yes h) b k x y d =
+          to-left (look .greater h) (lefts (not-own (λ e f. omega arith)) (below-not (omega arith) (λ e. absurd (omega arith))))
+      go (no a) (yes h) k x y d =
+          to-right (look .less h) (rights (not-own (λ e f. omega arith)) (below-not (omega arith) (λ e. absurd (omega arith))))
       go (no a) (no b) (yes k) x y d =
           let eh : nameOf names i hashPart ≡ hash = omega arith in
-          answered (step-here v w (look .equal eh k)) (record { at = λ j z s. ap given (sym (here-only eh k j z s)); none = λ f. absurd (f i (own-in c l r i) (λ u. pair (eh u) (k u))) })
+          answered (step-here v w (look .equal eh k)) (record {
+            at = λ j z s. ap given (sym (here-only eh k j z s));
+            none = λ f. absurd (f i (own-in c l r i) (λ u. pair (eh u) (k u)));
+          })
       go (no a) (no b) (no k) (yes x) y d =
           let eh : nameOf names i hashPart ≡ hash = omega arith in
           to-right (look .null-left eh k x)
-          (λ j z s. where-is c l r i j rising z s (λ m h. absurd (no-slots l hl (sym el ∙ x) j m)) (λ e. absurd (not-own (λ u f. k f) j e s)) (λ m h. m))
+          (λ j z s. where-is c l r i j rising z s (λ m h. absurd (no-slots l hl (sym el ∙ x) j m))
+          (λ e. absurd (not-own (λ u f. k f) j e s)) (λ m h. m))
       go (no a) (no b) (no k) (no x) (yes y) d =
           let eh : nameOf names i hashPart ≡ hash = omega arith in
           to-left (look .null-right eh k x y)
-          (λ j z s. where-is c l r i j rising z s (λ m h. m) (λ e. absurd (not-own (λ u f. k f) j e s)) (λ m h. absurd (no-slots r hr (sym er ∙ y) j m)))
+          (λ j z s. where-is c l r i j rising z s (λ m h. m) (λ e. absurd (not-own (λ u f. k f) j e s))
+          (λ m h. absurd (no-slots r hr (sym er ∙ y) j m)))
       go (no a) (no b) (no k) (no x) (no y) (yes d) =
           let eh : nameOf names i hashPart ≡ hash = omega arith in
           to-left (look .key-greater eh d x y) (lefts (not-own (λ e f. k f)) (below-not (omega arith) (λ e. omega arith)))
@@ -191,7 +214,8 @@ module _ {t : Live} (fit : Fit t) (h : Sound t) (hash key : ℕ) where
       (seeks (t .names) (t .cells) (small fit) hash key (h .t3 .rooted .hangs) (h .t4) (slotsOf (t .names))
       (rooted-most (slotsOf (t .names)) (t .cells) (small fit) (rootOf t) (h .t3 .rooted)))
 
-  pub found-at : (x : ℕ) → 1 ≤ times x (slots (h .tree)) → pairOf (t .names) x ≡ pair hash key → found (t .names) (t .cells) (rootOf t) hash key .answer ≡ given x
+  pub found-at : (x : ℕ) → 1 ≤ times x (slots (h .tree)) → pairOf (t .names) x ≡ pair hash key
+      → found (t .names) (t .cells) (rootOf t) hash key .answer ≡ given x
   found-at x z s = whole .at x z s
 
   pub found-none : (Has (t .names) (h .tree) hash key → ⊥) → found (t .names) (t .cells) (rootOf t) hash key .answer ≡ nothing

@@ -1,4 +1,5 @@
--- A slot leaves a sound tree: the chain closes around it, the tree gives it up, and its own words, which neither reads any more, are cleared.
+-- A slot leaves a sound tree: the chain closes around it, the tree gives it up, and its own words, which neither reads any more,
+-- are cleared.
 use mathlib.Core.Path.{_≡_, refl, ap, sym, subst, _∙_}
 use mathlib.Core.Logic.{_≢_, _⊎_, inl, inr}
 use mathlib.Core.Bool.{true}
@@ -32,7 +33,11 @@ use Rattle.index_rules.specs.Calls.{Alike, OthersStay, Frees}
 use Rattle.index_rules.proofs.Fit.{half}
 use Rattle.index_rules.proofs.Rules.{small}
 use Rattle.index_rules.proofs.Building.{built-sound, built-tree, built-chain}
-use Rattle.index_rules.proofs.Frames.{Still, none-of, member, off-chain, sound-balanced, tree-inside, same-slots, nowhere-free, sound-count, hangs-frame, chain-frame, chain-behind, chain-starts, rising-frame, rising-without, without-else, without-same, without-length, roomy-cells, roomy-names, name-same, name-across, name-else, roomy-rename, length-rename, headed-length, headed-root, headed-first, headed-count}
+use Rattle.index_rules.proofs.Frames.{Still, none-of, member, off-chain, sound-balanced, tree-inside, same-slots, nowhere-free}
+use Rattle.index_rules.proofs.Frames.{sound-count, hangs-frame, chain-frame, chain-behind, chain-starts, rising-frame}
+use Rattle.index_rules.proofs.Frames.{rising-without, without-else, without-same, without-length, roomy-cells, roomy-names}
+use Rattle.index_rules.proofs.Frames.{name-same, name-across, name-else, roomy-rename, length-rename, headed-length, headed-root}
+use Rattle.index_rules.proofs.Frames.{headed-first, headed-count}
 use Rattle.tree_rules.specs.Find.{slotsOf}
 
 module _ {n : ℕ} {cells : List ℕ} where
@@ -41,7 +46,8 @@ module _ {n : ℕ} {cells : List ℕ} where
   chain-after [] x b (linked w p c) = c
   chain-after (y ∷ a) x b (linked w p c) = chain-after a x b c
 
-  chain-prior : {q i : ℕ} (a : List ℕ) (x : ℕ) (b : List ℕ) → Chain n cells q i (a ++ (x ∷ b)) → ((cell cells x prev ≡ q) × (a ≡ [])) ⊎ (1 ≤ times (cell cells x prev) a)
+  chain-prior : {q i : ℕ} (a : List ℕ) (x : ℕ) (b : List ℕ) → Chain n cells q i (a ++ (x ∷ b))
+      → ((cell cells x prev ≡ q) × (a ≡ [])) ⊎ (1 ≤ times (cell cells x prev) a)
   chain-prior [] x b (linked w p c) = inl (p, refl)
   chain-prior (y ∷ a) x b (linked w p c) = inr (go (chain-prior a x b c))
     where
@@ -55,7 +61,8 @@ pub chain-last : {n q i : ℕ} {cells : List ℕ} (a : List ℕ) (x : ℕ) (b : 
 chain-last [] x b (linked w p r) = inl (p, refl)
 chain-last {cells = cells} (y ∷ a) x b (linked w p r) = inr (go (chain-last a x b r))
   where
-    go : ((cell cells x prev ≡ y) × (a ≡ [])) ⊎ ((c : List ℕ) × (a ≡ c ++ (cell cells x prev ∷ []))) → (c : List ℕ) × (y ∷ a ≡ c ++ (cell cells x prev ∷ []))
+    go : ((cell cells x prev ≡ y) × (a ≡ [])) ⊎ ((c : List ℕ) × (a ≡ c ++ (cell cells x prev ∷ [])))
+        → (c : List ℕ) × (y ∷ a ≡ c ++ (cell cells x prev ∷ []))
     go (inl e) = ([], λ i. sym (e .0) i ∷ e .1 i)
     go (inr e) = (y ∷ e .0, ap (λ (l : List ℕ). y ∷ l) (e .1))
 
@@ -100,12 +107,14 @@ module _ (cells : List ℕ) (x : ℕ) where
         → Chain n cells q i (a ++ (x ∷ b)) → Chain n (unchained cells x) q (skip a i) (a ++ b)
     unfolding skip
     chain-cut {q} [] b once out (linked w p c) =
-        chain-behind (λ k. omega (arith, once k, times-rest k x b)) (λ l. after-prev l ∙ p) (λ k z d. loose-prev k d) (λ k z. loose-next k (λ e. clash k z (e ∙ p))) c
+        chain-behind (λ k. omega (arith, once k, times-rest k x b)) (λ l. after-prev l ∙ p) (λ k z d. loose-prev k d)
+        (λ k z. loose-next k (λ e. clash k z (e ∙ p))) c
       where
         clash : (k : ℕ) → 1 ≤ times k b → k ≢ q
         clash k z = none-of b (omega (arith, times-rest q x b)) z
     chain-cut {q} (y ∷ a) b once out (linked w p c) =
-        linked {l = a ++ b} w (loose-prev y later ∙ p) (rw step (chain-cut a b (λ k. omega (arith, once k, times-rest k y (a ++ (x ∷ b)))) nowhere c))
+        linked {l = a ++ b} w (loose-prev y later ∙ p)
+        (rw step (chain-cut a b (λ k. omega (arith, once k, times-rest k y (a ++ (x ∷ b)))) nowhere c))
       where
         nowhere : times y (a ++ (x ∷ b)) ≡ 0
         nowhere = omega (arith, once y, times-head y (a ++ (x ∷ b)))
@@ -121,9 +130,12 @@ module _ (cells : List ℕ) (x : ℕ) where
         step : cell (unchained cells x) y next ≡ skip a (cell cells y next)
         step = go (chain-prior a x b c)
           where
-            go : ((cell cells x prev ≡ y) × (a ≡ [])) ⊎ (1 ≤ times (cell cells x prev) a) → cell (unchained cells x) y next ≡ skip a (cell cells y next)
+            go : ((cell cells x prev ≡ y) × (a ≡ [])) ⊎ (1 ≤ times (cell cells x prev) a)
+                → cell (unchained cells x) y next ≡ skip a (cell cells y next)
             go (inl e) = prior-next y (e .0) w ∙ ap (λ (j : List ℕ). skip j (cell cells y next)) (sym (e .1))
-            go (inr z) = loose-next y (λ e. none-of {x = y} a (omega (arith, nowhere, times-append y a (x ∷ b))) z (sym e)) ∙ sym (skip-some (cell cells x prev) a (cell cells y next) z)
+            go (inr z) =
+                loose-next y (λ e. none-of {x = y} a (omega (arith, nowhere, times-append y a (x ∷ b))) z (sym e))
+                ∙ sym (skip-some (cell cells x prev) a (cell cells y next) z)
 
 -- What the clearing of x keeps.
 module _ (cells : List ℕ) (x : ℕ) where
@@ -213,23 +225,28 @@ module _ {t : Live} (fit : Fit t) (h : Sound t) (x : ℕ) (here : 1 ≤ times x 
   cut : Chain (slotsOf (t .names)) loose null (skip (t .cells) x front (firstOf t)) (others-chain .0)
   cut =
       subst (λ (l : List ℕ). Chain (slotsOf (t .names)) loose null (skip (t .cells) x front (firstOf t)) l) (sym (others-chain .1 .rest))
-      (chain-cut (t .cells) x long (small fit) front back (λ k. omega (arith, once k, within k, times-append k front (x ∷ back))) no-null whole-chain)
+      (chain-cut (t .cells) x long (small fit) front back (λ k. omega (arith, once k, within k, times-append k front (x ∷ back)))
+      no-null whole-chain)
     where
       no-null : times null (front ++ (x ∷ back)) ≡ 0
       no-null = go (ℕ-discrete (times null (front ++ (x ∷ back))) 0)
         where
           go : Dec (times null (front ++ (x ∷ back)) ≡ 0) → times null (front ++ (x ∷ back)) ≡ 0
           go (yes e) = e
-          go (no d) = let z : 1 ≤ times null (front ++ (x ∷ back)) = omega arith in absurd (omega (arith, small fit, chain-inside (slotsOf (t .names)) (t .cells) whole-chain z))
+          go (no d) =
+              let z : 1 ≤ times null (front ++ (x ∷ back)) = omega arith in
+              absurd (omega (arith, small fit, chain-inside (slotsOf (t .names)) (t .cells) whole-chain z))
 
   first-is : newFirst t x ≡ skip (t .cells) x front (firstOf t)
   unfolding skip
   first-is = go (chain-prior front x back whole-chain)
     where
-      go : ((cell (t .cells) x prev ≡ null) × (front ≡ [])) ⊎ (1 ≤ times (cell (t .cells) x prev) front) → newFirst t x ≡ skip (t .cells) x front (firstOf t)
+      go : ((cell (t .cells) x prev ≡ null) × (front ≡ [])) ⊎ (1 ≤ times (cell (t .cells) x prev) front)
+          → newFirst t x ≡ skip (t .cells) x front (firstOf t)
       go (inl e) = pick-eq _ _ (e .0) ∙ ap (λ (l : List ℕ). skip (t .cells) x l (firstOf t)) (sym (e .1))
       go (inr z) =
-          let l : cell (t .cells) x prev < slotsOf (t .names) = chain-inside (slotsOf (t .names)) (t .cells) (h .t7 .linked) (omega (arith, within (cell (t .cells) x prev))) in
+          let l : cell (t .cells) x prev < slotsOf (t .names) =
+          chain-inside (slotsOf (t .names)) (t .cells) (h .t7 .linked) (omega (arith, within (cell (t .cells) x prev))) in
           let d : cell (t .cells) x prev ≢ null = omega (arith, small fit) in
           pick-ne _ _ d ∙ sym (skip-some (t .cells) x (cell (t .cells) x prev) front (firstOf t) z)
 
@@ -289,14 +306,16 @@ module _ {t : Live} (fit : Fit t) (h : Sound t) (x : ℕ) (here : 1 ≤ times x 
   priors : (cell (t .cells) x prev ≡ null) ⊎ (1 ≤ times (cell (t .cells) x prev) (h .chain))
   priors = go (chain-prior front x back whole-chain)
     where
-      go : ((cell (t .cells) x prev ≡ null) × (front ≡ [])) ⊎ (1 ≤ times (cell (t .cells) x prev) front) → (cell (t .cells) x prev ≡ null) ⊎ (1 ≤ times (cell (t .cells) x prev) (h .chain))
+      go : ((cell (t .cells) x prev ≡ null) × (front ≡ [])) ⊎ (1 ≤ times (cell (t .cells) x prev) front)
+          → (cell (t .cells) x prev ≡ null) ⊎ (1 ≤ times (cell (t .cells) x prev) (h .chain))
       go (inl e) = inl (e .0)
       go (inr z) = inr (omega (arith, within (cell (t .cells) x prev)))
 
   afters : (cell (t .cells) x next ≡ null) ⊎ (1 ≤ times (cell (t .cells) x next) (h .chain))
   afters = go (chain-starts (chain-after front x back whole-chain))
     where
-      go : (cell (t .cells) x next ≡ null) ⊎ (1 ≤ times (cell (t .cells) x next) back) → (cell (t .cells) x next ≡ null) ⊎ (1 ≤ times (cell (t .cells) x next) (h .chain))
+      go : (cell (t .cells) x next ≡ null) ⊎ (1 ≤ times (cell (t .cells) x next) back)
+          → (cell (t .cells) x next ≡ null) ⊎ (1 ≤ times (cell (t .cells) x next) (h .chain))
       go (inl e) = inl e
       go (inr z) = inr (omega (arith, within (cell (t .cells) x next), times-rest (cell (t .cells) x next) x back))
 
@@ -330,7 +349,8 @@ module _ {t : Live} (fit : Fit t) (h : Sound t) (x : ℕ) (here : 1 ≤ times x 
           let s = loose-still (t .cells) x k in
           let c = h .t1 .cleared k l (nowhere-free h k l y) in
           let a : Agree links gone k = removes-slot .spares holds (sound-balanced h) here k y in
-          let w : (f : ℕ) → ltb f fields ≡ true → cell clean k f ≡ cell loose k f = λ f m. wiped-else (gone .cells) x k f d m ∙ a .same f m in (
+          let w : (f : ℕ) → ltb f fields ≡ true → cell clean k f ≡ cell loose k f =
+          λ f m. wiped-else (gone .cells) x k f d m ∙ a .same f m in (
             w state refl ∙ s .states ∙ nowhere-free h k l y,
             record {
               hash = ap (λ (q : Pair). q .hash) (others-stay k d .pairs) ∙ c .hash;
@@ -339,8 +359,10 @@ module _ {t : Live} (fit : Fit t) (h : Sound t) (x : ℕ) (here : 1 ≤ times x 
               parents = w parent refl ∙ s .parents ∙ c .parents;
               lefts = w left refl ∙ s .lefts ∙ c .lefts;
               rights = w right refl ∙ s .rights ∙ c .rights;
-              prevs = w prev refl ∙ loose-prev (t .cells) x k (λ e. off-chain h fit k (cell (t .cells) x next) l y afters (sym e)) ∙ c .prevs;
-              nexts = w next refl ∙ loose-next (t .cells) x k (λ e. off-chain h fit k (cell (t .cells) x prev) l y priors (sym e)) ∙ c .nexts;
+              prevs =
+                  w prev refl ∙ loose-prev (t .cells) x k (λ e. off-chain h fit k (cell (t .cells) x next) l y afters (sym e)) ∙ c .prevs;
+              nexts =
+                  w next refl ∙ loose-next (t .cells) x k (λ e. off-chain h fit k (cell (t .cells) x prev) l y priors (sym e)) ∙ c .nexts;
             },
           )
 
@@ -350,7 +372,8 @@ module _ {t : Live} (fit : Fit t) (h : Sound t) (x : ℕ) (here : 1 ≤ times x 
 
   gone-sized : SizedTree (slotsOf (t .names)) gone (result .0)
   gone-sized =
-      Rattle.redblack.proofs.Claims.claims .keeps-sizes (slotsOf (t .names)) (slotsOf (t .names)) links (h .tree) .removal x holds (sound-balanced h)
+      Rattle.redblack.proofs.Claims.claims .keeps-sizes (slotsOf (t .names)) (slotsOf (t .names)) links (h .tree) .removal x holds
+      (sound-balanced h)
       (record { long = fit .each ∙ sym (half fit); same = h .t8 }) here (omega arith) (result .0) (result .1)
 
   pub shrunk-fit : Fit (shrunk t x)

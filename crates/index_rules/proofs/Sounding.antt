@@ -20,7 +20,8 @@ module _ {t : Live} (fit : Fit t) where
   unfolding sound
   sound-yes h =
       and (rule-one t .1 (h .t1)) (and (rule-two t .1 (h .t2)) (and (rule-three fit (h .t1) .1 (h .tree, h .t3))
-      (and (rule-four fit (h .t1) (h .t3) .1 (h .t4)) (and (rule-five fit (h .t1) (h .t3) .1 (h .t5)) (and (rule-six fit (h .t1) (h .t3) .1 (h .t6))
+      (and (rule-four fit (h .t1) (h .t3) .1 (h .t4))
+      (and (rule-five fit (h .t1) (h .t3) .1 (h .t5)) (and (rule-six fit (h .t1) (h .t3) .1 (h .t6))
       (and (rule-seven fit (h .t1) .1 (h .chain, h .t7)) (rule-eight fit (h .t1) (h .t3) .1 (h .t8))))))))
 
   pub yes-sound : sound t ≡ true → Sound t

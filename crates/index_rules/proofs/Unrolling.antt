@@ -26,7 +26,8 @@ use Rattle.index_rules.specs.Replace.{placedAt}
 use Rattle.index_rules.specs.Rollback.{Undo, stays, misfit, takenBack, putBack, putBehind, placedBack, undone, undoneInto, unrolled}
 use Rattle.index_rules.specs.Checked.{freedBy}
 use Rattle.index_rules.specs.Contents.{Entry, entry, entryOf, contents, listing, without, behind, withPlace, In}
-use Rattle.index_rules.specs.Undoing.{lineEntry, CanReturn, UndoneTo, insertLine, removeLine, behindLine, replaceLine, Undoes, back, down}
+use Rattle.index_rules.specs.Undoing.{lineEntry, CanReturn, UndoneTo, insertLine, removeLine, behindLine, replaceLine, Undoes, back}
+use Rattle.index_rules.specs.Undoing.{down}
 use Rattle.index_rules.proofs.Rules.{small}
 use Rattle.index_rules.proofs.Frames.{length-rename, tree-inside, without-else, without-same}
 use Rattle.index_rules.proofs.Growing.{grown-fit, grown-sound}
@@ -35,7 +36,8 @@ use Rattle.index_rules.proofs.Free.{lowest-free, none-free}
 use Rattle.index_rules.proofs.Deciding.{Seen, there, absent, seen}
 use Rattle.index_rules.proofs.Holding.{contents-length}
 use Rattle.index_rules.proofs.Placing.{placed-sound}
-use Rattle.index_rules.proofs.Lists.{in-chain, stands-listed, listed-stands, listing-lacks, lacking, listing-length, grown-front, grown-behind, shrunk-listing, placed-listing}
+use Rattle.index_rules.proofs.Lists.{in-chain, stands-listed, listed-stands, listing-lacks, lacking, listing-length, grown-front}
+use Rattle.index_rules.proofs.Lists.{grown-behind, shrunk-listing, placed-listing}
 use Rattle.index_rules.proofs.Undoing.{undone-one}
 use Rattle.index_rules.proofs.Seeking.{found-at, found-none}
 use Rattle.tree_rules.specs.Find.{slotsOf}
@@ -89,15 +91,35 @@ free-room {t} fit h = (to, from)
     to : lowestFree t ≢ null → length (listing h) < slotsOf (t .names)
     to d =
         let f = lowest-free t d in
-        omega (arith, listing-length h, contents-length h, h .t1 .count, tally-fewer (slotsOf (t .names)) (lowestFree t) (used (t .cells)) (used-most (t .cells)) (f .inside) (rw (eq-eqb (cell (t .cells) (lowestFree t) state) free (f .unused))))
+        omega (
+          arith,
+          listing-length h,
+          contents-length h,
+          h .t1 .count,
+          tally-fewer (slotsOf (t .names)) (lowestFree t) (used (t .cells)) (used-most (t .cells)) (f .inside)
+              (rw (eq-eqb (cell (t .cells) (lowestFree t) state) free (f .unused))),
+        )
 
     from : length (listing h) < slotsOf (t .names) → lowestFree t ≢ null
     from l e =
         let n = none-free t (small fit) .0 e in
-        omega (arith, listing-length h, contents-length h, h .t1 .count, tally-all (slotsOf (t .names)) (used (t .cells)) (λ k w. rw (ne-eqb (cell (t .cells) k state) free (n k w))))
+        omega (
+          arith,
+          listing-length h,
+          contents-length h,
+          h .t1 .count,
+          tally-all (slotsOf (t .names)) (used (t .cells)) (λ k w. rw (ne-eqb (cell (t .cells) k state) free (n k w))),
+        )
 
 pub listing-most : {t : Live} → Fit t → (h : Sound t) → length (listing h) ≤ slotsOf (t .names)
-listing-most {t} fit h = omega (arith, listing-length h, contents-length h, h .t1 .count, tally-most (slotsOf (t .names)) (used (t .cells)) (used-most (t .cells)))
+listing-most {t} fit h =
+    omega (
+      arith,
+      listing-length h,
+      contents-length h,
+      h .t1 .count,
+      tally-most (slotsOf (t .names)) (used (t .cells)) (used-most (t .cells)),
+    )
 
 -- A slot of a list is one of the list with one more.
 pub still-there : {x : ℕ} {l m : List ℕ} → OneFewer x l m → (k : ℕ) → 1 ≤ times k m → 1 ≤ times k l
@@ -165,16 +187,19 @@ module _ {t : Live} (fit : Fit t) (h : Sound t) (j : JournalLine) where
   record Returned (y : ℕ) (u : Live) : Type 0 where
     can : CanReturn (slotsOf (t .names)) j (listing h)
     front : y ≡ null → Left h u (freedBy t j) (lineEntry j ∷ listing h)
-    behind-one : (priorHash priorKey : ℕ) → y ≢ null → pairOf (t .names) y ≡ pair priorHash priorKey → Left h u (freedBy t j) (behind priorHash priorKey (lineEntry j) (listing h))
+    behind-one : (priorHash priorKey : ℕ) → y ≢ null → pairOf (t .names) y ≡ pair priorHash priorKey
+        → Left h u (freedBy t j) (behind priorHash priorKey (lineEntry j) (listing h))
 
-  returned : (u : Live) (y : ℕ) → (y ≡ null) ⊎ Stands y (h .tree) → putBack t (lowestFree t) (soughtIn t (j .hash) (j .key)) j y ≡ stays u → Returned y u
+  returned : (u : Live) (y : ℕ) → (y ≡ null) ⊎ Stands y (h .tree)
+      → putBack t (lowestFree t) (soughtIn t (j .hash) (j .key)) j y ≡ stays u → Returned y u
   returned u y seat e = go (seen fit h (j .hash) (j .key))
     where
       sits : (y ≡ null) ⊎ Stands y (h .tree) → (y ≡ null) ⊎ (1 ≤ times y (h .chain))
       sits (inl q) = inl q
       sits (inr z) = inr (in-chain h y z)
 
-      placed : (Has (t .names) (h .tree) (j .hash) (j .key) → ⊥) → Dec (lowestFree t ≡ null) → putBack t (lowestFree t) none j y ≡ stays u → Returned y u
+      placed : (Has (t .names) (h .tree) (j .hash) (j .key) → ⊥) → Dec (lowestFree t ≡ null)
+          → putBack t (lowestFree t) none j y ≡ stays u → Returned y u
       placed n (yes d) q = absurd (not-stays (rw (eq-eqb (lowestFree t) null d) at q))
       placed n (no d) q =
           let a = pick-stays _ _ (rw (ne-eqb (lowestFree t) null d) at q) in
@@ -191,7 +216,8 @@ module _ {t : Live} (fit : Fit t) (h : Sound t) (j : JournalLine) where
           record {
             can = record { lacks = listing-lacks h (j .hash) (j .key) n; room = free-room fit h .0 d; small = ltb-true _ _ (a .0) };
             front = λ w. left (lineEntry j ∷ listing h) (grown-front fit g w);
-            behind-one = λ priorHash priorKey w named. left (behind priorHash priorKey (lineEntry j) (listing h)) (grown-behind fit g priorHash priorKey w named);
+            behind-one = λ priorHash priorKey w named. left (behind priorHash priorKey (lineEntry j) (listing h))
+                (grown-behind fit g priorHash priorKey w named);
           }
 
       go : Seen h (j .hash) (j .key) → Returned y u
@@ -203,7 +229,8 @@ module _ {t : Live} (fit : Fit t) (h : Sound t) (j : JournalLine) where
       let r = returned u null (inl refl) e in
       record { after = lineEntry j ∷ listing h; undone = removeLine kind (r .can); left = r .front refl }
 
-  gave-behind : (u : Live) → j .kind ≡ notedKind → putBehind t (lowestFree t) (soughtIn t (j .priorHash) (j .priorKey)) (soughtIn t (j .hash) (j .key)) j ≡ stays u → Stepped h j u
+  gave-behind : (u : Live) → j .kind ≡ notedKind
+      → putBehind t (lowestFree t) (soughtIn t (j .priorHash) (j .priorKey)) (soughtIn t (j .hash) (j .key)) j ≡ stays u → Stepped h j u
   gave-behind u kind e = go (seen fit h (j .priorHash) (j .priorKey))
     where
       go : Seen h (j .priorHash) (j .priorKey) → Stepped h j u
@@ -211,7 +238,8 @@ module _ {t : Live} (fit : Fit t) (h : Sound t) (j : JournalLine) where
       go (there y z n s) =
           let r = returned u y (inr z) (rw s at e) in
           let d : y ≢ null = λ q. omega (arith, tree-inside h y z, small fit) in
-          let is : entryOf t y ≡ entry (j .priorHash) (j .priorKey) (cell (t .cells) y place) = λ i. entry (n i .hash) (n i .key) (cell (t .cells) y place) in
+          let is : entryOf t y ≡ entry (j .priorHash) (j .priorKey) (cell (t .cells) y place) =
+          λ i. entry (n i .hash) (n i .key) (cell (t .cells) y place) in
           record {
             after = behind (j .priorHash) (j .priorKey) (lineEntry j) (listing h);
             undone = behindLine kind (r .can) (cell (t .cells) y place, subst (λ (q : Entry). In q (listing h)) is (stands-listed h y z));
@@ -246,23 +274,34 @@ module _ {t : Live} (fit : Fit t) (h : Sound t) (j : JournalLine) where
           } in
           record {
             after = withPlace (j .hash) (j .key) old-half (listing h);
-            undone = replaceLine {new = new-half} {old = old-half} kind (omega arith) (omega arith) (ltb-true _ _ (b .0)) (subst (λ (r : Entry). In r (listing h)) is (stands-listed h x z));
+            undone = replaceLine {new = new-half} {old = old-half} kind (omega arith) (omega arith) (ltb-true _ _ (b .0))
+                (subst (λ (r : Entry). In r (listing h)) is (stands-listed h x z));
             left = subst (λ (v : Live). Left h v (freedBy t j) (withPlace (j .hash) (j .key) old-half (listing h))) (stays-is (b .1)) left;
           }
 
   pub undone-step : (u : Live) → undone t j ≡ stays u → Stepped h j u
   unfolding undoneInto
   undone-step u e =
-      go (ℕ-discrete (j .kind) insertKind) (ℕ-discrete (j .kind) removeKind) (ℕ-discrete (j .kind) notedKind) (ℕ-discrete (j .kind) replaceKind) e
+      go (ℕ-discrete (j .kind) insertKind) (ℕ-discrete (j .kind) removeKind) (ℕ-discrete (j .kind) notedKind)
+      (ℕ-discrete (j .kind) replaceKind) e
     where
-      go : Dec (j .kind ≡ insertKind) → Dec (j .kind ≡ removeKind) → Dec (j .kind ≡ notedKind) → Dec (j .kind ≡ replaceKind) → undone t j ≡ stays u → Stepped h j u
+      go : Dec (j .kind ≡ insertKind) → Dec (j .kind ≡ removeKind) → Dec (j .kind ≡ notedKind) → Dec (j .kind ≡ replaceKind)
+          → undone t j ≡ stays u → Stepped h j u
       go (yes p) b c d q = took-back u p (rw (eq-eqb (j .kind) insertKind p) at q)
       go (no a) (yes p) c d q = gave-back u p (rw (ne-eqb (j .kind) insertKind a, eq-eqb (j .kind) removeKind p) at q)
-      go (no a) (no b) (yes p) d q = gave-behind u p (rw (ne-eqb (j .kind) insertKind a, ne-eqb (j .kind) removeKind b, eq-eqb (j .kind) notedKind p) at q)
+      go (no a) (no b) (yes p) d q =
+          gave-behind u p (rw (ne-eqb (j .kind) insertKind a, ne-eqb (j .kind) removeKind b, eq-eqb (j .kind) notedKind p) at q)
       go (no a) (no b) (no c) (yes p) q =
-          moved-back u p (rw (ne-eqb (j .kind) insertKind a, ne-eqb (j .kind) removeKind b, ne-eqb (j .kind) notedKind c, eq-eqb (j .kind) replaceKind p) at q)
+          moved-back u p
+          (rw (ne-eqb (j .kind) insertKind a, ne-eqb (j .kind) removeKind b, ne-eqb (j .kind) notedKind c, eq-eqb (j .kind) replaceKind p)
+          at q)
       go (no a) (no b) (no c) (no d) q =
-          absurd (not-stays (rw (ne-eqb (j .kind) insertKind a, ne-eqb (j .kind) removeKind b, ne-eqb (j .kind) notedKind c, ne-eqb (j .kind) replaceKind d) at q))
+          absurd (not-stays (rw (
+            ne-eqb (j .kind) insertKind a,
+            ne-eqb (j .kind) removeKind b,
+            ne-eqb (j .kind) notedKind c,
+            ne-eqb (j .kind) replaceKind d,
+          ) at q))
 
   -- The slot of an entry of the listing is the one that is found.
   sought-slot : {e : Entry} → In e (listing h) → (x : ℕ) × (soughtIn t (e .hash) (e .key) ≡ some x) × (cell (t .cells) x place ≡ e .at)
@@ -277,7 +316,10 @@ module _ {t : Live} (fit : Fit t) (h : Sound t) (j : JournalLine) where
 
   free-of : CanReturn (slotsOf (t .names)) j (listing h) → (soughtIn t (j .hash) (j .key) ≡ none) × (lowestFree t ≢ null)
   unfolding soughtIn
-  free-of c = (ap (λ (r : Answer). r .value) (found-none fit h (j .hash) (j .key) (lacking h (j .hash) (j .key) (c .lacks))), free-room fit h .1 (c .room))
+  free-of c = (
+    ap (λ (r : Answer). r .value) (found-none fit h (j .hash) (j .key) (lacking h (j .hash) (j .key) (c .lacks))),
+    free-room fit h .1 (c .room),
+  )
 
   -- A line that fits is undone.
   pub undone-fits : {l : List Entry} → UndoneTo (slotsOf (t .names)) j (listing h) l → (u : Live) × (undone t j ≡ stays u)
@@ -288,20 +330,42 @@ module _ {t : Live} (fit : Fit t) (h : Sound t) (j : JournalLine) where
   undone-fits (removeLine kind c) =
       let f = free-of c in (
         grown t (lowestFree t) null (j .hash) (j .key) (j .place),
-        rw (ne-eqb (j .kind) insertKind (omega arith), eq-eqb (j .kind) removeKind kind, f .0, ne-eqb (lowestFree t) null (f .1), lt-ltb (j .place) 4294967296 (c .small)),
+        rw (
+          ne-eqb (j .kind) insertKind (omega arith),
+          eq-eqb (j .kind) removeKind kind,
+          f .0,
+          ne-eqb (lowestFree t) null (f .1),
+          lt-ltb (j .place) 4294967296 (c .small),
+        ),
       )
   undone-fits (behindLine kind c i) =
       let f = free-of c in
       let s = sought-slot (i .1) in (
         grown t (lowestFree t) (s .0) (j .hash) (j .key) (j .place),
-        rw (ne-eqb (j .kind) insertKind (omega arith), ne-eqb (j .kind) removeKind (omega arith), eq-eqb (j .kind) notedKind kind, s .1, f .0, ne-eqb (lowestFree t) null (f .1), lt-ltb (j .place) 4294967296 (c .small)),
+        rw (
+          ne-eqb (j .kind) insertKind (omega arith),
+          ne-eqb (j .kind) removeKind (omega arith),
+          eq-eqb (j .kind) notedKind kind,
+          s .1,
+          f .0,
+          ne-eqb (lowestFree t) null (f .1),
+          lt-ltb (j .place) 4294967296 (c .small),
+        ),
       )
   undone-fits (replaceLine {new} {old} kind w a b i) =
       let s = sought-slot i in
       let p : cell (t .cells) (s .0) place ≡ new-half = s .2 ∙ omega arith in
       let q : old-half < 4294967296 = omega arith in (
         placedAt t (s .0) old-half,
-        rw (ne-eqb (j .kind) insertKind (omega arith), ne-eqb (j .kind) removeKind (omega arith), ne-eqb (j .kind) notedKind (omega arith), eq-eqb (j .kind) replaceKind kind, s .1, eq-eqb (cell (t .cells) (s .0) place) new-half p, lt-ltb old-half 4294967296 q),
+        rw (
+          ne-eqb (j .kind) insertKind (omega arith),
+          ne-eqb (j .kind) removeKind (omega arith),
+          ne-eqb (j .kind) notedKind (omega arith),
+          eq-eqb (j .kind) replaceKind kind,
+          s .1,
+          eq-eqb (cell (t .cells) (s .0) place) new-half p,
+          lt-ltb old-half 4294967296 q,
+        ),
       )
 
 -- So many lines undone.
@@ -312,14 +376,17 @@ pub record Rolled {t : Live} (h : Sound t) (lines : List ℕ) (m k : ℕ) (u : L
   pub undoes : Undoes (slotsOf (t .names)) lines m k (listing h) (listing sound)
 
 module _ (lines : List ℕ) (m : ℕ) where
-  one-more : (k : ℕ) {t v u : Live} (h : Sound t) → m ≤ k → (s : Stepped h (lineOf lines k) v) → Rolled (s .left .sound) lines m k u → Rolled h lines m (suc k) u
+  one-more : (k : ℕ) {t v u : Live} (h : Sound t) → m ≤ k → (s : Stepped h (lineOf lines k) v) → Rolled (s .left .sound) lines m k u
+      → Rolled h lines m (suc k) u
   one-more k {t} h w s r =
-      let x : Undoes (slotsOf (t .names)) lines m k (listing (s .left .sound)) (listing (r .sound)) = rw (← s .left .capacity) (r .undoes) in
+      let x : Undoes (slotsOf (t .names)) lines m k (listing (s .left .sound)) (listing (r .sound)) =
+      rw (← s .left .capacity) (r .undoes) in
       record {
         fit = r .fit;
         sound = r .sound;
         capacity = r .capacity ∙ s .left .capacity;
-        undoes = down w (s .undone) (subst (λ (l : List Entry). Undoes (slotsOf (t .names)) lines m k l (listing (r .sound))) (s .left .lists) x);
+        undoes = down w (s .undone)
+            (subst (λ (l : List Entry). Undoes (slotsOf (t .names)) lines m k l (listing (r .sound))) (s .left .lists) x);
       }
 
   pub unrolled-undoes : (c : ℕ) {t : Live} → Fit t → (h : Sound t) (u : Live) → unrolled c t lines m ≡ stays u → Rolled h lines m (m + c) u
@@ -331,15 +398,19 @@ module _ (lines : List ℕ) (m : ℕ) where
       subst (λ (v : Live). Rolled h lines m (m + 0) v) same r
   unrolled-undoes (suc c) {t} fit h u e = go (undone t (lineOf lines (m + c))) refl (λ v g f q. unrolled-undoes c f g u q)
     where
-      go : (o : Undo) → undone t (lineOf lines (m + c)) ≡ o → ((v : Live) (g : Sound v) → Fit v → unrolled c v lines m ≡ stays u → Rolled g lines m (m + c) u) → Rolled h lines m (m + suc c) u
+      go : (o : Undo) → undone t (lineOf lines (m + c)) ≡ o
+          → ((v : Live) (g : Sound v) → Fit v → unrolled c v lines m ≡ stays u → Rolled g lines m (m + c) u)
+          → Rolled h lines m (m + suc c) u
       go (stays v) q rest =
           let z : m + suc c ≡ suc (m + c) = omega arith in
           let s = undone-step fit h (lineOf lines (m + c)) v q in
-          subst (λ (k : ℕ). Rolled h lines m k u) (sym z) (one-more (m + c) h (omega arith) s (rest v (s .left .sound) (s .left .fit) (rw (q, unrolled) at e)))
+          subst (λ (k : ℕ). Rolled h lines m k u) (sym z)
+          (one-more (m + c) h (omega arith) s (rest v (s .left .sound) (s .left .fit) (rw (q, unrolled) at e)))
       go misfit q rest = absurd (not-stays (rw (q, unrolled) at e))
 
   -- And lines that fit are undone.
-  pub undoes-unrolled : (c k : ℕ) {n : ℕ} {l l′ : List Entry} {t : Live} → Undoes n lines m k l l′ → k ≡ m + c → Fit t → (h : Sound t) → l ≡ listing h → n ≡ slotsOf (t .names)
+  pub undoes-unrolled : (c k : ℕ) {n : ℕ} {l l′ : List Entry} {t : Live} → Undoes n lines m k l l′ → k ≡ m + c → Fit t → (h : Sound t)
+      → l ≡ listing h → n ≡ slotsOf (t .names)
       → (u : Live) × (unrolled c t lines m ≡ stays u)
   unfolding unrolled
   undoes-unrolled zero k {t = t} x e fit h q r = (t, refl)

@@ -1,4 +1,5 @@
--- The test of T8 holds exactly where the sizes are those of the tree: the walk asks the slots of the tree, a slot that is none of it is free.
+-- The test of T8 holds exactly where the sizes are those of the tree: the walk asks the slots of the tree,
+-- a slot that is none of it is free.
 use mathlib.Core.Path.{_≡_, refl, ap, sym, _∙_}
 use mathlib.Core.Logic.{_≢_, _↔_}
 use mathlib.Core.Bool.{Bool, true, false}
@@ -40,7 +41,8 @@ module _ (t : Live) where
   fine-frees : (k : ℕ) → freesFine k t ≡ true → (i : ℕ) → i < k → Sizeless i
   unfolding freesFine
   fine-frees zero e i l = absurd (omega arith)
-  fine-frees (suc k) e i l = let h = both (freeFine t k) _ e in go (ℕ-discrete i k) (fine-free k (h .0)) (λ d. fine-frees k (h .1) i (omega arith))
+  fine-frees (suc k) e i l =
+      let h = both (freeFine t k) _ e in go (ℕ-discrete i k) (fine-free k (h .0)) (λ d. fine-frees k (h .1) i (omega arith))
     where
       go : Dec (i ≡ k) → Sizeless k → (i ≢ k → Sizeless i) → Sizeless i
       go (yes z) f rest = rw z f

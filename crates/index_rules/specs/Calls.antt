@@ -27,8 +27,8 @@ called (removeCall hash key) ix = removes ix hash key
 called (replaceCall hash key p) ix = replaces ix hash key p
 called (rollbackCall m) ix = rolls ix m
 
--- "Make any inserts and removes on them, refused ones too, and rollbacks to that mark or later ones", and "allows replaces among the calls":
--- what is left of the two.
+-- "Make any inserts and removes on them, refused ones too, and rollbacks to that mark or later ones", and "allows replaces among the
+-- calls": what is left of the two.
 unfoldable pub after : List Call → Index → Index
 after [] ix = ix
 after (c ∷ cs) ix = after cs (called c ix .left)

@@ -10,7 +10,8 @@ use Rattle.slots.specs.Answers.{Answer, Value, some, none, given, refused}
 use Rattle.tree_rules.specs.Find.{slotsOf}
 use Rattle.index_rules.specs.Live.{Live, countOf}
 use Rattle.index_rules.specs.Sound.{Sound}
-use Rattle.index_rules.specs.Index.{Index, index, FitIndex, Outcome, outcome, fitsIndex, lengthOf, linesOf, JournalLine, insertKind, plainLine, lineOf, appended}
+use Rattle.index_rules.specs.Index.{Index, index, FitIndex, Outcome, outcome, fitsIndex, lengthOf, linesOf, JournalLine, insertKind}
+use Rattle.index_rules.specs.Index.{plainLine, lineOf, appended}
 use Rattle.index_rules.specs.Insert.{freeFrom, soughtIn, grown}
 use Rattle.index_rules.specs.Remove.{afterRemove}
 use Rattle.index_rules.specs.Replace.{afterReplace}
@@ -91,8 +92,8 @@ replacesSound ix hash key p = presentSound ix hash key (afterReplace ix hash key
 unfoldable pub freedBy : Live → JournalLine → ℕ
 freedBy t j = pick (eqb (j .kind) insertKind) (slotIn (soughtIn t (j .hash) (j .key))) null
 
--- So many lines above m undone, from the last down: the next search for a free slot goes on where the last one ended, or at a lower slot that
--- was freed since.
+-- So many lines above m undone, from the last down: the next search for a free slot goes on where the last one ended, or at a lower slot
+-- that was freed since.
 unfoldable pub unrolledFrom : ℕ → ℕ → Live → List ℕ → ℕ → Undo
 unrolledFrom zero f t lines m = stays t
 unrolledFrom (suc c) f t lines m =

@@ -14,11 +14,13 @@ use Rattle.tree_rules.specs.Check.{passed, failed, strayed, Walks}
 use Rattle.index_rules.specs.Live.{Live, Unsized, unsizedOf, Fit, FitUnsized, rootWord, countOf}
 use Rattle.index_rules.specs.Find.{finds}
 use Rattle.index_rules.specs.Check.{checks}
-use Rattle.index_rules.specs.Sound.{Sound, T1, T2, T3, T4, T5, T6, T7, T8, rule1, rule2, rule3, rule4, rule5, rule6, rule7, rule8, sounds}
+use Rattle.index_rules.specs.Sound.{Sound, T1, T2, T3, T4, T5, T6, T7, T8, rule1, rule2, rule3, rule4, rule5, rule6, rule7, rule8}
+use Rattle.index_rules.specs.Sound.{sounds}
 use Rattle.tree_rules.specs.Tree.{Tree, slots, times, Rising}
 use Rattle.redblack.specs.Balance.{OneFewer}
 use Rattle.redblack.specs.Holding.{Stands, Has}
-use Rattle.index_rules.specs.Index.{Index, FitIndex, Outcome, JournalLine, lengthOf, linesOf, at, insertKind, replaceKind, plainLine, bothPlaces}
+use Rattle.index_rules.specs.Index.{Index, FitIndex, Outcome, JournalLine, lengthOf, linesOf, at, insertKind, replaceKind, plainLine}
+use Rattle.index_rules.specs.Index.{bothPlaces}
 use Rattle.index_rules.specs.Insert.{inserts}
 use Rattle.index_rules.specs.Remove.{removes}
 use Rattle.index_rules.specs.Replace.{replaces}
@@ -29,7 +31,8 @@ use Rattle.index_rules.specs.Contents.{Entry, entry, contents, listing, 
 use Rattle.index_rules.specs.Undoing.{Undoes, Fits}
 use Rattle.index_rules.specs.Checked.{NoneBelow, floorAfter, insertsSound, removesSound, replacesSound, rollsSound}
 use Rattle.index_rules.specs.Batch.{FitCalls, batched, batches, singly, acceptedIn, answeredWith}
-use Rattle.index_rules.specs.Calls.{Call, called, after, Allowed, Places, Lowest, NoneFree, Takes, Frees, OnlyPlace, Notes, OneLine, BackTo}
+use Rattle.index_rules.specs.Calls.{Call, called, after, Allowed, Places, Lowest, NoneFree, Takes, Frees, OnlyPlace, Notes, OneLine}
+use Rattle.index_rules.specs.Calls.{BackTo}
 
 -- find on any words, for any pair.
 pub record Finds (t : Unsized) (hash key : ℕ) : Type 0 where
@@ -38,7 +41,8 @@ pub record Finds (t : Unsized) (hash key : ℕ) : Type 0 where
   -- 9 Lost: exactly where the words are fit and the search is lost
   pub nine : (finds t hash key .answer ≡ refused 9) ↔ (FitUnsized t × Lost (t .names) (t .cells) (rootWord (t .head)) hash key)
   -- the slot, and Nothing, exactly where the words are fit and the search comes to them
-  pub at : (slot : ℕ) → (finds t hash key .answer ≡ given slot) ↔ (FitUnsized t × Here (t .names) (t .cells) (rootWord (t .head)) hash key slot)
+  pub at : (slot : ℕ)
+      → (finds t hash key .answer ≡ given slot) ↔ (FitUnsized t × Here (t .names) (t .cells) (rootWord (t .head)) hash key slot)
   pub none : (finds t hash key .answer ≡ nothing) ↔ (FitUnsized t × Missed (t .names) (t .cells) (rootWord (t .head)) hash key)
   -- 1 has no looks; on fit words they are the slots that the search follows from the root, in order
   pub unfit-looks : (FitUnsized t → ⊥) → finds t hash key .looks ≡ []
@@ -50,8 +54,11 @@ pub record Checks (t : Unsized) : Type 0 where
   -- "9": the root or one of a node's own five links out of range, or more visits than slots, where the walk comes to it
   pub nine : (checks t ≡ refused 9) ↔ (FitUnsized t × Walks (t .names) (t .cells) (rootWord (t .head)) (slotsOf (t .names)) strayed)
   -- "Passes, or the first failing test with its slot"
-  pub passes : (checks t ≡ nothing) ↔ (FitUnsized t × ((v : ℕ) × Walks (t .names) (t .cells) (rootWord (t .head)) (slotsOf (t .names)) (passed v)))
-  pub fails : (test slot : ℕ) → (checks t ≡ record { number = 100 + test; value = some slot }) ↔ (FitUnsized t × Walks (t .names) (t .cells) (rootWord (t .head)) (slotsOf (t .names)) (failed test slot))
+  pub passes : (checks t ≡ nothing)
+      ↔ (FitUnsized t × ((v : ℕ) × Walks (t .names) (t .cells) (rootWord (t .head)) (slotsOf (t .names)) (passed v)))
+  pub fails : (test slot : ℕ)
+      → (checks t ≡ record { number = 100 + test; value = some slot })
+      ↔ (FitUnsized t × Walks (t .names) (t .cells) (rootWord (t .head)) (slotsOf (t .names)) (failed test slot))
 
 -- The full check on any words: "yes exactly if sound", and each rule's own test exactly where the rule holds, given those before it.
 pub record Sounds (t : Live) : Type 0 where
@@ -71,7 +78,8 @@ pub record Sounds (t : Live) : Type 0 where
 
 -- find on a sound tree: the slot exactly where the pair is, Nothing exactly where it is not, never 9; and no slot is looked at twice.
 pub record FindsSound (t : Live) (fit : Fit t) (h : Sound t) (hash key : ℕ) : Type 0 where
-  pub at : (slot : ℕ) → (finds (unsizedOf t) hash key .answer ≡ given slot) ↔ (Stands slot (h .tree) × (pairOf (t .names) slot ≡ pair hash key))
+  pub at : (slot : ℕ)
+      → (finds (unsizedOf t) hash key .answer ≡ given slot) ↔ (Stands slot (h .tree) × (pairOf (t .names) slot ≡ pair hash key))
   pub none : (finds (unsizedOf t) hash key .answer ≡ nothing) ↔ (Has (t .names) (h .tree) hash key → ⊥)
   pub never-nine : finds (unsizedOf t) hash key .answer ≡ refused 9 → ⊥
   pub once : (x : ℕ) → times x (finds (unsizedOf t) hash key .looks) ≤ 1
@@ -105,10 +113,14 @@ pub record Inserts (ix : Index) (hash key p : ℕ) : Type 0 where
       ↔ (FitIndex ix × ((h : Sound (ix .live)) × (Has (ix .live .names) (h .tree) hash key → ⊥) × NoneFree (ix .live)))
   -- 6 Journal full, "no line left"
   pub six : (inserts ix hash key p .answer ≡ refused 6)
-      ↔ (FitIndex ix × ((h : Sound (ix .live)) × (Has (ix .live .names) (h .tree) hash key → ⊥) × ((x : ℕ) × Lowest (ix .live) x) × (lengthOf (ix .lines) ≡ linesOf (ix .lines))))
+      ↔ (FitIndex ix
+      × ((h : Sound (ix .live)) × (Has (ix .live .names) (h .tree) hash key → ⊥) × ((x : ℕ) × Lowest (ix .live) x)
+      × (lengthOf (ix .lines) ≡ linesOf (ix .lines))))
   -- accepted exactly else, and it answers the lowest free slot
   pub accepted : (x : ℕ) → (inserts ix hash key p .answer ≡ given x)
-      ↔ (FitIndex ix × ((h : Sound (ix .live)) × (Has (ix .live .names) (h .tree) hash key → ⊥) × Lowest (ix .live) x × (lengthOf (ix .lines) < linesOf (ix .lines))))
+      ↔ (FitIndex ix
+      × ((h : Sound (ix .live)) × (Has (ix .live .names) (h .tree) hash key → ⊥) × Lowest (ix .live) x
+      × (lengthOf (ix .lines) < linesOf (ix .lines))))
   -- "A refusal .. writes nothing."
   pub nothing-written : (inserts ix hash key p .answer .number ≢ 0) → inserts ix hash key p .left ≡ ix
   -- accepted: sound after, with exactly this entry more, and in front of the listing; the chain is the new slot and then the old chain;
@@ -116,7 +128,8 @@ pub record Inserts (ix : Index) (hash key p : ℕ) : Type 0 where
   pub done : (x : ℕ) → inserts ix hash key p .answer ≡ given x → (h : Sound (ix .live))
       → (g : Sound (inserts ix hash key p .left .live)) × FitIndex (inserts ix hash key p .left)
       × (contents g ≡ put (entry hash key p) (contents h)) × (listing g ≡ entry hash key p ∷ listing h) × (g .chain ≡ x ∷ h .chain)
-      × OneLine (ix .lines) (inserts ix hash key p .left .lines) (plainLine insertKind hash key p) × (slotsOf ((inserts ix hash key p .left .live) .names) ≡ slotsOf (ix .live .names))
+      × OneLine (ix .lines) (inserts ix hash key p .left .lines) (plainLine insertKind hash key p)
+      × (slotsOf ((inserts ix hash key p .left .live) .names) ≡ slotsOf (ix .live .names))
       × Takes (ix .live) (inserts ix hash key p .left .live) x hash key p
 
 -- A call on a pair that has to be there, of outcome o on any words.
@@ -129,7 +142,9 @@ pub record AsksPresent (ix : Index) (hash key : ℕ) (o : Outcome) : Type 0 wher
       ↔ (FitIndex ix × ((h : Sound (ix .live)) × Has (ix .live .names) (h .tree) hash key × (lengthOf (ix .lines) ≡ linesOf (ix .lines))))
   -- accepted exactly else, and it answers the slot that has the pair
   pub accepted : (x : ℕ) → (o .answer ≡ given x)
-      ↔ (FitIndex ix × ((h : Sound (ix .live)) × Stands x (h .tree) × (pairOf (ix .live .names) x ≡ pair hash key) × (lengthOf (ix .lines) < linesOf (ix .lines))))
+      ↔ (FitIndex ix
+      × ((h : Sound (ix .live)) × Stands x (h .tree) × (pairOf (ix .live .names) x ≡ pair hash key)
+      × (lengthOf (ix .lines) < linesOf (ix .lines))))
   pub nothing-written : (o .answer .number ≢ 0) → o .left ≡ ix
 
 -- remove on any words.
@@ -140,18 +155,22 @@ pub record Removes (ix : Index) (hash key : ℕ) : Type 0 where
   pub done : (x : ℕ) → removes ix hash key .answer ≡ given x → (h : Sound (ix .live))
       → (g : Sound (removes ix hash key .left .live)) × FitIndex (removes ix hash key .left)
       × (contents g ≡ without hash key (contents h)) × (listing g ≡ without hash key (listing h)) × OneFewer x (h .chain) (g .chain)
-      × ((j : JournalLine) × Notes (entry hash key (cell (ix .live .cells) x place)) (listing h) j × OneLine (ix .lines) (removes ix hash key .left .lines) j) × (slotsOf ((removes ix hash key .left .live) .names) ≡ slotsOf (ix .live .names))
+      × ((j : JournalLine) × Notes (entry hash key (cell (ix .live .cells) x place)) (listing h) j
+      × OneLine (ix .lines) (removes ix hash key .left .lines) j)
+      × (slotsOf ((removes ix hash key .left .live) .names) ≡ slotsOf (ix .live .names))
       × Frees (ix .live) (removes ix hash key .left .live) x
 
 -- replace on any words, whatever the old place is.
 pub record Replaces (ix : Index) (hash key p : ℕ) : Type 0 where
   pub asks : AsksPresent ix hash key (replaces ix hash key p)
-  -- accepted: sound after, the same tree and chain, with exactly this pair's place changed, where it stands in the listing; exactly one line
-  -- more, of kind 3, with both places; no other word of the tree is another
+  -- accepted: sound after, the same tree and chain, with exactly this pair's place changed, where it stands in the listing; exactly one
+  -- line more, of kind 3, with both places; no other word of the tree is another
   pub done : (x : ℕ) → replaces ix hash key p .answer ≡ given x → (h : Sound (ix .live))
       → (g : Sound (replaces ix hash key p .left .live)) × FitIndex (replaces ix hash key p .left)
-      × (contents g ≡ withPlace hash key p (contents h)) × (listing g ≡ withPlace hash key p (listing h)) × (g .tree ≡ h .tree) × (g .chain ≡ h .chain)
-      × OneLine (ix .lines) (replaces ix hash key p .left .lines) (plainLine replaceKind hash key (bothPlaces p (cell (ix .live .cells) x place)))
+      × (contents g ≡ withPlace hash key p (contents h)) × (listing g ≡ withPlace hash key p (listing h)) × (g .tree ≡ h .tree)
+      × (g .chain ≡ h .chain)
+      × OneLine (ix .lines) (replaces ix hash key p .left .lines)
+      (plainLine replaceKind hash key (bothPlaces p (cell (ix .live .cells) x place)))
       × (slotsOf ((replaces ix hash key p .left .live) .names) ≡ slotsOf (ix .live .names))
       × OnlyPlace (ix .live) (replaces ix hash key p .left .live) x p
 
@@ -163,7 +182,8 @@ pub record Rolls (ix : Index) (m : ℕ) : Type 0 where
   pub seven : (rolls ix m .answer ≡ refused 7) ↔ (FitIndex ix × Sound (ix .live) × (lengthOf (ix .lines) < m))
   -- 8 Misfit, "the lines do not fit"
   pub eight : (rolls ix m .answer ≡ refused 8)
-      ↔ (FitIndex ix × (m ≤ lengthOf (ix .lines)) × ((h : Sound (ix .live)) × (Fits (slotsOf (ix .live .names)) (ix .lines) m (lengthOf (ix .lines)) (listing h) → ⊥)))
+      ↔ (FitIndex ix × (m ≤ lengthOf (ix .lines))
+      × ((h : Sound (ix .live)) × (Fits (slotsOf (ix .live .names)) (ix .lines) m (lengthOf (ix .lines)) (listing h) → ⊥)))
   -- accepted exactly else, and it answers the lines undone
   pub accepted : (c : ℕ) → (rolls ix m .answer ≡ given c)
       ↔ (FitIndex ix × (m ≤ lengthOf (ix .lines)) × (c ≡ lengthOf (ix .lines) - m)
@@ -192,10 +212,12 @@ pub record Batches (ix : Index) (calls answers : List ℕ) : Type 0 where
   pub one : (batches ix calls answers .answer ≡ refused 1) ↔ ((FitIndex ix × FitCalls calls answers) → ⊥)
   pub two : (batches ix calls answers .answer ≡ refused 2) ↔ ((FitIndex ix × FitCalls calls answers) × (Sound (ix .live) → ⊥))
   -- "nothing is done"
-  pub nothing-written : batches ix calls answers .answer .number ≢ 0 → batches ix calls answers ≡ batched (batches ix calls answers .answer) ix answers
+  pub nothing-written : batches ix calls answers .answer .number ≢ 0
+      → batches ix calls answers ≡ batched (batches ix calls answers .answer) ix answers
   -- else it answers how many calls were accepted, each of which has its line
   pub done : FitIndex ix → Sound (ix .live) → (c : FitCalls calls answers)
-      → (batches ix calls answers ≡ batched (given (acceptedIn (singly (c .made) ix))) (after (c .made) ix) (answeredWith (singly (c .made) ix) answers))
+      → (batches ix calls answers
+      ≡ batched (given (acceptedIn (singly (c .made) ix))) (after (c .made) ix) (answeredWith (singly (c .made) ix) answers))
       × (lengthOf (after (c .made) ix .lines) ≡ lengthOf (ix .lines) + acceptedIn (singly (c .made) ix))
 
 -- The k-th call on any words.
@@ -229,17 +251,19 @@ pub record Freshes (ix : Index) : Type 0 where
       × ((j : ℕ) → getD (freshes ix .left .lines) j 0 ≡ 0) × (slotsOf ((freshes ix .left .live) .names) ≡ slotsOf (ix .live .names))
 
 -- Demand 3: "Take a sound tree and a journal within .. limits, and note the journal's length. Make any inserts and removes on them,
--- refused ones too, and rollbacks to that mark or later ones; nothing else writes the two. A rollback to the mark is then accepted, the tree
--- is sound and holds the very pairs and places it held at the mark, and the journal's kept lines are the old ones." "Demand 3 from now on
--- allows replaces among the calls."
-pub record Demand3 (ix : Index) (fit : FitIndex ix) (h : Sound (ix .live)) (words : Places (contents h)) (calls : List Call) (allowed : Allowed (lengthOf (ix .lines)) calls) : Type 0 where
+-- refused ones too, and rollbacks to that mark or later ones; nothing else writes the two. A rollback to the mark is then accepted, the
+-- tree is sound and holds the very pairs and places it held at the mark, and the journal's kept lines are the old ones." "Demand 3 from now
+-- on allows replaces among the calls."
+pub record Demand3 (ix : Index) (fit : FitIndex ix) (h : Sound (ix .live)) (words : Places (contents h)) (calls : List Call)
+    (allowed : Allowed (lengthOf (ix .lines)) calls) : Type 0 where
   pub accepted : rolls (after calls ix) (lengthOf (ix .lines)) .answer ≡ given (lengthOf (after calls ix .lines) - lengthOf (ix .lines))
   pub sound : Sound (rolls (after calls ix) (lengthOf (ix .lines)) .left .live)
   pub holds : contents sound ≡ contents h
   -- "listing from first gives the same pairs in the same order as at the mark", with their places
   pub listed : listing sound ≡ listing h
   -- the lines below the mark are word for word the old ones
-  pub kept : (j : ℕ) → 0 < j → j < at (lengthOf (ix .lines)) 0 → getD (rolls (after calls ix) (lengthOf (ix .lines)) .left .lines) j 0 ≡ getD (ix .lines) j 0
+  pub kept : (j : ℕ) → 0 < j → j < at (lengthOf (ix .lines)) 0
+      → getD (rolls (after calls ix) (lengthOf (ix .lines)) .left .lines) j 0 ≡ getD (ix .lines) j 0
   -- the length is the mark, the lines undone are zero, and the words past the length just before are untouched
   pub journal : BackTo (lengthOf (ix .lines)) (after calls ix .lines) (rolls (after calls ix) (lengthOf (ix .lines)) .left .lines)
 
@@ -259,5 +283,6 @@ pub record Claims : Type 0 where
   pub kth : (t : Live) (k : ℕ) → Kths t k
   pub position : (t : Live) (hash key : ℕ) → Positions t hash key
   pub fresh : (ix : Index) → Freshes ix
-  pub demand3 : (ix : Index) (fit : FitIndex ix) (h : Sound (ix .live)) (words : Places (contents h)) (calls : List Call) (allowed : Allowed (lengthOf (ix .lines)) calls)
+  pub demand3 : (ix : Index) (fit : FitIndex ix) (h : Sound (ix .live)) (words : Places (contents h)) (calls : List Call)
+      (allowed : Allowed (lengthOf (ix .lines)) calls)
       → Demand3 ix fit h words calls allowed

@@ -115,7 +115,9 @@ lineOf lines k =
 -- Line k is j.
 unfoldable pub lined : List ℕ → ℕ → JournalLine → List ℕ
 lined lines k j =
-    set (set (set (set (set (set lines (at k 0) (j .kind)) (at k 1) (j .hash)) (at k 2) (j .key)) (at k 3) (j .place)) (at k 4) (j .priorHash)) (at k 5) (j .priorKey)
+    set
+    (set (set (set (set (set lines (at k 0) (j .kind)) (at k 1) (j .hash)) (at k 2) (j .key)) (at k 3) (j .place)) (at k 4) (j .priorHash))
+    (at k 5) (j .priorKey)
 
 -- "Each accepted insert, remove or replace appends one."
 unfoldable pub appended : List ℕ → JournalLine → List ℕ

@@ -41,7 +41,12 @@ grown t x y hash key p =
     let names = rename (rename (t .names) x hashPart hash) x keyPart key in
     let links : Links = record { cells = seated (write (t .cells) x place p) x y (followerOf t y); root = rootOf t; sizes = t .sizes } in
     let hung = inserted (slotsOf (t .names)) links x (spotted (slotsOf (t .names)) names links hash key) in
-    record { names = names; cells = hung .cells; head = headed (t .head) (hung .root) (pick (eqb y null) x (firstOf t)) (countOf t + 1); sizes = hung .sizes }
+    record {
+      names = names;
+      cells = hung .cells;
+      head = headed (t .head) (hung .root) (pick (eqb y null) x (firstOf t)) (countOf t + 1);
+      sizes = hung .sizes;
+    }
 
 -- "insert 1, 2, 3, 5, 6": a refusal writes nothing.
 unfoldable pub inserts : Index → ℕ → ℕ → ℕ → Outcome

@@ -12,7 +12,8 @@ use Rattle.index_rules.specs.Sound.{sound}
 unfoldable pub kths : Live → ℕ → Answer
 kths t k =
     pick (fits t)
-    (pick (sound t) (pick (ltb k (countOf t)) (given (kthFrom (slotsOf (t .names)) (t .cells) (t .sizes) (rootOf t) k)) (refused 15)) (refused 2))
+    (pick (sound t)
+    (pick (ltb k (countOf t)) (given (kthFrom (slotsOf (t .names)) (t .cells) (t .sizes) (rootOf t) k)) (refused 15)) (refused 2))
     (refused 1)
 
 abbrev pub ranked : Value → Answer

@@ -2,7 +2,8 @@
 use mathlib.Core.List.{List}
 use Prim.Native.Nat.{ℕ, _-_}
 use lib.Dec.{eqb}
-use Rattle.slots.specs.Words.{null, pick, place, state, parent, left, right, prev, next, free, cell, write, nameOf, rename, hashPart, keyPart}
+use Rattle.slots.specs.Words.{null, pick, place, state, parent, left, right, prev, next, free, cell, write, nameOf, rename, hashPart}
+use Rattle.slots.specs.Words.{keyPart}
 use Rattle.redblack.specs.Removal.{removed}
 use Rattle.index_rules.specs.Live.{Live, rootOf, firstOf, countOf}
 use Rattle.index_rules.specs.Index.{Index, index, Outcome, JournalLine, removeKind, plainLine, notedLine, appended}
@@ -23,7 +24,8 @@ newFirst t x = pick (eqb (cell (t .cells) x prev) null) (cell (t .cells) x next)
 -- The slot is "all zero with null links" again.
 unfoldable pub wiped : List ℕ → ℕ → List ℕ
 wiped cells x =
-    write (write (write (write (write (write (write cells x place 0) x state free) x parent null) x left null) x right null) x prev null) x next null
+    write (write (write (write (write (write (write cells x place 0) x state free) x parent null) x left null) x right null) x prev null)
+    x next null
 
 -- After the check: the slot x goes.
 unfoldable pub shrunk : Live → ℕ → Live

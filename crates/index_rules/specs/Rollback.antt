@@ -7,7 +7,8 @@ use Rattle.slots.specs.Words.{null, pick, place, cell}
 use Rattle.slots.specs.Answers.{Value, some, none, given, refused}
 use Rattle.index_rules.specs.Live.{Live}
 use Rattle.index_rules.specs.Sound.{sound}
-use Rattle.index_rules.specs.Index.{Index, index, Outcome, outcome, fitsIndex, lengthOf, JournalLine, insertKind, removeKind, notedKind, replaceKind, plainLine, lineOf, lined}
+use Rattle.index_rules.specs.Index.{Index, index, Outcome, outcome, fitsIndex, lengthOf, JournalLine, insertKind, removeKind}
+use Rattle.index_rules.specs.Index.{notedKind, replaceKind, plainLine, lineOf, lined}
 use Rattle.index_rules.specs.Insert.{lowestFree, soughtIn, grown}
 use Rattle.index_rules.specs.Remove.{shrunk}
 use Rattle.index_rules.specs.Replace.{placedAt}
@@ -26,7 +27,8 @@ takenBack t none p = misfit
 -- goes right behind the slot y, to the front where y is null.
 abbrev pub putBack : Live → ℕ → Value → JournalLine → ℕ → Undo
 putBack t x (some own) j y = misfit
-putBack t x none j y = pick (eqb x null) misfit (pick (ltb (j .place) 4294967296) (stays (grown t x y (j .hash) (j .key) (j .place))) misfit)
+putBack t x none j y =
+    pick (eqb x null) misfit (pick (ltb (j .place) 4294967296) (stays (grown t x y (j .hash) (j .key) (j .place))) misfit)
 
 -- A remove line that notes a pair: "undoing it puts the pair back right behind that one".
 abbrev pub putBehind : Live → ℕ → Value → Value → JournalLine → Undo
@@ -36,7 +38,8 @@ putBehind t x none own j = misfit
 -- A replace line is undone by the old place: its pair is there with the new one. A place is a 32-bit word.
 abbrev pub placedBack : Live → Value → ℕ → Undo
 placedBack t (some x) w =
-    pick (eqb (cell (t .cells) x place) (w % 4294967296)) (pick (ltb (w / 4294967296) 4294967296) (stays (placedAt t x (w / 4294967296))) misfit) misfit
+    pick (eqb (cell (t .cells) x place) (w % 4294967296)) (pick (ltb (w / 4294967296) 4294967296)
+    (stays (placedAt t x (w / 4294967296))) misfit) misfit
 placedBack t none w = misfit
 
 -- A line undone on the tree t, where a pair that comes back takes the slot x: "no other kind occurs".

@@ -1,5 +1,6 @@
 -- "Lines m and up fit if, read backward, each insert line's pair is there at that point with that place, each remove line's pair is not
--- and there is a free slot, each replace line's pair is there with the new place, and no other kind occurs", and a noted neighbour is there.
+-- and there is a free slot, each replace line's pair is there with the new place, and no other kind occurs",
+-- and a noted neighbour is there.
 -- Over the listing and the number of free slots, with no driver in it.
 use mathlib.Core.Path.{_≡_}
 use mathlib.Core.List.{List, _∷_}
@@ -37,7 +38,8 @@ pub data Undoes (n : ℕ) (lines : List ℕ) (m : ℕ) : ℕ → List Entry → 
   -- no line is left
   back : {k : ℕ} {l : List Entry} → k ≡ m → Undoes n lines m k l l
   -- line k goes, and then those below
-  down : {k : ℕ} {l mid l′ : List Entry} → m ≤ k → UndoneTo n (lineOf lines k) l mid → Undoes n lines m k mid l′ → Undoes n lines m (suc k) l l′
+  down : {k : ℕ} {l mid l′ : List Entry} → m ≤ k → UndoneTo n (lineOf lines k) l mid → Undoes n lines m k mid l′
+      → Undoes n lines m (suc k) l l′
 
 -- The lines from m up to the length k fit.
 abbrev pub Fits : ℕ → List ℕ → ℕ → ℕ → List Entry → Type 0

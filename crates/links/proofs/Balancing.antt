@@ -110,7 +110,8 @@ unfolding insertionTurns
 insertion = record { spent = λ s x. refl; unrolled = λ n s x. refl }
 
 pub started : (budget : ℕ) (s : Links) (x : ℕ) {l : List ℕ} {w : Links}
-    → l ≡ write (s .cells) x state (code red) → w ≡ insertionTurns budget (lentLinks l (s .root) (s .sizes)) x → w ≡ balancedInsertion budget s x
+    → l ≡ write (s .cells) x state (code red) → w ≡ insertionTurns budget (lentLinks l (s .root) (s .sizes)) x
+    → w ≡ balancedInsertion budget s x
 unfolding balancedInsertion
 started budget s x e1 e2 = rw (← e1) e2
 
@@ -118,7 +119,8 @@ started budget s x e1 e2 = rw (← e1) e2
 module _ (near far : ℕ) (s : Links) (xp y : ℕ) where
   pub settle : {h o : ℕ} {l1 l2 l3 : List ℕ} {t : Links}
       → h ≡ code (colourOf s xp) → l1 ≡ write (s .cells) y state h → o ≡ cell l1 y far
-      → l2 ≡ write l1 o state (code black) → l3 ≡ write l2 xp state (code black) → t ≡ rotated near far (lentLinks l3 (s .root) (s .sizes)) xp
+      → l2 ≡ write l1 o state (code black) → l3 ≡ write l2 xp state (code black)
+      → t ≡ rotated near far (lentLinks l3 (s .root) (s .sizes)) xp
       → more t (t .root) ≡ settled near far s xp y
   unfolding settled capped
   settle e1 e2 e3 e4 e5 e6 = rw (← e1, ← e2, ← e3, ← e4, ← e5, ← e6)
@@ -154,7 +156,8 @@ module _ (near far : ℕ) (s : Links) (x xp y : ℕ) where
 module _ (near far : ℕ) (s : Links) (x xp : ℕ) where
   pub sibling-red : {y q z : ℕ} {b : Bool} {l1 l2 : List ℕ} {t : Links} {v : Turn}
       → y ≡ read s xp far → b ≡ isRed s y → b ≡ true
-      → l1 ≡ write (s .cells) y state (code black) → l2 ≡ write l1 xp state (code red) → t ≡ rotated near far (lentLinks l2 (s .root) (s .sizes)) xp
+      → l1 ≡ write (s .cells) y state (code black) → l2 ≡ write l1 xp state (code red)
+      → t ≡ rotated near far (lentLinks l2 (s .root) (s .sizes)) xp
       → q ≡ read t x parent → z ≡ read t q far → v ≡ eased near far t x q z
       → v ≡ sunk near far s x xp
   unfolding sunk

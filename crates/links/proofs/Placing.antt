@@ -1,4 +1,5 @@
--- What the steps of a descent and of the hanging come to, on plain values: each law takes the equations that the calls give, in the order of the code.
+-- What the steps of a descent and of the hanging come to, on plain values: each law takes the equations that the calls give,
+-- in the order of the code.
 use mathlib.Core.Path.{_≡_, refl}
 use mathlib.Core.List.{List}
 use mathlib.Core.Logic.{_≢_}

@@ -63,7 +63,26 @@ module _ (s : Links) (p t : ℕ) where
       → lentLinks l top z ≡ traded s p t
   unfolding traded
   trade f1 f2 r1 r2 r3 r4 r5 e1 e2 e3 e4 e5 e6 e7 e8 e9 e10 e11 =
-      rw (← f1, ← f2, ← r1, ← r2, ← r3, ← r4, ← r5, ← e1, ← e2, ← e3 (s .root) (s .sizes), ← e4, ← e5, ← e6, ← e7, ← e8, ← e9, ← e10 (s .sizes), ← e11)
+      rw (
+        ← f1,
+        ← f2,
+        ← r1,
+        ← r2,
+        ← r3,
+        ← r4,
+        ← r5,
+        ← e1,
+        ← e2,
+        ← e3 (s .root) (s .sizes),
+        ← e4,
+        ← e5,
+        ← e6,
+        ← e7,
+        ← e8,
+        ← e9,
+        ← e10 (s .sizes),
+        ← e11,
+      )
 
 -- p has no child, one on the right, one on the left.
 module _ (l : List ℕ) (p : ℕ) where

@@ -8,5 +8,6 @@ use Rattle.redblack.specs.Hanging.{inserted, spotted}
 use Rattle.redblack.specs.Removal.{removed}
 
 pub record Linking : Type 0 where
-  pub hang-slot-one : (budget : ℕ) (names : List ℕ) (s : Links) (x hash key : ℕ) → OneAnswer (λ t. t ≡ inserted budget s x (spotted budget names s hash key))
+  pub hang-slot-one : (budget : ℕ) (names : List ℕ) (s : Links) (x hash key : ℕ)
+      → OneAnswer (λ t. t ≡ inserted budget s x (spotted budget names s hash key))
   pub unlink-slot-one : (budget : ℕ) (s : Links) (p : ℕ) → OneAnswer (λ t. t ≡ removed budget s p)

@@ -63,7 +63,8 @@ module _ (t : Live) where
       unfolding kths
       kth-out h = let d = fine e in rw (d .0, d .1, ← e1, le-ltb k count h)
 
-      pub kth-at : {root x : ℕ} → k < count → root ≡ rootOf t → x ≡ kthFrom (slotsOf (t .names)) (t .cells) (t .sizes) root k → given x ≡ kths t k
+      pub kth-at : {root x : ℕ} → k < count → root ≡ rootOf t → x ≡ kthFrom (slotsOf (t .names)) (t .cells) (t .sizes) root k
+          → given x ≡ kths t k
       unfolding kths
       kth-at h e2 e3 = let d = fine e in rw (d .0, d .1, ← e1, lt-ltb k count h, ← e2, ← e3)
 

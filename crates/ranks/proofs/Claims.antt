@@ -11,7 +11,8 @@ use Rattle.ranks.specs.Claims.{Claims}
 use Rattle.ranks.specs.declared.kth.KthSlot.{KthSlot}
 use Rattle.ranks.specs.declared.kth.KthSlot.the-variants.{At, Unfit, Damaged, OutOfRange}
 use Rattle.ranks.specs.declared.position.Positioned.{Positioned}
-use Rattle.ranks.specs.declared.position.Positioned.the-variants.{At as PositionAt, Unfit as PositionUnfit, Damaged as PositionDamaged, Absent}
+use Rattle.ranks.specs.declared.position.Positioned.the-variants.{At as PositionAt, Unfit as PositionUnfit}
+use Rattle.ranks.specs.declared.position.Positioned.the-variants.{Damaged as PositionDamaged, Absent}
 
 abbrev kthBack : ℕ → Value → KthSlot
 kthBack number (some slot) = At slot

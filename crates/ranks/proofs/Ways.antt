@@ -24,7 +24,9 @@ module _ (cells sizes : List ℕ) (i k : ℕ) where
 
   module _ {l w : ℕ} (e1 : l ≡ cell cells i left) (e2 : w ≡ getD sizes l 0) where
     kth-step : (steps : ℕ) → 0 < steps
-        → kthFrom steps cells sizes i k ≡ pick (ltb k w) (kthFrom (steps - 1) cells sizes l k) (pick (eqb k w) i (kthFrom (steps - 1) cells sizes (cell cells i right) (k - (w + 1))))
+        → kthFrom steps cells sizes i k
+        ≡ pick (ltb k w) (kthFrom (steps - 1) cells sizes l k)
+        (pick (eqb k w) i (kthFrom (steps - 1) cells sizes (cell cells i right) (k - (w + 1))))
     unfolding kthFrom
     kth-step zero h = absurd (omega arith)
     kth-step (suc steps) h = rw (sub-one, kthFrom, ← e1, ← e2)
@@ -36,7 +38,8 @@ module _ (cells sizes : List ℕ) (i k : ℕ) where
       pub kth-left : k < w → kthFrom (steps - 1) cells sizes l k ≡ kthFrom steps cells sizes i k
       kth-left z = sym (kth-step steps h ∙ rw (lt-ltb k w z))
 
-      pub kth-right : {r : ℕ} → w ≤ k → k ≢ w → r ≡ cell cells i right → kthFrom (steps - 1) cells sizes r (k - w - 1) ≡ kthFrom steps cells sizes i k
+      pub kth-right : {r : ℕ} → w ≤ k → k ≢ w → r ≡ cell cells i right
+          → kthFrom (steps - 1) cells sizes r (k - w - 1) ≡ kthFrom steps cells sizes i k
       kth-right {r} z d e3 =
           let q : k - (w + 1) ≡ k - w - 1 = omega arith in
           sym (kth-step steps h ∙ rw (le-ltb k w z, ne-eqb k w d, q, ← e3))
@@ -51,7 +54,9 @@ module _ (names cells sizes : List ℕ) (i hash key m : ℕ) where
   rank-step : (steps : ℕ) → 0 < steps → {at own l : ℕ} → at ≡ nameOf names i hashPart → own ≡ nameOf names i keyPart → l ≡ cell cells i left
       → rankFrom steps names cells sizes i hash key m
       ≡ pick (eqb i null) none (pick (before hash key at own) (rankFrom (steps - 1) names cells sizes l hash key m)
-      (pick (before at own hash key) (rankFrom (steps - 1) names cells sizes (cell cells i right) hash key (sum (sum m (sizeWord sizes l)) 1)) (some (sum m (sizeWord sizes l)))))
+      (pick (before at own hash key)
+      (rankFrom (steps - 1) names cells sizes (cell cells i right) hash key (sum (sum m (sizeWord sizes l)) 1))
+      (some (sum m (sizeWord sizes l)))))
   unfolding rankFrom
   rank-step zero h e1 e2 e3 = absurd (omega arith)
   rank-step (suc steps) h e1 e2 e3 = rw (sub-one, rankFrom, ← e1, ← e2, ← e3)
@@ -60,7 +65,8 @@ module _ (names cells sizes : List ℕ) (i hash key m : ℕ) where
     pub rank-null : i ≡ null → none ≡ rankFrom steps names cells sizes i hash key m
     rank-null z = sym (rank-step steps h refl refl refl ∙ rw (eq-eqb i null z))
 
-    module _ (d : i ≢ null) {at own l : ℕ} (e1 : at ≡ nameOf names i hashPart) (e2 : own ≡ nameOf names i keyPart) (e3 : l ≡ cell cells i left) {low : Bool} (e4 : low ≡ before hash key at own) where
+    module _ (d : i ≢ null) {at own l : ℕ} (e1 : at ≡ nameOf names i hashPart) (e2 : own ≡ nameOf names i keyPart)
+        (e3 : l ≡ cell cells i left) {low : Bool} (e4 : low ≡ before hash key at own) where
       pub rank-left : low ≡ true → rankFrom (steps - 1) names cells sizes l hash key m ≡ rankFrom steps names cells sizes i hash key m
       rank-left z = sym (rank-step steps h e1 e2 e3 ∙ rw (ne-eqb i null d, ← e4, z))
 

@@ -3,7 +3,8 @@ use Rattle.slots.specs.Answers.{Answer, given, refused}
 use Rattle.ranks.specs.declared.kth.KthSlot.{KthSlot}
 use Rattle.ranks.specs.declared.kth.KthSlot.the-variants.{At, Unfit, Damaged, OutOfRange}
 use Rattle.ranks.specs.declared.position.Positioned.{Positioned}
-use Rattle.ranks.specs.declared.position.Positioned.the-variants.{At as PositionAt, Unfit as PositionUnfit, Damaged as PositionDamaged, Absent}
+use Rattle.ranks.specs.declared.position.Positioned.the-variants.{At as PositionAt, Unfit as PositionUnfit}
+use Rattle.ranks.specs.declared.position.Positioned.the-variants.{Damaged as PositionDamaged, Absent}
 
 abbrev pub kthOf : KthSlot → Answer
 kthOf (At slot) = given slot

@@ -16,7 +16,8 @@ use Rattle.reader.proofs.Noting.{word-back, said-back}
 use Rattle.reader.specs.declared.notes.NoteAt.{NoteAt}
 use Rattle.reader.specs.declared.notes.NoteAt.the-variants.{Known, Unknown}
 use Rattle.reader.specs.declared.reply.Reply.{Reply}
-use Rattle.reader.specs.declared.reply.Reply.the-variants.{Given, Unfit, Damaged, Present, Full, JournalFull, BadMark, Misfit, Short, Long, WrongKind}
+use Rattle.reader.specs.declared.reply.Reply.the-variants.{Given, Unfit, Damaged, Present, Full, JournalFull, BadMark, Misfit, Short}
+use Rattle.reader.specs.declared.reply.Reply.the-variants.{Long, WrongKind}
 use Rattle.reader.specs.declared.words.Note.{Note}
 use Rattle.reader.specs.declared.words.Note.the-variants.{Unsaid, Said}
 use Rattle.reader.specs.declared.words.Reader.{Reader}
@@ -64,7 +65,8 @@ notes : (a b : NoteAt) → noteAtOf a ≡ noteAtOf b → a ≡ b
 notes = told-apart noteAtOf noteAtBack note-at-back
 
 abbrev noted : Words → Note → Reader
-noted w n = record { section = w .section; got = w .got; owed = w .owed; hash = w .hash; key = w .key; mark = w .mark; taken = w .taken; note = n }
+noted w n =
+    record { section = w .section; got = w .got; owed = w .owed; hash = w .hash; key = w .key; mark = w .mark; taken = w .taken; note = n }
 
 abbrev readerBack : Words → Reader
 readerBack w = noted w (noteBack (w .note))

@@ -13,7 +13,9 @@ use Rattle.index_rules.specs.Sound.{sound}
 use Rattle.index_rules.specs.Insert.{inserts}
 use Rattle.index_rules.specs.Rollback.{rolls}
 use Rattle.upload_rules.specs.Reader.{Note, unsaid, said, Reader, readerOf, newReader, noting, FitReader, fitsReader, isOpen, readerAnswer}
-use Rattle.upload_rules.specs.Reading.{Session, session, ReadOutcome, readOutcome, goesUp, turnedDown, countByte, nameByte, owing, kindCame, countCame, inHash, entryCame, entryPlace, cameOf, lastCame, byteCame, byteRead, bytesRead, endCame, endRead, readChunk, readEnd, readStart}
+use Rattle.upload_rules.specs.Reading.{Session, session, ReadOutcome, readOutcome, goesUp, turnedDown, countByte, nameByte, owing, kindCame}
+use Rattle.upload_rules.specs.Reading.{countCame, inHash, entryCame, entryPlace, cameOf, lastCame, byteCame, byteRead, bytesRead, endCame}
+use Rattle.upload_rules.specs.Reading.{endRead, readChunk, readEnd, readStart}
 use Rattle.upload_rules.proofs.Ranges.{end-range}
 
 -- A refusal that the rollback repeats goes up as it is.
@@ -79,7 +81,8 @@ module _ (r : Reader) (ix : Index) where
           pub came-entry : {s : Reader} → r .got < 18 → s ≡ entryCame r b → session s ix ≡ byteCame r ix b
           unfolding byteCame
           came-entry g f =
-              rw (ne-eqb (r .section) 4 n4, ne-eqb (r .got) 0 n0, le-ltb (r .got) 3 l3, lt-ltb (r .got) 18 g) (ap (λ (x : Reader). session x ix) f)
+              rw (ne-eqb (r .section) 4 n4, ne-eqb (r .got) 0 n0, le-ltb (r .got) 3 l3, lt-ltb (r .got) 18 g)
+              (ap (λ (x : Reader). session x ix) f)
 
           pub came-last : 18 ≤ r .got → lastCame r ix b ≡ byteCame r ix b
           unfolding byteCame
@@ -130,7 +133,8 @@ module _ (d : Session) {t : Bool} (test : t ≡ fitsReader (d .reader)) where
   unfolding readChunk
   chunk-out l e = rw (← test, e)
 
-  pub chunk-in : (l : List ℕ) {e : Session} {a : Answer} → t ≡ true → e ≡ bytesRead d l → a ≡ readerAnswer (e .reader) → readOutcome a e ≡ readChunk d l
+  pub chunk-in : (l : List ℕ) {e : Session} {a : Answer} → t ≡ true → e ≡ bytesRead d l → a ≡ readerAnswer (e .reader)
+      → readOutcome a e ≡ readChunk d l
   unfolding readChunk
   chunk-in l {e} y f g = rw (← test, y) (ap (λ (x : Answer). readOutcome x e) g ∙ ap answered f)
 
@@ -144,14 +148,17 @@ module _ (d : Session) {t : Bool} (test : t ≡ fitsReader (d .reader)) where
       rw (← test, y)
       (ap (λ (x : Answer). readOutcome x d) g ∙ sym (ap (λ (x : Note). answered (pick (isOpen x) (endCame (d .reader) (d .index)) d)) n))
 
-  pub end-on : {e : Session} {a : Answer} → t ≡ true → d .reader .note ≡ unsaid → e ≡ endCame (d .reader) (d .index) → a ≡ readerAnswer (e .reader)
+  pub end-on : {e : Session} {a : Answer} → t ≡ true → d .reader .note ≡ unsaid → e ≡ endCame (d .reader) (d .index)
+      → a ≡ readerAnswer (e .reader)
       → readOutcome a e ≡ readEnd d
   unfolding readEnd endRead
   end-on {e} {a} y n f g =
       rw (← test, y)
-      (ap (λ (x : Answer). readOutcome x e) g ∙ ap answered f ∙ sym (ap (λ (x : Note). answered (pick (isOpen x) (endCame (d .reader) (d .index)) d)) n))
+      (ap (λ (x : Answer). readOutcome x e) g ∙ ap answered f
+      ∙ sym (ap (λ (x : Note). answered (pick (isOpen x) (endCame (d .reader) (d .index)) d)) n))
 
-pub end-fits : (d : Session) {e : Session} → FitReader (d .reader) → d .reader .note ≡ unsaid → e ≡ endCame (d .reader) (d .index) → FitReader (e .reader)
+pub end-fits : (d : Session) {e : Session} → FitReader (d .reader) → d .reader .note ≡ unsaid → e ≡ endCame (d .reader) (d .index)
+    → FitReader (e .reader)
 unfolding endRead
 end-fits d h n f =
     let open′ : endRead d ≡ endCame (d .reader) (d .index) = ap (λ (x : Note). pick (isOpen x) (endCame (d .reader) (d .index)) d) n in
@@ -159,12 +166,14 @@ end-fits d h n f =
 
 -- start.
 module _ (ix : Index) where
-  pub start-unfit : {s : Reader} → s ≡ newReader 0 → fitsIndex ix ≡ false → readOutcome (refused 1) (session s ix) ≡ readStart (session (newReader 0) ix)
+  pub start-unfit : {s : Reader} → s ≡ newReader 0 → fitsIndex ix ≡ false
+      → readOutcome (refused 1) (session s ix) ≡ readStart (session (newReader 0) ix)
   unfolding readStart
   start-unfit n e = rw (e, n)
 
   module _ (f : fitsIndex ix ≡ true) where
-    pub start-damaged : {s : Reader} → s ≡ newReader 0 → sound (ix .live) ≡ false → readOutcome (refused 2) (session s ix) ≡ readStart (session (newReader 0) ix)
+    pub start-damaged : {s : Reader} → s ≡ newReader 0 → sound (ix .live) ≡ false
+        → readOutcome (refused 2) (session s ix) ≡ readStart (session (newReader 0) ix)
     unfolding readStart
     start-damaged n e = rw (f, e, n)
 

@@ -13,7 +13,8 @@ use Rattle.upload_rules.proofs.Ranges.{pick-by}
 use Rattle.reader.specs.Meanings.{replyOf}
 use Rattle.reader.specs.Notes.{NoteSaid, known, unknown, noteWord, plainAt, noteWith, noteAt}
 use Rattle.reader.specs.declared.reply.Reply.{Reply}
-use Rattle.reader.specs.declared.reply.Reply.the-variants.{Given, Unfit, Damaged, Present, Full, JournalFull, BadMark, Misfit, Short, Long, WrongKind}
+use Rattle.reader.specs.declared.reply.Reply.the-variants.{Given, Unfit, Damaged, Present, Full, JournalFull, BadMark, Misfit, Short}
+use Rattle.reader.specs.declared.reply.Reply.the-variants.{Long, WrongKind}
 
 pub at-unsaid : (w : ℕ) → w ≡ 0 → known unsaid ≡ noteAt w
 unfolding noteAt
@@ -29,7 +30,8 @@ module _ (w : ℕ) (s : w ≢ 0) where
   unfolding noteWith
   at-given e f = f ∙ at-with 0 _ e refl
 
-  pub at-present : {n : NoteSaid} → (w - 1) / 4294967296 ≡ 3 → n ≡ known (said (record { number = 3; value = some ((w - 1) % 4294967296) })) → n ≡ noteAt w
+  pub at-present : {n : NoteSaid} → (w - 1) / 4294967296 ≡ 3
+      → n ≡ known (said (record { number = 3; value = some ((w - 1) % 4294967296) })) → n ≡ noteAt w
   unfolding noteWith
   at-present e f = f ∙ at-with 3 _ e refl
 
@@ -37,22 +39,26 @@ module _ (w : ℕ) (s : w ≢ 0) where
     pub at-unknown : (w - 1) % 4294967296 ≢ 0 → unknown ≡ noteAt w
     unfolding noteWith
     at-unknown v =
-        let z : unknown ≡ noteWith ((w - 1) / 4294967296) ((w - 1) % 4294967296) = rw (ne-eqb ((w - 1) / 4294967296) 0 n0, ne-eqb ((w - 1) / 4294967296) 3 n3, ne-eqb ((w - 1) % 4294967296) 0 v) in
+        let z : unknown ≡ noteWith ((w - 1) / 4294967296) ((w - 1) % 4294967296) =
+        rw (ne-eqb ((w - 1) / 4294967296) 0 n0, ne-eqb ((w - 1) / 4294967296) 3 n3, ne-eqb ((w - 1) % 4294967296) 0 v) in
         z ∙ at-with _ _ refl refl
 
     pub at-plain : {n : NoteSaid} → (w - 1) % 4294967296 ≡ 0 → n ≡ plainAt ((w - 1) / 4294967296) → n ≡ noteAt w
     unfolding noteWith
     at-plain v f =
-        let z : plainAt ((w - 1) / 4294967296) ≡ noteWith ((w - 1) / 4294967296) ((w - 1) % 4294967296) = rw (ne-eqb ((w - 1) / 4294967296) 0 n0, ne-eqb ((w - 1) / 4294967296) 3 n3, eq-eqb ((w - 1) % 4294967296) 0 v) in
+        let z : plainAt ((w - 1) / 4294967296) ≡ noteWith ((w - 1) / 4294967296) ((w - 1) % 4294967296) =
+        rw (ne-eqb ((w - 1) / 4294967296) 0 n0, ne-eqb ((w - 1) / 4294967296) 3 n3, eq-eqb ((w - 1) % 4294967296) 0 v) in
         f ∙ z ∙ at-with _ _ refl refl
 
 -- What a noted answer's word says is that answer.
 pub word-back : (reply : Reply) → valueBeside 0 (replyOf reply .number) (replyOf reply .value) < 4294967296
     → noteAt (noteWord (said (replyOf reply))) ≡ known (said (replyOf reply))
 unfolding noteAt noteWith plainAt noteWord answerWord
-word-back (Given v) l = sym (at-given (1 + (v + 4294967296 * 0)) (λ z. omega arith) (omega arith) (ap (λ (x : ℕ). known (said (given x))) (omega arith)))
+word-back (Given v) l =
+    sym (at-given (1 + (v + 4294967296 * 0)) (λ z. omega arith) (omega arith) (ap (λ (x : ℕ). known (said (given x))) (omega arith)))
 word-back (Present v) l =
-    sym (at-present (1 + (v + 4294967296 * 3)) (λ z. omega arith) (omega arith) (ap (λ (x : ℕ). known (said (record { number = 3; value = some x }))) (omega arith)))
+    sym (at-present (1 + (v + 4294967296 * 3)) (λ z. omega arith) (omega arith)
+    (ap (λ (x : ℕ). known (said (record { number = 3; value = some x }))) (omega arith)))
 word-back Unfit l = refl
 word-back Damaged l = refl
 word-back Full l = refl
@@ -70,10 +76,12 @@ Has w unknown = Unit
 
 module _ (w : ℕ) (s : w ≢ 0) where
   -- A refusal that has no value with it.
-  plain-has : (k : ℕ) (rest : NoteSaid) → (w - 1) % 4294967296 ≡ 0 → k ≢ 0 → Has w rest → Has w (pick (eqb ((w - 1) / 4294967296) k) (known (said (refused k))) rest)
+  plain-has : (k : ℕ) (rest : NoteSaid) → (w - 1) % 4294967296 ≡ 0 → k ≢ 0 → Has w rest
+      → Has w (pick (eqb ((w - 1) / 4294967296) k) (known (said (refused k))) rest)
   unfolding noteWord answerWord
   plain-has k rest v l r =
-      pick-by (Has w) (eqb ((w - 1) / 4294967296) k) _ _ (λ e. let z = eqb-true ((w - 1) / 4294967296) k e in rw (ne-eqb k 0 l) (omega arith)) (λ e. r)
+      pick-by (Has w) (eqb ((w - 1) / 4294967296) k) _ _
+      (λ e. let z = eqb-true ((w - 1) / 4294967296) k e in rw (ne-eqb k 0 l) (omega arith)) (λ e. r)
 
   with-has : Has w (noteWith ((w - 1) / 4294967296) ((w - 1) % 4294967296))
   unfolding noteWith plainAt noteWord answerWord

@@ -20,7 +20,8 @@ module _ (r : Reader) (bytes : r .got ≤ 18) (four : 19 * r .section + r .got �
 
   pub entry-range : 3 ≤ r .got → 1 ≤ r .owed → leb (r .taken + r .owed) (65535 * (r .section + 1)) ≡ fitsReader r
   unfolding fitsReader
-  entry-range l o = let c : r .owed < 65536 = omega arith in simp (le-leb _ _ bytes, le-leb _ _ four, lt-ltb _ _ c, le-ltb _ _ l, le-leb _ _ o)
+  entry-range l o =
+      let c : r .owed < 65536 = omega arith in simp (le-leb _ _ bytes, le-leb _ _ four, lt-ltb _ _ c, le-ltb _ _ l, le-leb _ _ o)
 
 -- A reader in range has taken few entries.
 pub few-taken : {r : Reader} → FitReader r → r .taken ≤ 327675

@@ -35,7 +35,8 @@ pub rolls-on : (ix : Index) (m : ℕ) {o : Outcome} → Passes ix → o ≡ roll
 rolls-on ix m p e = e ∙ claims .once-checked ix (p .fit) (p .sound) .rollback m
 
 module _ (ix : Index) (hash key p : ℕ) where
-  pub entry-made : {floor : ℕ} {a : Answer} {jx : Index} {raised : ℕ} → Ready ix floor → outcome a jx ≡ insertsSound floor ix hash key p → raised ≡ raisedBy a floor
+  pub entry-made : {floor : ℕ} {a : Answer} {jx : Index} {raised : ℕ} → Ready ix floor → outcome a jx ≡ insertsSound floor ix hash key p
+      → raised ≡ raisedBy a floor
       → EntryMade ix hash key p a true raised jx
   entry-made {floor} {a} {jx} {raised} r e i =
       let once : OnceChecked ix (r .passes .fit) (r .passes .sound) = claims .once-checked ix (r .passes .fit) (r .passes .sound) in
@@ -49,7 +50,8 @@ module _ (ix : Index) (hash key p : ℕ) where
         ready = λ z. subst (λ (x : Index). Ready x raised) (sym left)
             (record {
               passes = record { fit = again .0; sound = again .1 };
-              none = subst (λ (n : ℕ). NoneBelow n (inserts ix hash key p .left .live)) (sym (i ∙ ap (λ (x : Answer). raisedBy x floor) answer)) none;
+              none = subst (λ (n : ℕ). NoneBelow n (inserts ix hash key p .left .live))
+                  (sym (i ∙ ap (λ (x : Answer). raisedBy x floor) answer)) none;
             });
         denied = λ z. absurd (false≢true (sym z));
       }
@@ -70,7 +72,8 @@ first-ready ix e s =
 pub step-down : {d : Session} {r : Reader} {ix : Index} → session r ix ≡ d → Stepped d r false 0 ix
 step-down e = record { same = e; ready = unchecked }
 
-pub step-as : {d e : Session} {r : Reader} {checked : Bool} {floor : ℕ} {ix : Index} → d ≡ e → Stepped d r checked floor ix → Stepped e r checked floor ix
+pub step-as : {d e : Session} {r : Reader} {checked : Bool} {floor : ℕ} {ix : Index} → d ≡ e → Stepped d r checked floor ix
+    → Stepped e r checked floor ix
 step-as e s = record { same = s .same ∙ e; ready = s .ready }
 
 -- The bytes from a place on are the byte there and those after it; past the end there are none.
@@ -97,10 +100,22 @@ pub record Turn (start : Session) (l : List ℕ) (r : Reader) (checked : Bool) (
 
 pub turn-start : (r : Reader) (ix : Index) (l : List ℕ) → FitReader r → Turn (session r ix) l r false 0 ix 0
 turn-start r ix l h =
-    record { same = refl; fit = h; ready = unchecked; within = omega arith; names = refl; cells = refl; head = refl; sizes = refl; lines = refl }
+    record {
+      same = refl;
+      fit = h;
+      ready = unchecked;
+      within = omega arith;
+      names = refl;
+      cells = refl;
+      head = refl;
+      sizes = refl;
+      lines = refl;
+    }
 
-module _ {start : Session} {l : List ℕ} {r : Reader} {checked : Bool} {floor : ℕ} {ix : Index} {i : ℕ} (turn : Turn start l r checked floor ix i) where
-  read-byte : {d : Session} → i < length l → d ≡ byteRead (session r ix) (getD l i 0) → bytesRead d (drop (i + 1) l) ≡ bytesRead (session r ix) (drop i l)
+module _ {start : Session} {l : List ℕ} {r : Reader} {checked : Bool} {floor : ℕ} {ix : Index} {i : ℕ}
+    (turn : Turn start l r checked floor ix i) where
+  read-byte : {d : Session} → i < length l → d ≡ byteRead (session r ix) (getD l i 0)
+      → bytesRead d (drop (i + 1) l) ≡ bytesRead (session r ix) (drop i l)
   unfolding bytesRead
   read-byte h f = rw (from l i h, f)
 

@@ -4,7 +4,8 @@ use Rattle.index_rules.specs.Index.{Index}
 use Rattle.upload_rules.specs.Reader.{Note as Noting, unsaid, said, Reader as Words, readerOf}
 use Rattle.upload_rules.specs.Reading.{session, ReadOutcome, readOutcome}
 use Rattle.reader.specs.declared.reply.Reply.{Reply}
-use Rattle.reader.specs.declared.reply.Reply.the-variants.{Given, Unfit, Damaged, Present, Full, JournalFull, BadMark, Misfit, Short, Long, WrongKind}
+use Rattle.reader.specs.declared.reply.Reply.the-variants.{Given, Unfit, Damaged, Present, Full, JournalFull, BadMark, Misfit, Short}
+use Rattle.reader.specs.declared.reply.Reply.the-variants.{Long, WrongKind}
 use Rattle.reader.specs.declared.words.Note.{Note}
 use Rattle.reader.specs.declared.words.Note.the-variants.{Unsaid, Said}
 use Rattle.reader.specs.declared.words.Reader.{Reader}

@@ -1,4 +1,5 @@
--- A sided tree names one plain tree, with the same slots in the same order and the same words, so what is held, and what is red-black, is said of both alike.
+-- A sided tree names one plain tree, with the same slots in the same order and the same words, so what is held, and what is red-black,
+-- is said of both alike.
 use mathlib.Core.Path.{_≡_, refl, ap, ap₂, _∙_, sym}
 use mathlib.Core.List.{List, [], _∷_, _++_}
 use Prim.Native.Nat.{ℕ, suc, _+_}
@@ -51,12 +52,25 @@ unfolding plain
 hangs-plain bare h = Tree.none
 hangs-plain (fork leftward c a i b) h =
     let k = cell-of h in
-    Tree.some (record { inside = k .inside; above = k .above; lefts = k .this ∙ sym (plain-top a); rights = k .that ∙ sym (plain-top b); hued = k .hued }) (hangs-plain a (this-of h)) (hangs-plain b (that-of h))
+    Tree.some (record {
+      inside = k .inside;
+      above = k .above;
+      lefts = k .this ∙ sym (plain-top a);
+      rights = k .that ∙ sym (plain-top b);
+      hued = k .hued;
+    }) (hangs-plain a (this-of h)) (hangs-plain b (that-of h))
 hangs-plain (fork rightward c a i b) h =
     let k = cell-of h in
-    Tree.some (record { inside = k .inside; above = k .above; lefts = k .that ∙ sym (plain-top b); rights = k .this ∙ sym (plain-top a); hued = k .hued }) (hangs-plain b (that-of h)) (hangs-plain a (this-of h))
+    Tree.some (record {
+      inside = k .inside;
+      above = k .above;
+      lefts = k .that ∙ sym (plain-top b);
+      rights = k .this ∙ sym (plain-top a);
+      hued = k .hued;
+    }) (hangs-plain b (that-of h)) (hangs-plain a (this-of h))
 
-cell-in : {n q : ℕ} {cells : List ℕ} {c : Colour} {l r : Tree.Tree} {i : ℕ} → Tree.Hangs n cells q (node c l i r) → Tree.Cell n cells q c (Tree.top l) i (Tree.top r)
+cell-in : {n q : ℕ} {cells : List ℕ} {c : Colour} {l r : Tree.Tree} {i : ℕ} → Tree.Hangs n cells q (node c l i r)
+    → Tree.Cell n cells q c (Tree.top l) i (Tree.top r)
 cell-in (Tree.some k u v) = k
 
 left-in : {n q : ℕ} {cells : List ℕ} {c : Colour} {l r : Tree.Tree} {i : ℕ} → Tree.Hangs n cells q (node c l i r) → Tree.Hangs n cells i l
@@ -70,10 +84,14 @@ unfolding plain
 plain-hangs bare h = Sided.none
 plain-hangs (fork leftward c a i b) h =
     let k = cell-in h in
-    Sided.some (record { inside = k .inside; above = k .above; this = k .lefts ∙ plain-top a; that = k .rights ∙ plain-top b; hued = k .hued }) (plain-hangs a (left-in h)) (plain-hangs b (right-in h))
+    Sided.some
+    (record { inside = k .inside; above = k .above; this = k .lefts ∙ plain-top a; that = k .rights ∙ plain-top b; hued = k .hued })
+    (plain-hangs a (left-in h)) (plain-hangs b (right-in h))
 plain-hangs (fork rightward c a i b) h =
     let k = cell-in h in
-    Sided.some (record { inside = k .inside; above = k .above; this = k .rights ∙ plain-top a; that = k .lefts ∙ plain-top b; hued = k .hued }) (plain-hangs a (right-in h)) (plain-hangs b (left-in h))
+    Sided.some
+    (record { inside = k .inside; above = k .above; this = k .rights ∙ plain-top a; that = k .lefts ∙ plain-top b; hued = k .hued })
+    (plain-hangs a (right-in h)) (plain-hangs b (left-in h))
 
 -- The links hold a sided tree exactly where they hold the plain one.
 pub site-holds : {n : ℕ} {s : Links} (t : Sided) → Site n s [] t → Holds n s (plain t)
@@ -119,7 +137,8 @@ plain-calm (dark {σ = rightward} u v) = Tree.darkly (plain-calm v) (plain-calm 
 plain-calm (rosy {σ = leftward} u v) = Tree.redly (plain-colour u) (plain-colour v) (plain-calm u) (plain-calm v)
 plain-calm (rosy {σ = rightward} u v) = Tree.redly (plain-colour v) (plain-colour u) (plain-calm v) (plain-calm u)
 
-meets-node : {c : Colour} {l r : Tree.Tree} {i k : ℕ} (h : ℕ) → ((j : ℕ) → Meets l j → j ≡ h) → ((j : ℕ) → Meets r j → j ≡ h) → Meets (node c l i r) k → k ≡ blacks c + h
+meets-node : {c : Colour} {l r : Tree.Tree} {i k : ℕ} (h : ℕ) → ((j : ℕ) → Meets l j → j ≡ h) → ((j : ℕ) → Meets r j → j ≡ h)
+    → Meets (node c l i r) k → k ≡ blacks c + h
 meets-node {c} h f g (Tree.leftward m) = ap (λ (x : ℕ). blacks c + x) (f _ m)
 meets-node {c} h f g (Tree.rightward m) = ap (λ (x : ℕ). blacks c + x) (g _ m)
 
@@ -135,7 +154,11 @@ plain-meets (rosy {σ = leftward} {h = h} u v) k m = omega (arith, meets-node h 
 plain-meets (rosy {σ = rightward} {h = h} u v) k m = omega (arith, meets-node h (plain-meets v) (plain-meets u) m)
 
 pub sound-plain : {h : ℕ} {t : Sided} → RedBlack black h t → RedBlackTree (plain t)
-sound-plain v = record { coloured = record { root = plain-colour v; calm = plain-calm v }; level = λ j k m n. plain-meets v j m ∙ sym (plain-meets v k n) }
+sound-plain v =
+    record {
+      coloured = record { root = plain-colour v; calm = plain-calm v };
+      level = λ j k m n. plain-meets v j m ∙ sym (plain-meets v k n);
+    }
 
 -- There is a way down, so equal ways give the height back.
 down : {c : Colour} {h : ℕ} {t : Sided} → RedBlack c h t → Meets (plain t) h
@@ -153,7 +176,8 @@ level-right : {c : Colour} {l r : Tree.Tree} {i : ℕ} → Level (node c l i r) 
 level-right h j k m n = let e = h _ _ (Tree.rightward m) (Tree.rightward n) in omega arith
 
 -- Both parts of a node have one height.
-joined : (σ : Side) (c : Colour) (i : ℕ) {d e : Colour} {h k : ℕ} {a b : Sided} → blacks c + h ≡ blacks c + k → (c ≡ red → (d ≡ black) × (e ≡ black)) → RedBlack d h a → RedBlack e k b → (m : ℕ) × RedBlack c m (fork σ c a i b)
+joined : (σ : Side) (c : Colour) (i : ℕ) {d e : Colour} {h k : ℕ} {a b : Sided} → blacks c + h ≡ blacks c + k
+    → (c ≡ red → (d ≡ black) × (e ≡ black)) → RedBlack d h a → RedBlack e k b → (m : ℕ) × RedBlack c m (fork σ c a i b)
 joined σ black i {h = h} {k} e f u v = let z : k ≡ h = omega arith in (suc h, dark u (rw z at v))
 joined σ red i {h = h} {k} e f u v = let z : k ≡ h = omega arith in let p = f refl in (h, rosy (rw (p .0) at u) (rw (z, p .1) at v))
 
@@ -182,7 +206,8 @@ balanced (fork leftward c a i b) k l =
 balanced (fork rightward c a i b) k l =
     let x = balanced a (calm-right k) (level-right l) in
     let y = balanced b (calm-left k) (level-left l) in
-    joined rightward c i (l _ _ (Tree.rightward (down (x .1))) (Tree.leftward (down (y .1)))) (λ e. (let p = calm-red k e in (p .1, p .0))) (x .1) (y .1)
+    joined rightward c i (l _ _ (Tree.rightward (down (x .1))) (Tree.leftward (down (y .1))))
+    (λ e. (let p = calm-red k e in (p .1, p .0))) (x .1) (y .1)
 
 pub plain-sound : (t : Sided) → RedBlackTree (plain t) → (h : ℕ) × RedBlack black h t
 plain-sound t v = let x = balanced t (v .coloured .calm) (v .level) in (x .0, rw (v .coloured .root) at (x .1))

@@ -18,7 +18,8 @@ use Rattle.redblack.specs.Sided.{Sided, Way, fork, plug, slots, Site, ho
 use Rattle.redblack.specs.Balance.{Mended, crown, void}
 use Rattle.redblack.specs.Kept.{Aside}
 use Rattle.redblack.specs.Holding.{Holds, plain}
-use Rattle.redblack.specs.Claims.{PlainWords, Rotates, BalancesInsertion, BalancesDeletion, RemovesSlot, HangsSlot, KeepsSizes, Traps, Claims, spun}
+use Rattle.redblack.specs.Claims.{PlainWords, Rotates, BalancesInsertion, BalancesDeletion, RemovesSlot, HangsSlot, KeepsSizes, Traps}
+use Rattle.redblack.specs.Claims.{Claims, spun}
 use Rattle.redblack.proofs.Ends.{Outcome, on}
 use Rattle.redblack.proofs.Frames.{cell-of, whole}
 use Rattle.redblack.proofs.Order.{slots-plug, around-spin}
@@ -26,11 +27,13 @@ use Rattle.redblack.proofs.Depth.{depth}
 use Rattle.redblack.proofs.Rotation.{rotation}
 use Rattle.redblack.proofs.Deletion.{turn-root, turn-red, deletion-root, deletion-done, deletion}
 use Rattle.redblack.proofs.Trade.{dive}
-use Rattle.redblack.proofs.Bridge.{sided, plain-sided, plain-slots, plain-count, site-holds, holds-site, sound-plain, plain-sound, plain-height, height-plain, plain-wants, wants-plain, plain-outcome}
+use Rattle.redblack.proofs.Bridge.{sided, plain-sided, plain-slots, plain-count, site-holds, holds-site, sound-plain, plain-sound}
+use Rattle.redblack.proofs.Bridge.{plain-height, height-plain, plain-wants, wants-plain, plain-outcome}
 use Rattle.redblack.proofs.Placing.{depth-cap, placed-link}
 use Rattle.redblack.proofs.Plain.{hung-balanced, slot-removed, removed-spares, slot-hung, hung-spares}
 use Rattle.redblack.proofs.Sizes.{rotation-tree, insertion-tree, deletion-tree, removal-tree, hanging-tree}
-use Rattle.redblack.proofs.Kept.{read-write, rotated-keeps, insertion-keeps, deletion-keeps, removed-keeps, inserted-keeps, place-aside, prev-aside, next-aside}
+use Rattle.redblack.proofs.Kept.{read-write, rotated-keeps, insertion-keeps, deletion-keeps, removed-keeps, inserted-keeps}
+use Rattle.redblack.proofs.Kept.{place-aside, prev-aside, next-aside}
 use Rattle.redblack.proofs.Outside.{rotation-spares, insertion-spares, deletion-spares}
 
 -- A view of the whole at any place, and back.
@@ -71,9 +74,12 @@ word-claims =
     }
 
 -- A rotation: the laws of proofs/Rotation, and what its two tests come to.
-spun-slots : (σ : Side) (p : ℕ) (C : Way) (cp cr : Colour) (a b d : Sided) (r : ℕ) → slots (plug C (fork σ (crown C cr) (fork σ cp a p b) r d)) ≡ slots (plug C (fork σ cp a p (fork σ cr b r d)))
+spun-slots : (σ : Side) (p : ℕ) (C : Way) (cp cr : Colour) (a b d : Sided) (r : ℕ)
+    → slots (plug C (fork σ (crown C cr) (fork σ cp a p b) r d)) ≡ slots (plug C (fork σ cp a p (fork σ cr b r d)))
 unfolding slots
-spun-slots σ p C cp cr a b d r = slots-plug C (fork σ (crown C cr) (fork σ cp a p b) r d) (fork σ cp a p (fork σ cr b r d)) (around-spin σ (slots a) p (slots b) r (slots d))
+spun-slots σ p C cp cr a b d r =
+    slots-plug C (fork σ (crown C cr) (fork σ cp a p b) r d) (fork σ cp a p (fork σ cr b r d))
+    (around-spin σ (slots a) p (slots b) r (slots d))
 
 spun-null : (σ : Side) (s : Links) (p : ℕ) → p ≡ null → spun σ s p ≡ s
 unfolding rotated
@@ -110,7 +116,8 @@ insertion-claims n budget s x =
 
 -- Where the part stands for itself, the whole is the outcome.
 stayed : {n : ℕ} {s : Links} {C : Way} {t : Sided} → Mended n s C t t → Outcome n s (slots (plug C t))
-stayed {t = t} m = record { tree = plug (m .path) t; height = m .height; site = whole (m .path) (m .site); sound = m .sound; same = m .same t }
+stayed {t = t} m =
+    record { tree = plug (m .path) t; height = m .height; site = whole (m .path) (m .site); sound = m .sound; same = m .same t }
 
 deletion-claims : (n budget : ℕ) (s : Links) (x : ℕ) → BalancesDeletion n budget s x
 deletion-claims n budget s x =
@@ -152,11 +159,13 @@ sizes-claims n budget s t =
     }
 
 -- The traps: the tests that come before the colour.
-turn-no-grandparent : (s : Links) (x : ℕ) → read s x parent ≢ null → isRed s (read s x parent) ≡ true → read s (read s x parent) parent ≡ null → insertionTurn s x ≡ done s
+turn-no-grandparent : (s : Links) (x : ℕ) → read s x parent ≢ null → isRed s (read s x parent) ≡ true
+    → read s (read s x parent) parent ≡ null → insertionTurn s x ≡ done s
 unfolding insertionTurn
 turn-no-grandparent s x d e z = rw (ne-eqb (read s x parent) null d, e, eq-eqb (read s (read s x parent) parent) null z)
 
-turns-no-grandparent : (s : Links) (budget x : ℕ) → read s x parent ≢ null → isRed s (read s x parent) ≡ true → read s (read s x parent) parent ≡ null → insertionTurns budget s x ≡ s
+turns-no-grandparent : (s : Links) (budget x : ℕ) → read s x parent ≢ null → isRed s (read s x parent) ≡ true
+    → read s (read s x parent) parent ≡ null → insertionTurns budget s x ≡ s
 unfolding insertionTurns
 turns-no-grandparent s zero x d e z = refl
 turns-no-grandparent s (suc budget) x d e z = rw (turn-no-grandparent s x d e z, insertionTurns)
@@ -168,7 +177,8 @@ still-red s x k e = read-write (λ (v : ℕ). eqb v 2 ≡ true) (s .cells) x sta
 still-links : (s : Links) (x k : ℕ) → read (painted s x red) k parent ≡ read s k parent
 still-links s x k = cell-across (s .cells) x state 2 k parent refl refl refl
 
-painted-under-red : (s : Links) (budget x p : ℕ) → read s x parent ≡ p → p ≢ null → isRed s p ≡ true → read s p parent ≡ null → balancedInsertion budget s x ≡ painted s x red
+painted-under-red : (s : Links) (budget x p : ℕ) → read s x parent ≡ p → p ≢ null → isRed s p ≡ true → read s p parent ≡ null
+    → balancedInsertion budget s x ≡ painted s x red
 unfolding balancedInsertion
 painted-under-red s budget x p u d e z =
     let f : read (painted s x red) x parent ≡ p = still-links s x x ∙ u in

@@ -39,7 +39,13 @@ way-total : {n x : ℕ} {s : Links} {C : Way} → Leads n s x C → length C ≤
 unfolding countWay
 way-total (home e) = omega arith
 way-total {n} (via {i = i} {b = b} {C = C} k y w) =
-    omega (arith, way-total w, total-at n i (λ (j : ℕ). hit j i) (k .inside), hit-same i, total-add n (λ (j : ℕ). hit j i) (λ (j : ℕ). countWay j C) (λ (j : ℕ). hit j i + count j b + countWay j C) (λ j. omega arith))
+    omega (
+      arith,
+      way-total w,
+      total-at n i (λ (j : ℕ). hit j i) (k .inside),
+      hit-same i,
+      total-add n (λ (j : ℕ). hit j i) (λ (j : ℕ). countWay j C) (λ (j : ℕ). hit j i + count j b + countWay j C) (λ j. omega arith),
+    )
 
 -- The way to a slot is shorter than the number of slots.
 pub depth : {n : ℕ} {s : Links} {C : Way} {σ : Side} {c : Colour} {a b : Sided} {x : ℕ} → Site n s C (fork σ c a x b) → length C < n
@@ -50,6 +56,7 @@ depth {n} {C = C} {a = a} {b} {x} h =
       way-total (h .way),
       total-at n x (λ (j : ℕ). hit j x) (cell-of (h .tree) .inside),
       hit-same x,
-      total-add n (λ (j : ℕ). hit j x) (λ (j : ℕ). countWay j C) (λ (j : ℕ). countWay j C + (hit j x + count j a + count j b)) (λ j. omega arith),
+      total-add n (λ (j : ℕ). hit j x) (λ (j : ℕ). countWay j C) (λ (j : ℕ). countWay j C + (hit j x + count j a + count j b))
+          (λ j. omega arith),
       total-most n (λ (j : ℕ). countWay j C + (hit j x + count j a + count j b)) (h .once),
     )

@@ -10,7 +10,8 @@ use lib.Dec.{ltb}
 use Rattle.slots.specs.Words.{null, parent, left, right, Colour, Side, toward, fields, cell, write, roomy, black, red, leftward, rightward}
 use Rattle.slots.proofs.Laws.{length-write}
 use Rattle.redblack.specs.Links.{Links, read, rooted, painted}
-use Rattle.redblack.specs.Sided.{Sided, Way, top, upper, plug, slots, hit, count, countWay, Cap, Cell, Site, bare, fork, frame, none, some, home, via}
+use Rattle.redblack.specs.Sided.{Sided, Way, top, upper, plug, slots, hit, count, countWay, Cap, Cell, Site, bare, fork, frame, none}
+use Rattle.redblack.specs.Sided.{some, home, via}
 use Rattle.redblack.specs.Balance.{RedBlack, void, dark}
 use Rattle.redblack.specs.Insertion.{insertionTurn, insertionTurns, balancedInsertion}
 use Rattle.redblack.specs.Hanging.{spot, hooked, inserted}
@@ -37,7 +38,8 @@ emptied l x leftward h = simp (reads, h)
 emptied l x rightward h = simp (reads, h)
 
 -- The new slot hangs under xp on the side σ, and is red.
-pub hooked-site : {n : ℕ} {s : Links} {σ : Side} {c : Colour} {xp : ℕ} {b : Sided} {C : Way} (x : ℕ) → x < n → countWay x (frame σ c xp b ∷ C) ≡ 0 → Site n s (frame σ c xp b ∷ C) bare
+pub hooked-site : {n : ℕ} {s : Links} {σ : Side} {c : Colour} {xp : ℕ} {b : Sided} {C : Way} (x : ℕ) → x < n
+    → countWay x (frame σ c xp b ∷ C) ≡ 0 → Site n s (frame σ c xp b ∷ C) bare
     → Site n (painted (hooked s x (spot xp (toward σ))) x red) (frame σ c xp b ∷ C) (fork σ red bare x bare)
 unfolding hooked count countWay
 hooked-site {n} {s} {σ} {c} {xp} {b} {C} x wx fresh h =
@@ -49,24 +51,45 @@ hooked-site {n} {s} {σ} {c} {xp} {b} {C} x wx fresh h =
     let t = painted (hooked s x (spot xp (toward σ))) x red in
     let off : (j : ℕ) → j ≢ x → j ≢ xp → Agree s t j = λ j e f. record { same = λ g l. simp reads } in
     let stay : (j : ℕ) → 1 ≤ count j b + countWay j C → Agree s t j =
-    λ j m. off j (λ (e : j ≡ x). let y : count j b ≡ count x b = cc in let z : countWay j C ≡ countWay x C = cc in omega arith) (apart (omega (arith, h .once j))) in
-    let k′ : Cell n t (upper C) σ c x xp (top b) = record { inside = k .inside; above = simp reads (k .above); this = simp (reads, hq); that = simp reads (k .that); hued = simp reads (k .hued) } in
-    let m : Cell n t xp σ red null x null = record { inside = wx; above = simp (reads, hx); this = simp (reads, emptied, hx); that = simp (reads, emptied, hx); hued = simp (reads, hx) } in
+    λ j m. off j (λ (e : j ≡ x). let y : count j b ≡ count x b = cc in let z : countWay j C ≡ countWay x C = cc in omega arith)
+    (apart (omega (arith, h .once j))) in
+    let k′ : Cell n t (upper C) σ c x xp (top b) =
+    record {
+      inside = k .inside;
+      above = simp reads (k .above);
+      this = simp (reads, hq);
+      that = simp reads (k .that);
+      hued = simp reads (k .hued);
+    } in
+    let m : Cell n t xp σ red null x null =
+    record {
+      inside = wx;
+      above = simp (reads, hx);
+      this = simp (reads, emptied, hx);
+      that = simp (reads, emptied, hx);
+      hued = simp (reads, hx);
+    } in
     record {
       cap = recap (h .cap) (simp length-write);
-      way = via k′ (tree-frame (λ j l e. stay j (omega arith)) (way-tree (h .way))) (way-frame (λ j l e. stay j (omega arith)) refl (way-on (h .way)));
+      way = via k′ (tree-frame (λ j l e. stay j (omega arith)) (way-tree (h .way)))
+          (way-frame (λ j l e. stay j (omega arith)) refl (way-on (h .way)));
       tree = some m none none;
       once = λ j. (let z = added (λ (i : ℕ). countWay i (frame σ c xp b ∷ C)) x j fresh (omega (arith, h .once j)) in omega arith);
     }
 
 -- A red-black tree, and a slot x that stands nowhere in it, hung at the null link on the side σ of xp and balanced.
-pub inserting-part : {n : ℕ} {s : Links} {σ : Side} {c : Colour} {xp : ℕ} {b : Sided} {C : Way} (m x : ℕ) → n ≤ m → x < n → countWay x (frame σ c xp b ∷ C) ≡ 0 → Part (frame σ c xp b ∷ C) bare
-    → Site n s (frame σ c xp b ∷ C) bare → Outcome n (inserted m s x (spot xp (toward σ))) (slots (plug (frame σ c xp b ∷ C) (fork σ red bare x bare)))
+pub inserting-part : {n : ℕ} {s : Links} {σ : Side} {c : Colour} {xp : ℕ} {b : Sided} {C : Way} (m x : ℕ) → n ≤ m → x < n
+    → countWay x (frame σ c xp b ∷ C) ≡ 0 → Part (frame σ c xp b ∷ C) bare
+    → Site n s (frame σ c xp b ∷ C) bare
+    → Outcome n (inserted m s x (spot xp (toward σ))) (slots (plug (frame σ c xp b ∷ C) (fork σ red bare x bare)))
 unfolding inserted
-inserting-part m x l wx fresh (blackPart w void) h = let v = hooked-site x wx fresh h in insertion m _ w (site-of _ refl refl v) (omega (arith, depth v))
+inserting-part m x l wx fresh (blackPart w void) h =
+    let v = hooked-site x wx fresh h in insertion m _ w (site-of _ refl refl v) (omega (arith, depth v))
 
-pub inserting : {n : ℕ} {s : Links} {σ : Side} {c : Colour} {xp k : ℕ} {b : Sided} {C : Way} (m x : ℕ) → n ≤ m → x < n → countWay x (frame σ c xp b ∷ C) ≡ 0 → RedBlack black k (plug (frame σ c xp b ∷ C) bare)
-    → Site n s (frame σ c xp b ∷ C) bare → Outcome n (inserted m s x (spot xp (toward σ))) (slots (plug (frame σ c xp b ∷ C) (fork σ red bare x bare)))
+pub inserting : {n : ℕ} {s : Links} {σ : Side} {c : Colour} {xp k : ℕ} {b : Sided} {C : Way} (m x : ℕ) → n ≤ m → x < n
+    → countWay x (frame σ c xp b ∷ C) ≡ 0 → RedBlack black k (plug (frame σ c xp b ∷ C) bare)
+    → Site n s (frame σ c xp b ∷ C) bare
+    → Outcome n (inserted m s x (spot xp (toward σ))) (slots (plug (frame σ c xp b ∷ C) (fork σ red bare x bare)))
 inserting {σ = σ} {c} {xp} {b = b} {C} m x l wx fresh v h = inserting-part m x l wx fresh (part-of (frame σ c xp b ∷ C) v) h
 
 -- The first slot: with no slot above it is the root and black.
@@ -75,7 +98,8 @@ unfolding insertionTurns insertionTurn
 turns-first zero s x l e = absurd (omega arith)
 turns-first (suc m) s x l e = rw (e, insertionTurns)
 
-pub planted : {n : ℕ} {s : Links} (m x f : ℕ) → ltb f fields ≡ true → n ≤ m → x < n → Cap n s → Site n (inserted m s x (spot null f)) [] (fork leftward black bare x bare)
+pub planted : {n : ℕ} {s : Links} (m x f : ℕ) → ltb f fields ≡ true → n ≤ m → x < n → Cap n s
+    → Site n (inserted m s x (spot null f)) [] (fork leftward black bare x bare)
 unfolding inserted balancedInsertion hooked count countWay
 planted {n} {s} m x f lf l wx k =
     let hx : roomy fields (s .cells) x ≡ true = roomy-cap x k wx in
@@ -83,7 +107,8 @@ planted {n} {s} m x f lf l wx k =
     let s1 = painted (weighedIn m (hooked s x (spot null f)) x) x red in
     let t = rooted (painted s1 x black) x in
     let e : inserted m s x (spot null f) ≡ t = turns-first m s1 x (omega arith) (simp (reads, hx)) in
-    let c : Cell n t null leftward black null x null = record { inside = wx; above = simp (reads, hx); this = simp (reads, hx); that = simp (reads, hx); hued = simp (reads, hx) } in
+    let c : Cell n t null leftward black null x null =
+    record { inside = wx; above = simp (reads, hx); this = simp (reads, hx); that = simp (reads, hx); hued = simp (reads, hx) } in
     let v : Site n t [] (fork leftward black bare x bare) =
     record {
       cap = recap k (simp length-write);
@@ -93,6 +118,8 @@ planted {n} {s} m x f lf l wx k =
     } in
     rw e v
 
-pub planting : {n : ℕ} {s : Links} (m x f : ℕ) → ltb f fields ≡ true → n ≤ m → x < n → Cap n s → Outcome n (inserted m s x (spot null f)) (x ∷ [])
+pub planting : {n : ℕ} {s : Links} (m x f : ℕ) → ltb f fields ≡ true → n ≤ m → x < n → Cap n s
+    → Outcome n (inserted m s x (spot null f)) (x ∷ [])
 unfolding slots
-planting m x f lf l wx k = record { tree = fork leftward black bare x bare; height = 1; site = planted m x f lf l wx k; sound = dark void void; same = refl }
+planting m x f lf l wx k =
+    record { tree = fork leftward black bare x bare; height = 1; site = planted m x f lf l wx k; sound = dark void void; same = refl }

@@ -9,7 +9,8 @@ use native.Mathlib.Decide.{ℕ-discrete, decLt}
 use lib.ListN.{length}
 use lib.Seq.{getD-set-same, getD-set-other, set-out}
 use lib.Dec.{eqb, ltb}
-use Rattle.slots.specs.Words.{pick, null, place, state, parent, left, right, prev, next, Colour, code, fields, cell, write, black, leftward, rightward}
+use Rattle.slots.specs.Words.{pick, null, place, state, parent, left, right, prev, next, Colour, code, fields, cell, write, black, leftward}
+use Rattle.slots.specs.Words.{rightward}
 use Rattle.slots.proofs.Laws.{cell-across, length-write, toward-small}
 use Rattle.redblack.specs.Links.{Links, read, stored, rooted, painted, resized, isRed, colourOf}
 use Rattle.redblack.specs.Rotate.{hung, turned, rotated}
@@ -53,7 +54,8 @@ pick-in P false u v = v
 leftmost-in : (P : ℕ → Type 0) {s : Links} (m q : ℕ) → Closed P s → P q → P (leftmost m s q)
 unfolding leftmost
 leftmost-in P zero q c pq = pq
-leftmost-in P {s} (suc m) q c pq = pick-in P (eqb (read s q left) null) pq (leftmost-in P m (read s q left) c (c .links q left (on leftward) pq))
+leftmost-in P {s} (suc m) q c pq =
+    pick-in P (eqb (read s q left) null) pq (leftmost-in P m (read s q left) c (c .links q left (on leftward) pq))
 
 -- The words s have come from o by writes within P, which left the field f of the slot j.
 pub record Held (P : ℕ → Type 0) (j f : ℕ) (o s : Links) : Type 0 where
@@ -61,33 +63,52 @@ pub record Held (P : ℕ → Type 0) (j f : ℕ) (o s : Links) : Type 0 where
   pub long : length (s .cells) ≡ length (o .cells)
   pub same : read s j f ≡ read o j f
 
-module _ {P : ℕ → Type 0} {j f : ℕ} {o : Links} (off : (l : List ℕ) (i g v : ℕ) → P i → Link g → cell (write l i g v) j f ≡ cell l j f) (pale : (l : List ℕ) (i v : ℕ) → P i → cell (write l i state v) j f ≡ cell l j f) where
+module _ {P : ℕ → Type 0} {j f : ℕ} {o : Links} (off : (l : List ℕ) (i g v : ℕ) → P i → Link g → cell (write l i g v) j f ≡ cell l j f)
+    (pale : (l : List ℕ) (i v : ℕ) → P i → cell (write l i state v) j f ≡ cell l j f) where
   held-stored : {s : Links} (i g v : ℕ) → Link g → P i → P v → Held P j f o s → Held P j f o (stored s i g v)
   held-stored {s} i g v lg pi pv h =
-      let c : Closed P (stored s i g v) = record { none = h .closed .none; root = h .closed .root; links = λ k e le pk. read-write P (s .cells) i g v k e pv (h .closed .links k e le pk) } in
+      let c : Closed P (stored s i g v) =
+      record {
+        none = h .closed .none;
+        root = h .closed .root;
+        links = λ k e le pk. read-write P (s .cells) i g v k e pv (h .closed .links k e le pk);
+      } in
       record { closed = c; long = length-write (s .cells) i g v ∙ h .long; same = off (s .cells) i g v pi lg ∙ h .same }
 
   pub held-painted : {s : Links} (i : ℕ) (c : Colour) → P i → Held P j f o s → Held P j f o (painted s i c)
   held-painted {s} i c pi h =
       let k : Closed P (painted s i c) =
-      record { none = h .closed .none; root = h .closed .root; links = λ k e le pk. rw (cell-across (s .cells) i state (code c) k e (link-state le) refl (link-small le)) (h .closed .links k e le pk) } in
+      record {
+        none = h .closed .none;
+        root = h .closed .root;
+        links =
+            λ k e le pk. rw (cell-across (s .cells) i state (code c) k e (link-state le) refl (link-small le)) (h .closed .links k e le pk);
+      } in
       record { closed = k; long = length-write (s .cells) i state (code c) ∙ h .long; same = pale (s .cells) i (code c) pi ∙ h .same }
 
   held-rooted : {s : Links} (r : ℕ) → P r → Held P j f o s → Held P j f o (rooted s r)
-  held-rooted {s} r pr h = record { closed = record { none = h .closed .none; root = pr; links = h .closed .links }; long = h .long; same = h .same }
+  held-rooted {s} r pr h =
+      record { closed = record { none = h .closed .none; root = pr; links = h .closed .links }; long = h .long; same = h .same }
 
   -- Other sizes beside the same links.
   held-resized : {s : Links} (l : List ℕ) → Held P j f o s → Held P j f o (resized s l)
-  held-resized l h = record { closed = record { none = h .closed .none; root = h .closed .root; links = h .closed .links }; long = h .long; same = h .same }
+  held-resized l h =
+      record {
+        closed = record { none = h .closed .none; root = h .closed .root; links = h .closed .links };
+        long = h .long;
+        same = h .same;
+      }
 
   held-pick : {s t : Links} (b : Bool) → Held P j f o s → Held P j f o t → Held P j f o (pick b s t)
   held-pick true h k = h
   held-pick false h k = k
 
-  held-hung : {near far : ℕ} {s : Links} (pp p r : ℕ) → Link near → Link far → P pp → P r → Held P j f o s → Held P j f o (hung near far s pp p r)
+  held-hung : {near far : ℕ} {s : Links} (pp p r : ℕ) → Link near → Link far → P pp → P r → Held P j f o s
+      → Held P j f o (hung near far s pp p r)
   unfolding hung
   held-hung {near} {far} {s} pp p r ln lf ppp pr h =
-      held-pick (eqb pp null) (held-painted r black pr (held-rooted r pr h)) (held-pick (eqb (read s pp near) p) (held-stored pp near r ln ppp pr h) (held-stored pp far r lf ppp pr h))
+      held-pick (eqb pp null) (held-painted r black pr (held-rooted r pr h))
+      (held-pick (eqb (read s pp near) p) (held-stored pp near r ln ppp pr h) (held-stored pp far r lf ppp pr h))
 
   pub held-rotated : {near far : ℕ} {s : Links} (p : ℕ) → Link near → Link far → P p → Held P j f o s → Held P j f o (rotated near far s p)
   unfolding rotated turned
@@ -100,7 +121,8 @@ module _ {P : ℕ → Type 0} {j f : ℕ} {o : Links} (off : (l : List ℕ) (i g
       let q = read (stored (stored s p far inner) inner parent p) p parent in
       let pq : P q = h1 .closed .links p parent up pp in
       let h2 = held-hung q p r ln lf pq pr (held-stored r parent q up pr pq h1) in
-      held-pick (eqb p null) h (held-pick (eqb r null) h (held-resized _ (held-stored p parent r up pp pr (held-stored r near p ln pr pp h2))))
+      held-pick (eqb p null) h
+      (held-pick (eqb r null) h (held-resized _ (held-stored p parent r up pp pr (held-stored r near p ln pr pp h2))))
 
   -- The balancings.
   keeping : Keeping P P (Held P j f o)
@@ -128,7 +150,8 @@ module _ {P : ℕ → Type 0} {j f : ℕ} {o : Links} (off : (l : List ℕ) (i g
   held-replaced : {s : Links} (q p x : ℕ) → P q → P x → Held P j f o s → Held P j f o (replaced s q p x)
   unfolding replaced
   held-replaced {s} q p x pq px h =
-      held-pick (eqb q null) (held-rooted x px h) (held-pick (eqb (read s q left) p) (held-stored q left x (on leftward) pq px h) (held-stored q right x (on rightward) pq px h))
+      held-pick (eqb q null) (held-rooted x px h)
+      (held-pick (eqb (read s q left) p) (held-stored q left x (on leftward) pq px h) (held-stored q right x (on rightward) pq px h))
 
   held-lowered : {s : Links} (p t r q : ℕ) → P p → P t → P r → P q → Held P j f o s → Held P j f o (lowered s p t r q)
   unfolding lowered
@@ -136,7 +159,8 @@ module _ {P : ℕ → Type 0} {j f : ℕ} {o : Links} (off : (l : List ℕ) (i g
       let h1 = held-stored p parent q up pp pq h in
       held-pick (eqb t r) (held-stored t right p (on rightward) pt pp (held-stored p parent t up pp pt h))
       (held-stored r parent t up pr pt (held-stored t right r (on rightward) pt pr
-      (held-pick (eqb (read (stored s p parent q) q left) t) (held-stored q left p (on leftward) pq pp h1) (held-stored q right p (on rightward) pq pp h1))))
+      (held-pick (eqb (read (stored s p parent q) q left) t) (held-stored q left p (on leftward) pq pp h1)
+      (held-stored q right p (on rightward) pq pp h1))))
 
   pub held-traded : {s : Links} (p t : ℕ) → P p → P t → Held P j f o s → Held P j f o (traded s p t)
   unfolding traded
@@ -147,25 +171,32 @@ module _ {P : ℕ → Type 0} {j f : ℕ} {o : Links} (off : (l : List ℕ) (i g
       let pw = c .links p parent up pp in
       let h1 = held-painted p (colourOf s t) pp (held-painted t (colourOf s p) pt h) in
       let h2 = held-lowered p t _ _ pp pt (c .links p right (on rightward) pp) (c .links t parent up pt) h1 in
-      let h3 = held-stored _ parent p up ptr pp (held-stored p right _ (on rightward) pp ptr (held-stored p left null (on leftward) pp (c .none) h2)) in
-      held-resized _ (held-replaced _ p t pw pt (held-stored t parent _ up pt pw (held-stored _ parent t up pl pt (held-stored t left _ (on leftward) pt pl h3))))
+      let h3 =
+      held-stored _ parent p up ptr pp
+      (held-stored p right _ (on rightward) pp ptr (held-stored p left null (on leftward) pp (c .none) h2)) in
+      held-resized _
+      (held-replaced _ p t pw pt
+      (held-stored t parent _ up pt pw (held-stored _ parent t up pl pt (held-stored t left _ (on leftward) pt pl h3))))
 
   held-spliced : {s : Links} (p x : ℕ) → P p → P x → Held P j f o s → Held P j f o (spliced s p x)
   unfolding spliced
   held-spliced p x pp px h =
       let pq = h .closed .links p parent up pp in
-      held-stored p parent null up pp (h .closed .none) (held-stored p right null (on rightward) pp (h .closed .none) (held-stored p left null (on leftward) pp (h .closed .none)
+      held-stored p parent null up pp (h .closed .none)
+      (held-stored p right null (on rightward) pp (h .closed .none) (held-stored p left null (on leftward) pp (h .closed .none)
       (held-replaced _ p x pq px (held-stored x parent _ up px pq h))))
 
   held-detached : {s : Links} (p : ℕ) → P p → Held P j f o s → Held P j f o (detached s p)
   unfolding detached
-  held-detached p pp h = held-stored p parent null up pp (h .closed .none) (held-replaced _ p null (h .closed .links p parent up pp) (h .closed .none) h)
+  held-detached p pp h =
+      held-stored p parent null up pp (h .closed .none) (held-replaced _ p null (h .closed .links p parent up pp) (h .closed .none) h)
 
   pub held-dropped : {s : Links} (m p : ℕ) → P p → Held P j f o s → Held P j f o (dropped m s p)
   unfolding dropped replacement
   held-dropped {s} m p pp h =
       let px : P (replacement s p) =
-      pick-in P (eqb (read s p left) null) (pick-in P (eqb (read s p right) null) pp (h .closed .links p right (on rightward) pp)) (h .closed .links p left (on leftward) pp) in
+      pick-in P (eqb (read s p left) null) (pick-in P (eqb (read s p right) null) pp (h .closed .links p right (on rightward) pp))
+      (h .closed .links p left (on leftward) pp) in
       let x = replacement s p in
       let h1 = held-pick (eqb x p) h (held-spliced p x pp px (held-resized _ h)) in
       let h2 = held-pick (isRed s p) h1 (held-deletion m x px h1) in
@@ -184,9 +215,12 @@ module _ {P : ℕ → Type 0} {j f : ℕ} {o : Links} (off : (l : List ℕ) (i g
   pub held-hooked : {s : Links} (x : ℕ) (at : Spot) → Link (at .side) → P x → P (at .above) → Held P j f o s → Held P j f o (hooked s x at)
   unfolding hooked
   held-hooked x at l px pq h =
-      held-stored (at .above) (at .side) x l pq px (held-stored x right null (on rightward) px (h .closed .none) (held-stored x left null (on leftward) px (h .closed .none) (held-stored x parent (at .above) up px pq h)))
+      held-stored (at .above) (at .side) x l pq px
+      (held-stored x right null (on rightward) px (h .closed .none)
+      (held-stored x left null (on leftward) px (h .closed .none) (held-stored x parent (at .above) up px pq h)))
 
-  pub held-inserted : {s : Links} (m x : ℕ) (at : Spot) → Link (at .side) → P x → P (at .above) → Held P j f o s → Held P j f o (inserted m s x at)
+  pub held-inserted : {s : Links} (m x : ℕ) (at : Spot) → Link (at .side) → P x → P (at .above) → Held P j f o s
+      → Held P j f o (inserted m s x at)
   unfolding inserted
   held-inserted m x at l px pq h = held-insertion m x px (held-resized _ (held-hooked x at l px pq h))
 

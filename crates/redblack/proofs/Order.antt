@@ -18,11 +18,13 @@ pub around-turn : (σ : Side) (x : List ℕ) (i : ℕ) (y : List ℕ) → around
 around-turn leftward x i y = refl
 around-turn rightward x i y = refl
 
-pub around-spin : (σ : Side) (x : List ℕ) (p : ℕ) (y : List ℕ) (r : ℕ) (z : List ℕ) → around σ (around σ x p y) r z ≡ around σ x p (around σ y r z)
+pub around-spin : (σ : Side) (x : List ℕ) (p : ℕ) (y : List ℕ) (r : ℕ) (z : List ℕ)
+    → around σ (around σ x p y) r z ≡ around σ x p (around σ y r z)
 around-spin leftward x p y r z = append-assoc x (p ∷ y) (r ∷ z)
 around-spin rightward x p y r z = sym (append-assoc z (r ∷ y) (p ∷ x))
 
-pub slots-turn : (σ : Side) (C : Way) (c : Colour) (a : Sided) (i : ℕ) (b : Sided) → slots (plug C (fork (other σ) c b i a)) ≡ slots (plug C (fork σ c a i b))
+pub slots-turn : (σ : Side) (C : Way) (c : Colour) (a : Sided) (i : ℕ) (b : Sided)
+    → slots (plug C (fork (other σ) c b i a)) ≡ slots (plug C (fork σ c a i b))
 unfolding slots
 slots-turn σ C c a i b = slots-plug C (fork (other σ) c b i a) (fork σ c a i b) (around-turn σ (slots a) i (slots b))
 

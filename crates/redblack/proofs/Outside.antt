@@ -22,7 +22,8 @@ use Rattle.redblack.proofs.Ends.{Link, up, on}
 use Rattle.redblack.proofs.Reading.{reads, roomy-cap}
 use Rattle.redblack.proofs.Frames.{hit-same, hit-ne, apart, count-plug, whole, site-of}
 use Rattle.redblack.proofs.Hanging.{hooked-site, turns-first}
-use Rattle.redblack.proofs.Kept.{link-small, Closed, Held, held-rotated, held-insertionTurns, held-insertion, held-deletion, held-removed}
+use Rattle.redblack.proofs.Kept.{link-small, Closed, Held, held-rotated, held-insertionTurns, held-insertion, held-deletion}
+use Rattle.redblack.proofs.Kept.{held-removed}
 
 -- The slots of a tree, and null.
 unfoldable pub In : Sided → ℕ → Type 0
@@ -34,17 +35,20 @@ unfolding count
 top-in P bare pn sub = pn
 top-in P (fork σ c a i b) pn sub = sub i (omega (arith, hit-same i))
 
-cell-side : (P : ℕ → Type 0) {n q : ℕ} {s : Links} {σ : Side} {c : Colour} {a i b : ℕ} → Cell n s q σ c a i b → P a → P b → (τ : Side) → P (read s i (toward τ))
+cell-side : (P : ℕ → Type 0) {n q : ℕ} {s : Links} {σ : Side} {c : Colour} {a i b : ℕ} → Cell n s q σ c a i b → P a → P b → (τ : Side)
+    → P (read s i (toward τ))
 cell-side P {σ = leftward} k pa pb leftward = rw (k .this) pa
 cell-side P {σ = leftward} k pa pb rightward = rw (k .that) pb
 cell-side P {σ = rightward} k pa pb leftward = rw (k .that) pb
 cell-side P {σ = rightward} k pa pb rightward = rw (k .this) pa
 
-cell-link : (P : ℕ → Type 0) {n q : ℕ} {s : Links} {σ : Side} {c : Colour} {a i b g : ℕ} → Cell n s q σ c a i b → P q → P a → P b → Link g → P (read s i g)
+cell-link : (P : ℕ → Type 0) {n q : ℕ} {s : Links} {σ : Side} {c : Colour} {a i b g : ℕ} → Cell n s q σ c a i b → P q → P a → P b → Link g
+    → P (read s i g)
 cell-link P k pq pa pb up = rw (k .above) pq
 cell-link P k pq pa pb (on τ) = cell-side P k pa pb τ
 
-hangs-in : (P : ℕ → Type 0) {n q : ℕ} {s : Links} {t : Sided} → P null → P q → ((i : ℕ) → 1 ≤ count i t → P i) → Hangs n s q t → (i g : ℕ) → Link g → 1 ≤ count i t → P (read s i g)
+hangs-in : (P : ℕ → Type 0) {n q : ℕ} {s : Links} {t : Sided} → P null → P q → ((i : ℕ) → 1 ≤ count i t → P i) → Hangs n s q t → (i g : ℕ)
+    → Link g → 1 ≤ count i t → P (read s i g)
 unfolding count
 hangs-in P pn pq sub none i g lg l = absurd (omega arith)
 hangs-in P {s = s} pn pq sub (some {a = a} {b} {i = k} c x y) i g lg l =
@@ -66,7 +70,10 @@ closed-site {n} {s} C {t} h =
     record {
       none = inl refl;
       root = elim (w .way) [ home e ↦ rw e (top-in (In T) T (inl refl) (λ i z. inr z)) ];
-      links = λ i g k. elim [ inl e ↦ inl (rw e (cell-null (s .cells) g (omega (arith, h .cap .long, h .cap .small)))) | inr z ↦ hangs-in (In T) (inl refl) (inl refl) (λ j y. inr y) (w .tree) i g k z ];
+      links = λ i g k. elim [
+        | inl e ↦ inl (rw e (cell-null (s .cells) g (omega (arith, h .cap .long, h .cap .small))))
+        | inr z ↦ hangs-in (In T) (inl refl) (inl refl) (λ j y. inr y) (w .tree) i g k z
+      ];
     }
 
 -- A write at a slot of the tree, or at null, leaves the words of a slot that is none.
@@ -91,21 +98,26 @@ begin : {n : ℕ} {s : Links} (C : Way) {t : Sided} (j f : ℕ) → Site n s C t
 begin C j f h = record { closed = closed-site C h; long = refl; same = refl }
 
 -- The routines at a slot i of the tree, for a slot j that is none of it.
-module _ {n : ℕ} {s : Links} {σ : Side} {c : Colour} {a b : Sided} {i j : ℕ} {C : Way} (h : Site n s C (fork σ c a i b)) (k : Absent j (plug C (fork σ c a i b))) where
+module _ {n : ℕ} {s : Links} {σ : Side} {c : Colour} {a b : Sided} {i j : ℕ} {C : Way} (h : Site n s C (fork σ c a i b))
+    (k : Absent j (plug C (fork σ c a i b))) where
   pub rotation-spares : {near far : ℕ} → Link near → Link far → Agree s (rotated near far s i) j
-  rotation-spares ln lf = record { same = λ f l. held-rotated (out-off k f l) (out-pale k f l) i ln lf (view-in C σ c a i b) (begin C j f h) .same }
+  rotation-spares ln lf =
+      record { same = λ f l. held-rotated (out-off k f l) (out-pale k f l) i ln lf (view-in C σ c a i b) (begin C j f h) .same }
 
   pub insertion-spares : (m : ℕ) → Agree s (balancedInsertion m s i) j
-  insertion-spares m = record { same = λ f l. held-insertion (out-off k f l) (out-pale k f l) m i (view-in C σ c a i b) (begin C j f h) .same }
+  insertion-spares m =
+      record { same = λ f l. held-insertion (out-off k f l) (out-pale k f l) m i (view-in C σ c a i b) (begin C j f h) .same }
 
   pub deletion-spares : (m : ℕ) → Agree s (balancedDeletion m s i) j
-  deletion-spares m = record { same = λ f l. held-deletion (out-off k f l) (out-pale k f l) m i (view-in C σ c a i b) (begin C j f h) .same }
+  deletion-spares m =
+      record { same = λ f l. held-deletion (out-off k f l) (out-pale k f l) m i (view-in C σ c a i b) (begin C j f h) .same }
 
   pub removal-spares : (m : ℕ) → Agree s (removed m s i) j
   removal-spares m = record { same = λ f l. held-removed (out-off k f l) (out-pale k f l) m i (view-in C σ c a i b) (begin C j f h) .same }
 
 -- Insertion begins with a slot that is not yet in the tree: j is another, and no slot of the tree with x in it.
-pub inserting-spares : {n : ℕ} {s : Links} {σ : Side} {c : Colour} {xp j : ℕ} {b : Sided} {C : Way} (m x : ℕ) → x < n → countWay x (frame σ c xp b ∷ C) ≡ 0 → Site n s (frame σ c xp b ∷ C) bare
+pub inserting-spares : {n : ℕ} {s : Links} {σ : Side} {c : Colour} {xp j : ℕ} {b : Sided} {C : Way} (m x : ℕ) → x < n
+    → countWay x (frame σ c xp b ∷ C) ≡ 0 → Site n s (frame σ c xp b ∷ C) bare
     → Absent j (plug (frame σ c xp b ∷ C) (fork σ red bare x bare)) → Agree s (inserted m s x (spot xp (toward σ))) j
 unfolding inserted balancedInsertion hooked count countWay
 inserting-spares {n} {s} {σ} {c} {xp} {j} {b} {C} m x wx fresh h k =
@@ -114,10 +126,13 @@ inserting-spares {n} {s} {σ} {c} {xp} {j} {b} {C} m x wx fresh h k =
     let e = count-plug j D (fork σ red bare x bare) in
     let jx : j ≢ x = apart (omega (arith, k .nowhere)) in
     let jq : j ≢ xp = apart (omega (arith, k .nowhere)) in
-    record
-    { same = λ f l. held-insertionTurns {o = s} (out-off k f l) (out-pale k f l) m x (view-in D σ red bare x bare) (record { closed = closed-site D v; long = simp length-write; same = simp reads }) .same }
+    record {
+      same = λ f l. held-insertionTurns {o = s} (out-off k f l) (out-pale k f l) m x (view-in D σ red bare x bare)
+          (record { closed = closed-site D v; long = simp length-write; same = simp reads }) .same;
+    }
 
-pub planting-spares : {n : ℕ} {s : Links} (m x f j : ℕ) → ltb f fields ≡ true → n ≤ m → x < n → Cap n s → j ≢ null → j ≢ x → Agree s (inserted m s x (spot null f)) j
+pub planting-spares : {n : ℕ} {s : Links} (m x f j : ℕ) → ltb f fields ≡ true → n ≤ m → x < n → Cap n s → j ≢ null → j ≢ x
+    → Agree s (inserted m s x (spot null f)) j
 unfolding inserted balancedInsertion hooked
 planting-spares {n} {s} m x f j lf l wx k jn jx =
     let hx : roomy fields (s .cells) x ≡ true = roomy-cap x k wx in

@@ -18,7 +18,8 @@ use Rattle.redblack.proofs.Reading.{reads, roomy-cap, recap}
 use Rattle.redblack.proofs.Frames.{apart, cell-of, this-of, that-of, tree-frame, way-frame, outward, inward, turn, turn′}
 
 -- The slot in view.
-pub painting : {n : ℕ} {s : Links} {σ : Side} {c : Colour} {a b : Sided} {i : ℕ} {C : Way} (d : Colour) → Site n s C (fork σ c a i b) → Site n (painted s i d) C (fork σ d a i b)
+pub painting : {n : ℕ} {s : Links} {σ : Side} {c : Colour} {a b : Sided} {i : ℕ} {C : Way} (d : Colour) → Site n s C (fork σ c a i b)
+    → Site n (painted s i d) C (fork σ d a i b)
 unfolding count
 painting {n} {s} {σ} {a = a} {b = b} {i = i} {C = C} d h =
     let k = cell-of (h .tree) in
@@ -35,19 +36,23 @@ painting {n} {s} {σ} {a = a} {b = b} {i = i} {C = C} d h =
       cap = recap (h .cap) (simp length-write);
       way = way-frame (λ j l m. off j (omega (arith, h .once j))) refl (h .way);
       tree = some k′
-          (tree-frame (λ j l m. off j (omega (arith, h .once j))) (this-of (h .tree))) (tree-frame (λ j l m. off j (omega (arith, h .once j))) (that-of (h .tree)));
+          (tree-frame (λ j l m. off j (omega (arith, h .once j))) (this-of (h .tree)))
+          (tree-frame (λ j l m. off j (omega (arith, h .once j))) (that-of (h .tree)));
       once = h .once;
     }
 
 -- So do its child on the side σ, and the other one.
-pub painting-this : {n : ℕ} {s : Links} {σ τ : Side} {c e : Colour} {a b x : Sided} {i j : ℕ} {C : Way} (d : Colour) → Site n s C (fork σ c (fork τ e a j b) i x) → Site n (painted s j d) C (fork σ c (fork τ d a j b) i x)
+pub painting-this : {n : ℕ} {s : Links} {σ τ : Side} {c e : Colour} {a b x : Sided} {i j : ℕ} {C : Way} (d : Colour)
+    → Site n s C (fork σ c (fork τ e a j b) i x) → Site n (painted s j d) C (fork σ c (fork τ d a j b) i x)
 painting-this d h = outward (painting d (inward h))
 
-pub painting-that : {n : ℕ} {s : Links} {σ τ : Side} {c e : Colour} {a b x : Sided} {i j : ℕ} {C : Way} (d : Colour) → Site n s C (fork σ c x i (fork τ e a j b)) → Site n (painted s j d) C (fork σ c x i (fork τ d a j b))
+pub painting-that : {n : ℕ} {s : Links} {σ τ : Side} {c e : Colour} {a b x : Sided} {i j : ℕ} {C : Way} (d : Colour)
+    → Site n s C (fork σ c x i (fork τ e a j b)) → Site n (painted s j d) C (fork σ c x i (fork τ d a j b))
 painting-that d h = turn′ (painting-this d (turn h))
 
 -- The child's two names.
-pub turn-this : {n : ℕ} {s : Links} {σ τ : Side} {c e : Colour} {a b x : Sided} {i j : ℕ} {C : Way} → Site n s C (fork σ c (fork τ e a j b) i x) → Site n s C (fork σ c (fork (other τ) e b j a) i x)
+pub turn-this : {n : ℕ} {s : Links} {σ τ : Side} {c e : Colour} {a b x : Sided} {i j : ℕ} {C : Way}
+    → Site n s C (fork σ c (fork τ e a j b) i x) → Site n s C (fork σ c (fork (other τ) e b j a) i x)
 turn-this h = outward (turn (inward h))
 
 -- From s to t states alone are written, and of no slot but i, j and k: this is said of what is read, in whatever order it was written.

@@ -40,16 +40,19 @@ part-of [] v = blackPart atop v
 part-of (frame σ c i b ∷ C) v = part-in (part-of C v)
 
 -- Names are no matter of colours: neither the side by which a slot is named, nor which slot stands where.
-pub part-turn : {σ : Side} {c : Colour} {a b : Sided} {i : ℕ} {C : Way} (ρ : Side) (j : ℕ) → Part C (fork σ c a i b) → Part C (fork ρ c b j a)
+pub part-turn : {σ : Side} {c : Colour} {a b : Sided} {i : ℕ} {C : Way} (ρ : Side) (j : ℕ) → Part C (fork σ c a i b)
+    → Part C (fork ρ c b j a)
 part-turn ρ j (blackPart w (dark u v)) = blackPart w (dark v u)
 part-turn ρ j (redPart w (rosy u v)) = redPart w (rosy v u)
 
-reslot : {h : ℕ} {e : Colour} (D : Way) (τ : Side) (c : Colour) (p t : ℕ) (y : Sided) (C : Way) → Wants h e (D ++ (frame τ c p y ∷ C)) → Wants h e (D ++ (frame τ c t y ∷ C))
+reslot : {h : ℕ} {e : Colour} (D : Way) (τ : Side) (c : Colour) (p t : ℕ) (y : Sided) (C : Way) → Wants h e (D ++ (frame τ c p y ∷ C))
+    → Wants h e (D ++ (frame τ c t y ∷ C))
 reslot [] τ c p t y C (below w u) = below w u
 reslot [] τ c p t y C (under w u) = under w u
 reslot (f ∷ D) τ c p t y C (below w u) = below (reslot D τ c p t y C w) u
 reslot (f ∷ D) τ c p t y C (under w u) = under (reslot D τ c p t y C w) u
 
-pub part-reslot : {x : Sided} (D : Way) (τ : Side) (c : Colour) (p t : ℕ) (y : Sided) (C : Way) → Part (D ++ (frame τ c p y ∷ C)) x → Part (D ++ (frame τ c t y ∷ C)) x
+pub part-reslot : {x : Sided} (D : Way) (τ : Side) (c : Colour) (p t : ℕ) (y : Sided) (C : Way) → Part (D ++ (frame τ c p y ∷ C)) x
+    → Part (D ++ (frame τ c t y ∷ C)) x
 part-reslot D τ c p t y C (blackPart w v) = blackPart (reslot D τ c p t y C w) v
 part-reslot D τ c p t y C (redPart w v) = redPart (reslot D τ c p t y C w) v

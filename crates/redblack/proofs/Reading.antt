@@ -29,7 +29,19 @@ parent-side leftward = refl
 parent-side rightward = refl
 
 -- The rules of a read over writes: their premises are that the slot has its words, that slots differ, that fields differ.
-pub ruleset reads = (cell-same, cell-across, cell-else, roomy-write, toward-small, toward-other, other-toward, side-state, state-side, side-parent, parent-side)
+pub ruleset reads = (
+  cell-same,
+  cell-across,
+  cell-else,
+  roomy-write,
+  toward-small,
+  toward-other,
+  other-toward,
+  side-state,
+  state-side,
+  side-parent,
+  parent-side,
+)
 
 -- A slot of the n has all its words.
 pub roomy-cap : {n : ℕ} {s : Links} (i : ℕ) → Cap n s → i < n → roomy fields (s .cells) i ≡ true

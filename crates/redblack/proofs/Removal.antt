@@ -20,7 +20,8 @@ use Rattle.redblack.specs.Removal.{replaced, replacement, spliced, detac
 use Rattle.redblack.specs.Kept.{Agree}
 use Rattle.redblack.proofs.Ends.{Part, Outcome, blackPart, redPart, up}
 use Rattle.redblack.proofs.Reading.{reads, roomy-cap, recap, solid}
-use Rattle.redblack.proofs.Frames.{hit-same, apart, count-upper, upper-count, cell-of, this-of, agree-trans, Moved, site-of, whole, rehang, root-else, not-root}
+use Rattle.redblack.proofs.Frames.{hit-same, apart, count-upper, upper-count, cell-of, this-of, agree-trans, Moved, site-of, whole}
+use Rattle.redblack.proofs.Frames.{rehang, root-else, not-root}
 use Rattle.redblack.proofs.Paint.{Repaints, one-painted, painting}
 use Rattle.redblack.proofs.Order.{slots-plug}
 use Rattle.redblack.proofs.Depth.{depth}
@@ -30,19 +31,22 @@ use Rattle.redblack.proofs.Seat.{rewire, heads-on, Seat, seat}
 use Rattle.redblack.proofs.Deletion.{turn-red, deletion-root, deletion-done, deletion}
 
 -- The slot in view, which is bare, leaves the tree.
-pub detached-site : {n : ℕ} {s : Links} {ρ : Side} {d : Colour} {p : ℕ} {C : Way} → Site n s C (fork ρ d bare p bare) → Site n (detached s p) C bare
+pub detached-site : {n : ℕ} {s : Links} {ρ : Side} {d : Colour} {p : ℕ} {C : Way} → Site n s C (fork ρ d bare p bare)
+    → Site n (detached s p) C bare
 unfolding detached count
 detached-site {n} {s} {p = p} {C} h =
     let k = cell-of (h .tree) in
     let small = h .cap .small in
-    let S : Seat n s s (replaced s (upper C) p null) C null = seat null small (k .inside) (omega (arith, h .once p, hit-same p)) (h .cap) refl (λ l. record { same = λ f e. refl }) (h .way) in
+    let S : Seat n s s (replaced s (upper C) p null) C null =
+    seat null small (k .inside) (omega (arith, h .once p, hit-same p)) (h .cap) refl (λ l. record { same = λ f e. refl }) (h .way) in
     let t = stored (replaced s (upper C) p null) p parent null in
     let off : (j : ℕ) → j ≢ p → Agree (replaced s (upper C) p null) t j = λ j e. record { same = λ f l. simp reads } in
     let v : Site n t C bare =
     record {
       cap = recap (S .cap) (simp length-write);
       way = rewire (λ j. omega (arith, h .once j)) (λ j l z e. agree-trans (S .off j e) (off j (apart (omega (arith, h .once j)))))
-          (heads-on t null (h .way) refl (λ l. off (upper C) (apart (omega (arith, h .once (upper C), upper-count C (omega arith))))) (S .heads)) (h .way);
+          (heads-on t null (h .way) refl (λ l. off (upper C) (apart (omega (arith, h .once (upper C), upper-count C (omega arith)))))
+          (S .heads)) (h .way);
       tree = none;
       once = λ j. omega (arith, h .once j);
     } in
@@ -52,7 +56,8 @@ detached-site {n} {s} {p = p} {C} h =
 splicedBy : Links → ℕ → ℕ → ℕ → Links
 splicedBy s p x q = stored (stored (stored (replaced (stored s x parent q) q p x) p left null) p right null) p parent null
 
-pub spliced-site : {n : ℕ} {s : Links} {ρ σ : Side} {d e : Colour} {a b : Sided} {x p : ℕ} {C : Way} → Site n s C (fork ρ d (fork σ e a x b) p bare) → Site n (spliced s p x) C (fork σ e a x b)
+pub spliced-site : {n : ℕ} {s : Links} {ρ σ : Side} {d e : Colour} {a b : Sided} {x p : ℕ} {C : Way}
+    → Site n s C (fork ρ d (fork σ e a x b) p bare) → Site n (spliced s p x) C (fork σ e a x b)
 unfolding spliced splicedBy count
 spliced-site {n} {s} {ρ} {σ} {d} {e} {a} {b} {x} {p} {C} h =
     let k = cell-of (h .tree) in
@@ -62,19 +67,26 @@ spliced-site {n} {s} {ρ} {σ} {d} {e} {a} {b} {x} {p} {C} h =
     let xC : x ≢ upper C = apart (omega (arith, h .once x, hit-same x, count-upper x C (omega (arith, kx .inside)))) in
     let s1 = stored s x parent (upper C) in
     let up : (j : ℕ) → j ≢ x → Agree s s1 j = λ j z. record { same = λ f l. simp reads } in
-    let end : upper C < n → (upper C ≢ x) × (upper C ≢ p) = λ l. (λ z. xC (sym z), apart (omega (arith, h .once (upper C), upper-count C (omega arith)))) in
-    let S : Seat n s s1 (replaced s1 (upper C) p x) C x = seat x small (k .inside) (omega (arith, h .once p, hit-same p)) (recap (h .cap) (simp length-write)) refl (λ l. up (upper C) (end l .0)) (h .way) in
+    let end : upper C < n → (upper C ≢ x) × (upper C ≢ p) =
+    λ l. (λ z. xC (sym z), apart (omega (arith, h .once (upper C), upper-count C (omega arith)))) in
+    let S : Seat n s s1 (replaced s1 (upper C) p x) C x =
+    seat x small (k .inside) (omega (arith, h .once p, hit-same p)) (recap (h .cap) (simp length-write)) refl
+    (λ l. up (upper C) (end l .0)) (h .way) in
     let t = splicedBy s p x (upper C) in
     let off : (j : ℕ) → j ≢ p → Agree (replaced s1 (upper C) p x) t j = λ j z. record { same = λ f l. simp reads } in
     let far : (j : ℕ) → j ≢ p → j ≢ upper C → j ≢ x → Agree s t j = λ j z f g. agree-trans (up j g) (agree-trans (S .off j f) (off j z)) in
     let near : Agree s1 t x = agree-trans (S .off x xC) (off x xp) in
-    let moved : Moved s t x (upper C) = record { up = near .same parent refl ∙ simp (reads, roomy-cap x (h .cap) (kx .inside)); same = λ f l z. near .same f l ∙ simp reads } in
+    let moved : Moved s t x (upper C) =
+    record { up = near .same parent refl ∙ simp (reads, roomy-cap x (h .cap) (kx .inside)); same = λ f l z. near .same f l ∙ simp reads } in
     let v : Site n t C (fork σ e a x b) =
     record {
       cap = recap (S .cap) (simp length-write);
-      way = rewire (λ j. omega (arith, h .once j)) (λ j l z f. far j (apart (omega (arith, h .once j))) f (apart (omega (arith, h .once j))))
+      way =
+          rewire (λ j. omega (arith, h .once j)) (λ j l z f. far j (apart (omega (arith, h .once j))) f (apart (omega (arith, h .once j))))
           (heads-on t x (h .way) refl (λ l. off (upper C) (end l .1)) (S .heads)) (h .way);
-      tree = rehang (λ j l z f. far j (apart (omega (arith, h .once j))) (apart (omega (arith, h .once j, count-upper j C (omega arith)))) f) (λ l. moved) (λ j. omega (arith, h .once j)) (this-of (h .tree));
+      tree =
+          rehang (λ j l z f. far j (apart (omega (arith, h .once j))) (apart (omega (arith, h .once j, count-upper j C (omega arith)))) f)
+          (λ l. moved) (λ j. omega (arith, h .once j)) (this-of (h .tree));
       once = λ j. omega (arith, h .once j);
     } in
     rw (ap (splicedBy s p x) (k .above)) v
@@ -85,7 +97,8 @@ unfolding replacement
 replacement-none s leftward p e f = rw (e, f)
 replacement-none s rightward p e f = rw (e, f)
 
-replacement-one : (s : Links) (ρ : Side) (p x : ℕ) → read s p (toward ρ) ≡ x → read s p (toward (other ρ)) ≡ null → eqb x null ≡ false → replacement s p ≡ x
+replacement-one : (s : Links) (ρ : Side) (p x : ℕ) → read s p (toward ρ) ≡ x → read s p (toward (other ρ)) ≡ null → eqb x null ≡ false
+    → replacement s p ≡ x
 unfolding replacement
 replacement-one s leftward p x e f z = rw (e, z)
 replacement-one s rightward p x e f z = rw (f, e, z)
@@ -126,27 +139,32 @@ dropped-top m s p x {t} k w r d f e g =
 -- What was detached is not the root.
 detached-root : {n : ℕ} {s : Links} {ρ : Side} {d : Colour} {p : ℕ} {C : Way} → Site n s C (fork ρ d bare p bare) → (detached s p) .root ≢ p
 unfolding count
-detached-root {p = p} h = root-else (detached-site h .way) (omega (arith, cell-of (h .tree) .inside, h .cap .small)) (omega (arith, h .once p, hit-same p))
+detached-root {p = p} h =
+    root-else (detached-site h .way) (omega (arith, cell-of (h .tree) .inside, h .cap .small)) (omega (arith, h .once p, hit-same p))
 
 -- What the removal of p comes to: p is bare and red, or bare and black, or black over one red child.
-pub red-is : {n : ℕ} {s : Links} {ρ : Side} {p : ℕ} {C : Way} (m : ℕ) → Site n s C (fork ρ red bare p bare) → dropped m s p ≡ detached (weighedOut m s p) p
+pub red-is : {n : ℕ} {s : Links} {ρ : Side} {p : ℕ} {C : Way} (m : ℕ) → Site n s C (fork ρ red bare p bare)
+    → dropped m s p ≡ detached (weighedOut m s p) p
 red-is {s = s} {ρ} {p} m h =
     let k = cell-of (h .tree) in
-    dropped-red m s p (replacement-none s ρ p (k .this) (k .that)) (red-top (h .tree)) (detached-root (site-of (weighedOut m s p) refl refl h))
+    dropped-red m s p (replacement-none s ρ p (k .this) (k .that)) (red-top (h .tree))
+    (detached-root (site-of (weighedOut m s p) refl refl h))
 
 pub black-is : {n : ℕ} {s : Links} {ρ : Side} {p : ℕ} {C D : Way} (m : ℕ) → Site n s C (fork ρ black bare p bare)
     → Site n (balancedDeletion m s p) D (fork ρ black bare p bare) → dropped m s p ≡ detached (weighedOut m (balancedDeletion m s p) p) p
 black-is {s = s} {ρ} {p} m h v =
     let k = cell-of (h .tree) in
     let f = dark-top (h .cap) (dark {σ = ρ} {i = p} void void) (h .tree) in
-    dropped-black m s p (replacement-none s ρ p (k .this) (k .that)) f refl (detached-root (site-of (weighedOut m (balancedDeletion m s p) p) refl refl v))
+    dropped-black m s p (replacement-none s ρ p (k .this) (k .that)) f refl
+    (detached-root (site-of (weighedOut m (balancedDeletion m s p) p) refl refl v))
 
 -- The red child takes the place and the black: by the loop's first turn, or as the root, where the loop does not look.
 pub record OneLeft (n : ℕ) (s u : Links) (σ : Side) (x : ℕ) (C : Way) : Type 0 where
   pub site : Site n u C (fork σ black bare x bare)
   pub sizes : u .sizes ≡ s .sizes
 
-pub one-black : {n : ℕ} {s : Links} {ρ σ : Side} {p x : ℕ} (C : Way) (m : ℕ) → 0 < m → Site n s C (fork ρ black (fork σ red bare x bare) p bare)
+pub one-black : {n : ℕ} {s : Links} {ρ σ : Side} {p x : ℕ} (C : Way) (m : ℕ) → 0 < m
+    → Site n s C (fork ρ black (fork σ red bare x bare) p bare)
     → OneLeft n (spliced (weighedOut m s p) p x) (dropped m s p) σ x C
 unfolding count
 one-black {s = s} {ρ} {σ} {p} {x} [] m l h =
@@ -172,16 +190,29 @@ module _ {n : ℕ} {s : Links} {ρ : Side} {p : ℕ} {C : Way} (m : ℕ) (l : le
   bare-red : Wants 0 black C → Site n s C (fork ρ red bare p bare) → Outcome n (dropped m s p) (slots (plug C bare))
   bare-red w h =
       let z = plug-any w void in
-      record { tree = plug C bare; height = z .0; site = rw (red-is m h) (whole C (detached-site (site-of (weighedOut m s p) refl refl h))); sound = z .1; same = refl }
+      record {
+        tree = plug C bare;
+        height = z .0;
+        site = rw (red-is m h) (whole C (detached-site (site-of (weighedOut m s p) refl refl h)));
+        sound = z .1;
+        same = refl;
+      }
 
   bare-black : {e : Colour} → Wants 1 e C → Site n s C (fork ρ black bare p bare) → Outcome n (dropped m s p) (slots (plug C bare))
   bare-black w h =
       let o = deletion m w void h l in
       let v : Site n (weighedOut m (balancedDeletion m s p) p) (o .path) (fork ρ black bare p bare) = site-of _ refl refl (o .site) in
-      record { tree = plug (o .path) bare; height = o .height; site = rw (black-is m h (o .site)) (whole (o .path) (detached-site v)); sound = o .sound; same = o .same bare }
+      record {
+        tree = plug (o .path) bare;
+        height = o .height;
+        site = rw (black-is m h (o .site)) (whole (o .path) (detached-site v));
+        sound = o .sound;
+        same = o .same bare;
+      }
 
 -- The cases are all that a red-black tree leaves.
-pub dropping-part : {n : ℕ} {s : Links} {ρ : Side} {d : Colour} {a : Sided} {p : ℕ} {C : Way} (m : ℕ) → n ≤ m → Part C (fork ρ d a p bare) → Site n s C (fork ρ d a p bare) → Outcome n (dropped m s p) (slots (plug C a))
+pub dropping-part : {n : ℕ} {s : Links} {ρ : Side} {d : Colour} {a : Sided} {p : ℕ} {C : Way} (m : ℕ) → n ≤ m → Part C (fork ρ d a p bare)
+    → Site n s C (fork ρ d a p bare) → Outcome n (dropped m s p) (slots (plug C a))
 unfolding slots
 dropping-part m l (blackPart w (dark void void)) h = bare-black m (omega (arith, depth h)) w h
 dropping-part {s = s} {p = p} {C} m l (blackPart w (dark (rosy {σ = σ} {i = x} void void) void)) h =

@@ -1,4 +1,5 @@
--- The two balancings only paint, rotate and, at the top, root: what these steps keep, both balancings keep, whatever the colours and the budget.
+-- The two balancings only paint, rotate and, at the top, root: what these steps keep, both balancings keep,
+-- whatever the colours and the budget.
 use mathlib.Core.Path.{_≡_, refl, _∙_}
 use mathlib.Core.Bool.{Bool, true, false}
 use Prim.Native.Nat.{ℕ, suc, zero}
@@ -45,7 +46,8 @@ data Round (Inv : Links → Type 0) (Q : ℕ → Type 0) : Turn → Type 0 where
   ended : {t : Links} → Inv t → Round Inv Q (done t)
   going : {t : Links} {y : ℕ} → Inv t → Q y → Round Inv Q (more t y)
 
-turn-pick : {Inv : Links → Type 0} {Q : ℕ → Type 0} {g k : Turn} (b : Bool) → (b ≡ true → Round Inv Q g) → (b ≡ false → Round Inv Q k) → Round Inv Q (pick b g k)
+turn-pick : {Inv : Links → Type 0} {Q : ℕ → Type 0} {g k : Turn} (b : Bool) → (b ≡ true → Round Inv Q g) → (b ≡ false → Round Inv Q k)
+    → Round Inv Q (pick b g k)
 turn-pick true h k = h refl
 turn-pick false h k = k refl
 
@@ -55,18 +57,22 @@ module _ {P R : ℕ → Type 0} {Inv : Links → Type 0} (K : Keeping P R Inv) w
   unfolding raised
   round-raised xp xpp f pxp pxpp h = K .spin xpp (flip f) pxpp (K .paint xpp red pxpp (K .paint xp black pxp h))
 
-  round-straightened : {near far : ℕ} {s : Links} (x xp xpp : ℕ) → Sides near far → R x → R xp → P xpp → Inv s → Round Inv R (straightened near far s x xp xpp)
+  round-straightened : {near far : ℕ} {s : Links} (x xp xpp : ℕ) → Sides near far → R x → R xp → P xpp → Inv s
+      → Round Inv R (straightened near far s x xp xpp)
   unfolding straightened
   round-straightened {near} {far} {s} x xp xpp f px pxp pxpp h =
       let h1 = K .spin xp f (K .loose pxp) h in
       let pq = K .link xp parent up (K .loose pxp) h1 in
-      turn-pick (eqb x (read s xp far)) (λ e. going (round-raised _ _ f pq (K .link _ parent up pq h1) h1) pxp) (λ e. going (round-raised xp xpp f (K .loose pxp) pxpp h) px)
+      turn-pick (eqb x (read s xp far)) (λ e. going (round-raised _ _ f pq (K .link _ parent up pq h1) h1) pxp)
+      (λ e. going (round-raised xp xpp f (K .loose pxp) pxpp h) px)
 
-  round-lifted : {near far : ℕ} {s : Links} (x xp xpp : ℕ) → Sides near far → R x → R xp → R xpp → Inv s → Round Inv R (lifted near far s x xp xpp)
+  round-lifted : {near far : ℕ} {s : Links} (x xp xpp : ℕ) → Sides near far → R x → R xp → R xpp → Inv s
+      → Round Inv R (lifted near far s x xp xpp)
   unfolding lifted
   round-lifted {near} {far} {s} x xp xpp f px pxp pxpp h =
       turn-pick (isRed s (read s xpp far))
-      (λ e. going (K .paint xpp red (K .loose pxpp) (K .paint xp black (K .loose pxp) (K .paint _ black (K .link xpp far (far-link f) (K .loose pxpp) h) h))) pxpp)
+      (λ e. going (K .paint xpp red (K .loose pxpp)
+      (K .paint xp black (K .loose pxp) (K .paint _ black (K .link xpp far (far-link f) (K .loose pxpp) h) h))) pxpp)
       (λ e. round-straightened x xp xpp f px pxp (K .loose pxpp) h)
 
   round-insertionTurn : {s : Links} (x : ℕ) → R x → Inv s → Round Inv R (insertionTurn s x)
@@ -79,7 +85,8 @@ module _ {P R : ℕ → Type 0} {Inv : Links → Type 0} (K : Keeping P R Inv) w
       turn-pick (eqb xp null) (λ e. ended (K .crown x px (still-links s x black x ∙ eqb-true xp null e) (K .paint x black (K .loose px) h)))
       (λ e. turn-pick (isRed s xp)
       (λ r. turn-pick (eqb xpp null) (λ d. ended h)
-      (λ d. turn-pick (eqb (read s xpp left) xp) (λ u. round-lifted x xp xpp (sides leftward) px (K .solid oxp e) (K .solid oxpp d) h) (λ u. round-lifted x xp xpp (sides rightward) px (K .solid oxp e) (K .solid oxpp d) h)))
+      (λ d. turn-pick (eqb (read s xpp left) xp) (λ u. round-lifted x xp xpp (sides leftward) px (K .solid oxp e) (K .solid oxpp d) h)
+      (λ u. round-lifted x xp xpp (sides rightward) px (K .solid oxp e) (K .solid oxpp d) h)))
       (λ r. ended h))
 
   pub round-insertionTurns : {s : Links} (m x : ℕ) → R x → Inv s → Inv (insertionTurns m s x)
@@ -87,7 +94,8 @@ module _ {P R : ℕ → Type 0} {Inv : Links → Type 0} (K : Keeping P R Inv) w
   round-insertionTurns zero x px h = h
   round-insertionTurns {s} (suc m) x px h = go (round-insertionTurn x px h) refl (λ t y py k. round-insertionTurns m y py k)
     where
-      go : {g : Turn} → Round Inv R g → insertionTurn s x ≡ g → ((t : Links) (y : ℕ) → R y → Inv t → Inv (insertionTurns m t y)) → Inv (insertionTurns (suc m) s x)
+      go : {g : Turn} → Round Inv R g → insertionTurn s x ≡ g → ((t : Links) (y : ℕ) → R y → Inv t → Inv (insertionTurns m t y))
+          → Inv (insertionTurns (suc m) s x)
       go (ended k) e again = rw (e, insertionTurns) k
       go (going {t} {y} k py) e again = rw (e, insertionTurns) (again t y py k)
 
@@ -113,7 +121,8 @@ module _ {P R : ℕ → Type 0} {Inv : Links → Type 0} (K : Keeping P R Inv) w
       let h1 = round-tucked y f py h in
       let pq = K .link x parent up px h1 in
       turn-pick (isRed s (read s y far)) (λ e. round-settled xp y f pxp py h)
-      (λ e. turn-pick (isRed s (read s y near)) (λ d. round-settled _ _ f pq (K .link _ far (far-link f) pq h1) h1) (λ d. going (K .paint y red py h) pxp))
+      (λ e. turn-pick (isRed s (read s y near)) (λ d. round-settled _ _ f pq (K .link _ far (far-link f) pq h1) h1)
+      (λ d. going (K .paint y red py h) pxp))
 
   round-sunk : {near far : ℕ} {s : Links} (x xp : ℕ) → Sides near far → P x → P xp → Inv s → Round Inv P (sunk near far s x xp)
   unfolding sunk
@@ -121,7 +130,8 @@ module _ {P R : ℕ → Type 0} {Inv : Links → Type 0} (K : Keeping P R Inv) w
       let py = K .link xp far (far-link f) pxp h in
       let h1 = K .spin xp f pxp (K .paint xp red pxp (K .paint _ black py h)) in
       let pq = K .link x parent up px h1 in
-      turn-pick (isRed s (read s xp far)) (λ e. round-eased x _ _ f px pq (K .link _ far (far-link f) pq h1) h1) (λ e. round-eased x xp _ f px pxp py h)
+      turn-pick (isRed s (read s xp far)) (λ e. round-eased x _ _ f px pq (K .link _ far (far-link f) pq h1) h1)
+      (λ e. round-eased x xp _ f px pxp py h)
 
   round-deletionTurn : {s : Links} (x : ℕ) → P x → Inv s → Round Inv P (deletionTurn s x)
   unfolding deletionTurn
@@ -130,15 +140,18 @@ module _ {P R : ℕ → Type 0} {Inv : Links → Type 0} (K : Keeping P R Inv) w
       let pxp : P xp = K .link x parent up px h in
       turn-pick (eqb x null) (λ e. ended h)
       (λ e. turn-pick (eqb x (s .root)) (λ d. ended h)
-      (λ d. turn-pick (eqb xp null) (λ u. ended (K .crown x (K .solid px e) (still-links s x black x ∙ eqb-true xp null u) (K .paint x black px h)))
+      (λ d. turn-pick (eqb xp null)
+      (λ u. ended (K .crown x (K .solid px e) (still-links s x black x ∙ eqb-true xp null u) (K .paint x black px h)))
       (λ u. turn-pick (isRed s x) (λ r. ended (K .paint x black px h))
-      (λ r. turn-pick (eqb (read s xp left) x) (λ v. round-sunk x xp (sides leftward) px pxp h) (λ v. round-sunk x xp (sides rightward) px pxp h)))))
+      (λ r. turn-pick (eqb (read s xp left) x) (λ v. round-sunk x xp (sides leftward) px pxp h)
+      (λ v. round-sunk x xp (sides rightward) px pxp h)))))
 
   pub round-deletion : {s : Links} (m x : ℕ) → P x → Inv s → Inv (balancedDeletion m s x)
   unfolding balancedDeletion
   round-deletion zero x px h = h
   round-deletion {s} (suc m) x px h = go (round-deletionTurn x px h) refl (λ t y py k. round-deletion m y py k)
     where
-      go : {g : Turn} → Round Inv P g → deletionTurn s x ≡ g → ((t : Links) (y : ℕ) → P y → Inv t → Inv (balancedDeletion m t y)) → Inv (balancedDeletion (suc m) s x)
+      go : {g : Turn} → Round Inv P g → deletionTurn s x ≡ g → ((t : Links) (y : ℕ) → P y → Inv t → Inv (balancedDeletion m t y))
+          → Inv (balancedDeletion (suc m) s x)
       go (ended k) e again = rw (e, balancedDeletion) k
       go (going {t} {y} k py) e again = rw (e, balancedDeletion) (again t y py k)

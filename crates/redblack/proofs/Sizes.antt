@@ -40,28 +40,38 @@ begun : {n : ℕ} {s : Links} (t : Tree) → Holds n s t → SizedTree n s t →
 begun t h z = record { tree = sided t; site = sited t h; sized = plain-sized (sided t) (rw (plain-sided t) z); same = λ k. refl }
 
 stands : (p : ℕ) (t : Tree) → Stands p t → 1 ≤ count p (sided t)
-stands p t c = let e : times p (slots (plain (sided t))) ≡ times p (slots t) = ap (λ (u : Tree). times p (slots u)) (plain-sided t) in omega (arith, plain-count p (sided t))
+stands p t c =
+    let e : times p (slots (plain (sided t))) ≡ times p (slots t) = ap (λ (u : Tree). times p (slots u)) (plain-sided t) in
+    omega (arith, plain-count p (sided t))
 
-pub rotation-tree : {n : ℕ} {s : Links} (t : Tree) (σ : Side) (p : ℕ) → Holds n s t → SizedTree n s t → Stands p t → (u : Tree) → Holds n (rotated (toward σ) (toward (other σ)) s p) u → SizedTree n (rotated (toward σ) (toward (other σ)) s p) u
+pub rotation-tree : {n : ℕ} {s : Links} (t : Tree) (σ : Side) (p : ℕ) → Holds n s t → SizedTree n s t → Stands p t → (u : Tree)
+    → Holds n (rotated (toward σ) (toward (other σ)) s p) u → SizedTree n (rotated (toward σ) (toward (other σ)) s p) u
 rotation-tree t σ p h z c u k = stepped u (steady-rotated p (sides σ) (slot (stands p t c)) (begun t h z)) k
 
-pub insertion-tree : {n : ℕ} {s : Links} (t : Tree) (m x : ℕ) → Holds n (painted s x red) t → SizedTree n s t → Stands x t → (u : Tree) → Holds n (balancedInsertion m s x) u → SizedTree n (balancedInsertion m s x) u
+pub insertion-tree : {n : ℕ} {s : Links} (t : Tree) (m x : ℕ) → Holds n (painted s x red) t → SizedTree n s t → Stands x t → (u : Tree)
+    → Holds n (balancedInsertion m s x) u → SizedTree n (balancedInsertion m s x) u
 unfolding balancedInsertion
-insertion-tree t m x h z c u k = stepped u (steady-insertionTurns m x (stands x t c) (begun t h (record { long = z .long; same = z .same }))) k
+insertion-tree t m x h z c u k =
+    stepped u (steady-insertionTurns m x (stands x t c) (begun t h (record { long = z .long; same = z .same }))) k
 
-pub deletion-tree : {n : ℕ} {s : Links} (t : Tree) (m x : ℕ) → Holds n s t → SizedTree n s t → Stands x t → (u : Tree) → Holds n (balancedDeletion m s x) u → SizedTree n (balancedDeletion m s x) u
+pub deletion-tree : {n : ℕ} {s : Links} (t : Tree) (m x : ℕ) → Holds n s t → SizedTree n s t → Stands x t → (u : Tree)
+    → Holds n (balancedDeletion m s x) u → SizedTree n (balancedDeletion m s x) u
 deletion-tree t m x h z c u k = stepped u (steady-deletion m x (slot (stands x t c)) (begun t h z)) k
 
-pub removal-tree : {n : ℕ} {s : Links} (t : Tree) (m p : ℕ) → Holds n s t → RedBlackTree t → SizedTree n s t → Stands p t → n ≤ m → (u : Tree) → Holds n (removed m s p) u → SizedTree n (removed m s p) u
+pub removal-tree : {n : ℕ} {s : Links} (t : Tree) (m p : ℕ) → Holds n s t → RedBlackTree t → SizedTree n s t → Stands p t → n ≤ m
+    → (u : Tree) → Holds n (removed m s p) u → SizedTree n (removed m s p) u
 removal-tree t m p h v z c l u k =
     let r = reached leftward p c (outcome-of t h v) in
     back u k (removal-sized m l (r .part) (r .site) (there t (r .path) _ h z (r .site)))
 
-pub hanging-tree : {n : ℕ} {s : Links} (t : Tree) (m : ℕ) (names : List ℕ) (x hash key : ℕ) → Holds n s t → RedBlackTree t → SizedTree n s t → Rising names (slots t) → (Has names t hash key → ⊥) → x < n → Fresh x t → n ≤ m
+pub hanging-tree : {n : ℕ} {s : Links} (t : Tree) (m : ℕ) (names : List ℕ) (x hash key : ℕ) → Holds n s t → RedBlackTree t → SizedTree n s t
+    → Rising names (slots t) → (Has names t hash key → ⊥) → x < n → Fresh x t → n ≤ m
     → (u : Tree) → Holds n (inserted m s x (spotted m names s hash key)) u → SizedTree n (inserted m s x (spotted m names s hash key)) u
 unfolding plug count countWay plain sided
 hanging-tree leaf m names x hash key h v z up none wx f l u k =
-    back u k (rw (placed-empty m names hash key h) (planting-sized m x left refl l wx (record { long = h .long; small = h .small }) (plain-sized Sided.bare z)))
+    back u k
+    (rw (placed-empty m names hash key h)
+    (planting-sized m x left refl l wx (record { long = h .long; small = h .small }) (plain-sized Sided.bare z)))
 hanging-tree (node c a i b) m names x hash key h v z up none wx f l u k =
     let t : Tree = node c a i b in
     let g = placed-in m names hash key c a i b h up none l in
@@ -69,4 +79,5 @@ hanging-tree (node c a i b) m names x hash key h v z up none wx f l u k =
     let y : Sided = fork (g .side) (r .colour) Sided.bare (g .slot) (r .far) in
     back u k
     (rw (g .is)
-    (inserting-sized m x l wx (omega (arith, counted x (plug (r .path) y) (r .same), count-plug x (r .path) y)) (inward (r .site)) (there t (r .path) y h z (r .site))))
+    (inserting-sized m x l wx (omega (arith, counted x (plug (r .path) y) (r .same), count-plug x (r .path) y)) (inward (r .site))
+    (there t (r .path) y h z (r .site))))

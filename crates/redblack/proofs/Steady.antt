@@ -48,21 +48,40 @@ record View (n : ℕ) (o : Sided) (s : Links) (σ : Side) (p : ℕ) : Type 0 whe
   sized : Sized n s (plug path (fork σ colour near p far))
   same : (k : ℕ) → count k (plug path (fork σ colour near p far)) ≡ count k o
 
-count-turn : (k : ℕ) (C : Way) (σ τ : Side) (c : Colour) (a : Sided) (i : ℕ) (b : Sided) → count k (plug C (fork σ c a i b)) ≡ count k (plug C (fork τ c b i a))
+count-turn : (k : ℕ) (C : Way) (σ τ : Side) (c : Colour) (a : Sided) (i : ℕ) (b : Sided)
+    → count k (plug C (fork σ c a i b)) ≡ count k (plug C (fork τ c b i a))
 unfolding count
 count-turn k C σ τ c a i b = omega (arith, count-plug k C (fork σ c a i b), count-plug k C (fork τ c b i a))
 
 module _ {n : ℕ} {o : Sided} {s : Links} where
-  here : {c : Colour} {a b : Sided} {i : ℕ} {C : Way} (σ ρ : Side) → Site n s C (fork ρ c a i b) → Sized n s (plug C (fork ρ c a i b)) → ((k : ℕ) → count k (plug C (fork ρ c a i b)) ≡ count k o) → View n o s σ i
+  here : {c : Colour} {a b : Sided} {i : ℕ} {C : Way} (σ ρ : Side) → Site n s C (fork ρ c a i b) → Sized n s (plug C (fork ρ c a i b))
+      → ((k : ℕ) → count k (plug C (fork ρ c a i b)) ≡ count k o) → View n o s σ i
   here {c} {a} {b} {i} {C} leftward leftward h z e = record { path = C; colour = c; near = a; far = b; site = h; sized = z; same = e }
   here {c} {a} {b} {i} {C} rightward rightward h z e = record { path = C; colour = c; near = a; far = b; site = h; sized = z; same = e }
   here {c} {a} {b} {i} {C} leftward rightward h z e =
-      record { path = C; colour = c; near = b; far = a; site = turn h; sized = sized-turn C rightward leftward c a i b z; same = λ k. count-turn k C leftward rightward c b i a ∙ e k }
+      record {
+        path = C;
+        colour = c;
+        near = b;
+        far = a;
+        site = turn h;
+        sized = sized-turn C rightward leftward c a i b z;
+        same = λ k. count-turn k C leftward rightward c b i a ∙ e k;
+      }
   here {c} {a} {b} {i} {C} rightward leftward h z e =
-      record { path = C; colour = c; near = b; far = a; site = turn h; sized = sized-turn C leftward rightward c a i b z; same = λ k. count-turn k C rightward leftward c b i a ∙ e k }
+      record {
+        path = C;
+        colour = c;
+        near = b;
+        far = a;
+        site = turn h;
+        sized = sized-turn C leftward rightward c a i b z;
+        same = λ k. count-turn k C rightward leftward c b i a ∙ e k;
+      }
 
   -- Down from any place to a slot below it.
-  look : {C : Way} (σ : Side) (p : ℕ) (t : Sided) → 1 ≤ count p t → Site n s C t → Sized n s (plug C t) → ((k : ℕ) → count k (plug C t) ≡ count k o) → View n o s σ p
+  look : {C : Way} (σ : Side) (p : ℕ) (t : Sided) → 1 ≤ count p t → Site n s C t → Sized n s (plug C t)
+      → ((k : ℕ) → count k (plug C t) ≡ count k o) → View n o s σ p
   unfolding count plug
   look σ p bare l h z e = absurd (omega arith)
   look {C} σ p (fork ρ c a i b) l h z e =
@@ -81,20 +100,27 @@ module _ {n : ℕ} {o : Sided} {s : Links} where
 -- Painting null paints nothing.
 painted-null : {n : ℕ} {C : Way} {t : Sided} (s : Links) (c : Colour) → Site n s C t → painted s null c ≡ s
 unfolding write
-painted-null s c h = ap (λ (l : List ℕ). record { cells = l; root = s .root; sizes = s .sizes }) (set-out (s .cells) (7 * null + state) (code c) (omega (arith, h .cap .long, h .cap .small)))
+painted-null s c h =
+    ap (λ (l : List ℕ). record { cells = l; root = s .root; sizes = s .sizes })
+    (set-out (s .cells) (7 * null + state) (code c) (omega (arith, h .cap .long, h .cap .small)))
 
 -- The other name of the child on the other side.
-turn-that : {n : ℕ} {s : Links} {σ τ : Side} {c cr : Colour} {a b d : Sided} {p r : ℕ} {C : Way} → Site n s C (fork σ c a p (fork τ cr b r d)) → Site n s C (fork σ c a p (fork (other τ) cr d r b))
+turn-that : {n : ℕ} {s : Links} {σ τ : Side} {c cr : Colour} {a b d : Sided} {p r : ℕ} {C : Way}
+    → Site n s C (fork σ c a p (fork τ cr b r d)) → Site n s C (fork σ c a p (fork (other τ) cr d r b))
 turn-that h = turn′ (turn-this (turn h))
 
-sized-that : {n : ℕ} {s : Links} (C : Way) (σ τ : Side) (c cr : Colour) (a b d : Sided) (p r : ℕ) → Sized n s (plug C (fork σ c a p (fork τ cr b r d))) → Sized n s (plug C (fork σ c a p (fork (other τ) cr d r b)))
+sized-that : {n : ℕ} {s : Links} (C : Way) (σ τ : Side) (c cr : Colour) (a b d : Sided) (p r : ℕ)
+    → Sized n s (plug C (fork σ c a p (fork τ cr b r d))) → Sized n s (plug C (fork σ c a p (fork (other τ) cr d r b)))
 unfolding plug
 sized-that C σ τ c cr a b d p r z =
-    sized-turn C (other σ) σ c (fork (other τ) cr d r b) p a (sized-turn (frame (other σ) c p a ∷ C) τ (other τ) cr b r d (sized-turn C σ (other σ) c a p (fork τ cr b r d) z))
+    sized-turn C (other σ) σ c (fork (other τ) cr d r b) p a
+    (sized-turn (frame (other σ) c p a ∷ C) τ (other τ) cr b r d (sized-turn C σ (other σ) c a p (fork τ cr b r d) z))
 
-count-that : (k : ℕ) (C : Way) (σ τ : Side) (c cr : Colour) (a b d : Sided) (p r : ℕ) → count k (plug C (fork σ c a p (fork (other τ) cr d r b))) ≡ count k (plug C (fork σ c a p (fork τ cr b r d)))
+count-that : (k : ℕ) (C : Way) (σ τ : Side) (c cr : Colour) (a b d : Sided) (p r : ℕ)
+    → count k (plug C (fork σ c a p (fork (other τ) cr d r b))) ≡ count k (plug C (fork σ c a p (fork τ cr b r d)))
 unfolding count
-count-that k C σ τ c cr a b d p r = omega (arith, count-plug k C (fork σ c a p (fork (other τ) cr d r b)), count-plug k C (fork σ c a p (fork τ cr b r d)))
+count-that k C σ τ c cr a b d p r =
+    omega (arith, count-plug k C (fork σ c a p (fork (other τ) cr d r b)), count-plug k C (fork σ c a p (fork τ cr b r d)))
 
 rotated-null : (near far : ℕ) (s : Links) → rotated near far s null ≡ s
 unfolding rotated
@@ -148,11 +174,14 @@ module _ {n : ℕ} {o : Sided} where
         tree = plug (v .path) t;
         site = whole (v .path) (painting c (v .site));
         sized = sized-of (painted s i c) refl (sized-hue (v .path) leftward (v .colour) c (v .near) i (v .far) (v .sized));
-        same = λ k. omega (arith, v .same k, count-plug k (v .path) t, count-plug k (v .path) (fork leftward (v .colour) (v .near) i (v .far)));
+        same =
+            λ k.
+            omega (arith, v .same k, count-plug k (v .path) t, count-plug k (v .path) (fork leftward (v .colour) (v .near) i (v .far)));
       }
 
   -- The rotation at a place.
-  spin : {s : Links} {σ : Side} {cp cr : Colour} {a b d : Sided} {p r : ℕ} {C : Way} → Site n s C (fork σ cp a p (fork σ cr b r d)) → Sized n s (plug C (fork σ cp a p (fork σ cr b r d))) → ((k : ℕ) → count k (plug C (fork σ cp a p (fork σ cr b r d))) ≡ count k o)
+  spin : {s : Links} {σ : Side} {cp cr : Colour} {a b d : Sided} {p r : ℕ} {C : Way} → Site n s C (fork σ cp a p (fork σ cr b r d))
+      → Sized n s (plug C (fork σ cp a p (fork σ cr b r d))) → ((k : ℕ) → count k (plug C (fork σ cp a p (fork σ cr b r d))) ≡ count k o)
       → Steady n o (rotated (toward σ) (toward (other σ)) s p)
   unfolding count
   spin {s} {σ} {cp} {cr} {a} {b} {d} {p} {r} {C} h z e =
@@ -165,13 +194,16 @@ module _ {n : ℕ} {o : Sided} where
       }
 
   -- The child that comes up, by either name.
-  spin-far : {s : Links} {c : Colour} {a : Sided} {p : ℕ} {C : Way} (σ : Side) (far : Sided) → Site n s C (fork σ c a p far) → Sized n s (plug C (fork σ c a p far)) → ((k : ℕ) → count k (plug C (fork σ c a p far)) ≡ count k o) → Steady n o s
+  spin-far : {s : Links} {c : Colour} {a : Sided} {p : ℕ} {C : Way} (σ : Side) (far : Sided) → Site n s C (fork σ c a p far)
+      → Sized n s (plug C (fork σ c a p far)) → ((k : ℕ) → count k (plug C (fork σ c a p far)) ≡ count k o) → Steady n o s
       → Steady n o (rotated (toward σ) (toward (other σ)) s p)
   spin-far {s} {p = p} σ bare h z e y = rw (rotated-childless (toward σ) (toward (other σ)) s p (cell-of (h .tree) .that)) y
   spin-far leftward (fork leftward cr b r d) h z e y = spin h z e
   spin-far rightward (fork rightward cr b r d) h z e y = spin h z e
-  spin-far {c = c} {a} {p} {C} leftward (fork rightward cr b r d) h z e y = spin (turn-that h) (sized-that C leftward rightward c cr a b d p r z) (λ k. count-that k C leftward rightward c cr a b d p r ∙ e k)
-  spin-far {c = c} {a} {p} {C} rightward (fork leftward cr b r d) h z e y = spin (turn-that h) (sized-that C rightward leftward c cr a b d p r z) (λ k. count-that k C rightward leftward c cr a b d p r ∙ e k)
+  spin-far {c = c} {a} {p} {C} leftward (fork rightward cr b r d) h z e y =
+      spin (turn-that h) (sized-that C leftward rightward c cr a b d p r z) (λ k. count-that k C leftward rightward c cr a b d p r ∙ e k)
+  spin-far {c = c} {a} {p} {C} rightward (fork leftward cr b r d) h z e y =
+      spin (turn-that h) (sized-that C rightward leftward c cr a b d p r z) (λ k. count-that k C rightward leftward c cr a b d p r ∙ e k)
 
   pub steady-rotated : {s : Links} {near far : ℕ} (p : ℕ) → Sides near far → Of o p → Steady n o s → Steady n o (rotated near far s p)
   steady-rotated {s} {near} {far} p f (no e) h = rw (e, rotated-null near far s) h
@@ -182,13 +214,23 @@ module _ {n : ℕ} {o : Sided} where
   unfolding plug
   steady-rooted {s} x l e h = let v = viewed leftward x l h in go (v .path) (v .site) (v .sized) (v .same)
     where
-      go : {c : Colour} {a b : Sided} (C : Way) → Site n s C (fork leftward c a x b) → Sized n s (plug C (fork leftward c a x b)) → ((k : ℕ) → count k (plug C (fork leftward c a x b)) ≡ count k o) → Steady n o (rooted s x)
+      go : {c : Colour} {a b : Sided} (C : Way) → Site n s C (fork leftward c a x b) → Sized n s (plug C (fork leftward c a x b))
+          → ((k : ℕ) → count k (plug C (fork leftward c a x b)) ≡ count k o) → Steady n o (rooted s x)
       go [] k z f = record { tree = _; site = rooting k; sized = sized-of (rooted s x) refl z; same = f }
       go (frame τ c q y ∷ C) k z f = absurd (omega (arith, sym (cell-of (k .tree) .above) ∙ e, way-cell (k .way) .inside, k .cap .small))
 
 -- Painting and rotating keep all that, so both balancings do.
 keeping : (n : ℕ) (o : Sided) → Keeping (Of o) (λ (i : ℕ). 1 ≤ count i o) (Steady n o)
-keeping n o = record { loose = slot; solid = solid-of; link = link-of; root = root-of; paint = steady-painted; spin = steady-rotated; crown = steady-rooted }
+keeping n o =
+    record {
+      loose = slot;
+      solid = solid-of;
+      link = link-of;
+      root = root-of;
+      paint = steady-painted;
+      spin = steady-rotated;
+      crown = steady-rooted;
+    }
 
 module _ {n : ℕ} {o : Sided} where
   pub steady-insertionTurns : {s : Links} (m x : ℕ) → 1 ≤ count x o → Steady n o s → Steady n o (insertionTurns m s x)

@@ -24,10 +24,12 @@ below-plain : (k : ℕ) (t : Sided) → sizeBy k t ≡ sizeIn k (plain t)
 unfolding sizeBy plain sizeIn
 below-plain k bare = refl
 below-plain k (fork leftward c a i b) =
-    let e : 1 + weight a + weight b ≡ length (slots (node c (plain a) i (plain b))) = omega (arith, weight-plain a, weight-plain b, length-node c (plain a) i (plain b)) in
+    let e : 1 + weight a + weight b ≡ length (slots (node c (plain a) i (plain b))) =
+    omega (arith, weight-plain a, weight-plain b, length-node c (plain a) i (plain b)) in
     omega (arith, ap (only k i) e, below-plain k a, below-plain k b)
 below-plain k (fork rightward c a i b) =
-    let e : 1 + weight a + weight b ≡ length (slots (node c (plain b) i (plain a))) = omega (arith, weight-plain a, weight-plain b, length-node c (plain b) i (plain a)) in
+    let e : 1 + weight a + weight b ≡ length (slots (node c (plain b) i (plain a))) =
+    omega (arith, weight-plain a, weight-plain b, length-node c (plain b) i (plain a)) in
     omega (arith, ap (only k i) e, below-plain k a, below-plain k b)
 
 pub sized-plain : {n : ℕ} {s : Links} {t : Sided} → Sized n s t → SizedTree n s (plain t)
@@ -44,7 +46,8 @@ pub sized-any : {n : ℕ} {s : Links} (t u : Sided) → Site n s [] t → Site n
 sized-any {n} {s} t u h k z = plain-sized u (rw (one-tree t u h k) at (sized-plain z))
 
 -- The balancings: whatever tree the links hold afterwards, the sizes are right for it.
-module _ {n : ℕ} {s : Links} {σ : Side} {c : Colour} {a b : Sided} {x : ℕ} (C : Way) (h : Site n s C (fork σ c a x b)) (z : Sized n s (plug C (fork σ c a x b))) where
+module _ {n : ℕ} {s : Links} {σ : Side} {c : Colour} {a b : Sided} {x : ℕ} (C : Way) (h : Site n s C (fork σ c a x b))
+    (z : Sized n s (plug C (fork σ c a x b))) where
   steady : Steady n (plug C (fork σ c a x b)) s
   steady = record { tree = plug C (fork σ c a x b); site = whole C h; sized = z; same = λ k. refl }
 

@@ -1,4 +1,5 @@
--- The leftmost slot below a slot: a way of left turns only leads down to it, and no way is longer than there are slots, so the budget lasts.
+-- The leftmost slot below a slot: a way of left turns only leads down to it, and no way is longer than there are slots,
+-- so the budget lasts.
 use mathlib.Core.Path.{_≡_, refl, _∙_}
 use mathlib.Core.List.{List, [], _∷_, _++_, append-assoc}
 use mathlib.Core.Bool.{false}
@@ -45,9 +46,11 @@ unfolding leftmost
 leftmost-on m s i j e f = rw (leftmost, e, f)
 
 -- A step down to the left.
-deeper : {n m : ℕ} {s : Links} {c : Colour} {i j : ℕ} {y : Sided} {E : Way} {l k : List ℕ} → read s i left ≡ j → eqb j null ≡ false → l ≡ k → Found n m s (frame leftward c i y ∷ E) j l → Found n (suc m) s E i k
+deeper : {n m : ℕ} {s : Links} {c : Colour} {i j : ℕ} {y : Sided} {E : Way} {l k : List ℕ} → read s i left ≡ j → eqb j null ≡ false → l ≡ k
+    → Found n m s (frame leftward c i y ∷ E) j l → Found n (suc m) s E i k
 deeper {m = m} {s} {c} {i} {j} {y} {E} e f g r =
-    let a : (r .path ++ (frame leftward c i y ∷ [])) ++ E ≡ r .path ++ (frame leftward c i y ∷ E) = append-assoc (r .path) (frame leftward c i y ∷ []) E in
+    let a : (r .path ++ (frame leftward c i y ∷ [])) ++ E ≡ r .path ++ (frame leftward c i y ∷ E) =
+    append-assoc (r .path) (frame leftward c i y ∷ []) E in
     record {
       path = r .path ++ (frame leftward c i y ∷ []);
       lefts = edge-more c i y (r .lefts);
@@ -61,14 +64,27 @@ deeper {m = m} {s} {c} {i} {j} {y} {E} e f g r =
     }
 
 -- The leftmost slot from i down: i itself where its left child x is bare. The budget m makes up for the way E above.
-pub successor : {n : ℕ} {s : Links} {c : Colour} {i : ℕ} {y : Sided} {E : Way} (x : Sided) (m : ℕ) → n ≤ m + length E → Site n s E (fork leftward c x i y) → Part E (fork leftward c x i y)
+pub successor : {n : ℕ} {s : Links} {c : Colour} {i : ℕ} {y : Sided} {E : Way} (x : Sided) (m : ℕ) → n ≤ m + length E
+    → Site n s E (fork leftward c x i y) → Part E (fork leftward c x i y)
     → Found n m s E i (slots (plug E (fork leftward c x i y)))
 unfolding plug
 successor {s = s} {c} {i} {y} bare m l h o =
-    record { path = []; lefts = low; colour = c; slot = i; rest = y; site = h; part = o; same = refl; finds = leftmost-here m s i (cell-of (h .tree) .this) }
+    record {
+      path = [];
+      lefts = low;
+      colour = c;
+      slot = i;
+      rest = y;
+      site = h;
+      part = o;
+      same = refl;
+      finds = leftmost-here m s i (cell-of (h .tree) .this);
+    }
 successor (fork σ d a j b) zero l h o = absurd (omega (arith, depth h))
 successor (fork leftward d a j b) (suc m) l h o =
-    deeper (cell-of (h .tree) .this) (solid (cell-of (this-of (h .tree)) .inside) (h .cap .small)) refl (successor a m (omega arith) (inward h) (part-in o))
+    deeper (cell-of (h .tree) .this) (solid (cell-of (this-of (h .tree)) .inside) (h .cap .small)) refl
+    (successor a m (omega arith) (inward h) (part-in o))
 successor {c = c} {i} {y} {E} (fork rightward d a j b) (suc m) l h o =
-    deeper (cell-of (h .tree) .this) (solid (cell-of (this-of (h .tree)) .inside) (h .cap .small)) (slots-turn rightward (frame leftward c i y ∷ E) d a j b)
+    deeper (cell-of (h .tree) .this) (solid (cell-of (this-of (h .tree)) .inside) (h .cap .small))
+    (slots-turn rightward (frame leftward c i y ∷ E) d a j b)
     (successor b m (omega arith) (turn (inward h)) (part-turn leftward j (part-in o)))

@@ -32,13 +32,19 @@ only-miss k i v e = only-ne v (apart e)
 pub below-none : (k : ℕ) (t : Sided) → count k t ≡ 0 → sizeBy k t ≡ 0
 unfolding sizeBy count
 below-none k bare e = refl
-below-none k (fork σ c a i b) e = omega (arith, only-miss k i (1 + weight a + weight b) (omega arith), below-none k a (omega arith), below-none k b (omega arith))
+below-none k (fork σ c a i b) e =
+    omega (arith, only-miss k i (1 + weight a + weight b) (omega arith), below-none k a (omega arith), below-none k b (omega arith))
 
 pub belowWay-none : (k w : ℕ) (C : Way) → countWay k C ≡ 0 → sizeAlong k w C ≡ 0
 unfolding sizeAlong countWay
 belowWay-none k w [] e = refl
 belowWay-none k w (frame σ c i b ∷ C) e =
-    omega (arith, only-miss k i (1 + w + weight b) (omega arith), below-none k b (omega arith), belowWay-none k (1 + w + weight b) C (omega arith))
+    omega (
+      arith,
+      only-miss k i (1 + w + weight b) (omega arith),
+      below-none k b (omega arith),
+      belowWay-none k (1 + w + weight b) C (omega arith),
+    )
 
 -- The whole by its parts.
 pub weight-plug : (C : Way) (t : Sided) → weight (plug C t) ≡ weightWay C + weight t
@@ -63,7 +69,8 @@ weight-plain (fork leftward c a i b) = omega (arith, weight-plain a, weight-plai
 weight-plain (fork rightward c a i b) = omega (arith, weight-plain a, weight-plain b, length-node c (plain b) i (plain a))
 
 pub weight-cap : {n : ℕ} {s : Links} (C : Way) {t : Sided} → Site n s C t → weight (plug C t) ≤ n
-weight-cap {n} {s} C {t} h = omega (arith, weight-plain (plug C t), rooted-most n (s .cells) (h .cap .small) (s .root) (site-holds (plug C t) (whole C h) .rooted))
+weight-cap {n} {s} C {t} h =
+    omega (arith, weight-plain (plug C t), rooted-most n (s .cells) (h .cap .small) (s .root) (site-holds (plug C t) (whole C h) .rooted))
 
 -- A sum that stays below 2^32 is the sum.
 pub sum-is : (m n : ℕ) → m + n ≤ null → sum m n ≡ m + n
@@ -78,7 +85,8 @@ pub size-other : (l : List ℕ) (i v k : ℕ) → k ≢ i → getD (set l i v) k
 size-other l i v k d = getD-set-other l i k v 0 d
 
 -- The slot in view has the weight of the part in view, if it stands nowhere else.
-pub below-view : (C : Way) (σ : Side) (c : Colour) (a : Sided) (i : ℕ) (b : Sided) → countWay i C + count i a + count i b ≡ 0 → sizeBy i (plug C (fork σ c a i b)) ≡ 1 + weight a + weight b
+pub below-view : (C : Way) (σ : Side) (c : Colour) (a : Sided) (i : ℕ) (b : Sided) → countWay i C + count i a + count i b ≡ 0
+    → sizeBy i (plug C (fork σ c a i b)) ≡ 1 + weight a + weight b
 unfolding sizeBy
 below-view C σ c a i b o =
     omega (

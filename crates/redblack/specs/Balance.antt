@@ -10,14 +10,16 @@ use Rattle.redblack.specs.Sided.{Sided, bare, fork, frame, Way, plug, sl
 -- and no red slot is a child of a red one.
 pub data RedBlack : Colour → ℕ → Sided → Type 0 where
   void : RedBlack black 0 bare
-  dark : {σ : Side} {c d : Colour} {h : ℕ} {a b : Sided} {i : ℕ} → RedBlack c h a → RedBlack d h b → RedBlack black (suc h) (fork σ black a i b)
+  dark : {σ : Side} {c d : Colour} {h : ℕ} {a b : Sided} {i : ℕ} → RedBlack c h a → RedBlack d h b
+      → RedBlack black (suc h) (fork σ black a i b)
   rosy : {σ : Side} {h : ℕ} {a b : Sided} {i : ℕ} → RedBlack black h a → RedBlack black h b → RedBlack red h (fork σ red a i b)
 
 -- `Wants h c C`: with a tree of black height h at its end, the way C makes a red-black whole.
 -- c is the colour that the way begins with, and red where it is the root's place: under red only a black top may come.
 pub data Wants : ℕ → Colour → Way → Type 0 where
   atop : {h : ℕ} → Wants h red []
-  below : {h : ℕ} {c d : Colour} {σ : Side} {i : ℕ} {b : Sided} {C : Way} → Wants (suc h) c C → RedBlack d h b → Wants h black (frame σ black i b ∷ C)
+  below : {h : ℕ} {c d : Colour} {σ : Side} {i : ℕ} {b : Sided} {C : Way} → Wants (suc h) c C → RedBlack d h b
+      → Wants h black (frame σ black i b ∷ C)
   under : {h : ℕ} {σ : Side} {i : ℕ} {b : Sided} {C : Way} → Wants h black C → RedBlack black h b → Wants h red (frame σ red i b ∷ C)
 
 -- The colour of a slot that comes up to the end of the way: at the root's place it is black.

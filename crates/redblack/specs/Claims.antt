@@ -20,7 +20,8 @@ use Rattle.redblack.specs.Sizes.{SizedTree}
 use Rattle.redblack.specs.Kept.{Aside, Keeps, Agree, Absent}
 use Rattle.redblack.specs.Holding.{Holds, RedBlackTree, Stands, Fresh, Has, Hung, depth, plain}
 
--- What the theory's words say in plain ones. `plain` gives the plain tree that a sided one names, and a place in a tree is a view of the whole.
+-- What the theory's words say in plain ones. `plain` gives the plain tree that a sided one names,
+-- and a place in a tree is a view of the whole.
 pub record PlainWords : Type 0 where
   -- every plain tree has such a name
   pub named : (t : Tree) → (u : Sided) × (plain u ≡ t)
@@ -47,11 +48,14 @@ spun σ s p = rotated (toward σ) (toward (other σ)) s p
 pub record Rotates (σ : Side) (s : Links) (p : ℕ) : Type 0 where
   -- the child r stands in p's place with p below it, r's inner subtree b is p's now, and all else of the tree is as it was;
   -- r keeps its colour, but at the root's place it is black
-  pub held : {n : ℕ} {C : Way} {cp cr : Colour} {a b d : Sided} {r : ℕ} → Site n s C (fork σ cp a p (fork σ cr b r d)) → Site n (spun σ s p) C (fork σ (crown C cr) (fork σ cp a p b) r d)
+  pub held : {n : ℕ} {C : Way} {cp cr : Colour} {a b d : Sided} {r : ℕ} → Site n s C (fork σ cp a p (fork σ cr b r d))
+      → Site n (spun σ s p) C (fork σ (crown C cr) (fork σ cp a p b) r d)
   -- the slots in order are the same list
-  pub order : (C : Way) (cp cr : Colour) (a b d : Sided) (r : ℕ) → listed (plug C (fork σ (crown C cr) (fork σ cp a p b) r d)) ≡ listed (plug C (fork σ cp a p (fork σ cr b r d)))
+  pub order : (C : Way) (cp cr : Colour) (a b d : Sided) (r : ℕ)
+      → listed (plug C (fork σ (crown C cr) (fork σ cp a p b) r d)) ≡ listed (plug C (fork σ cp a p (fork σ cr b r d)))
   -- a slot that stands nowhere in the tree keeps all its words
-  pub spares : {n j : ℕ} {C : Way} {c : Colour} {a b : Sided} → Site n s C (fork σ c a p b) → Absent j (plug C (fork σ c a p b)) → Agree s (spun σ s p) j
+  pub spares : {n j : ℕ} {C : Way} {c : Colour} {a b : Sided} → Site n s C (fork σ c a p b) → Absent j (plug C (fork σ c a p b))
+      → Agree s (spun σ s p) j
   -- place, prev and next of every slot are as they were, on any words
   pub keeps : (f : ℕ) → Aside f → Keeps f s (spun σ s p)
   -- "p null .. returns root", on any words
@@ -59,7 +63,8 @@ pub record Rotates (σ : Side) (s : Links) (p : ℕ) : Type 0 where
   -- "or the needed child null"
   pub no-child : read s p (toward (other σ)) ≡ null → spun σ s p ≡ s
   -- "a child that becomes root is painted black"
-  pub crowned : {n : ℕ} {cp cr : Colour} {a b d : Sided} {r : ℕ} → Site n s [] (fork σ cp a p (fork σ cr b r d)) → (spun σ s p .root ≡ r) × (read (spun σ s p) r state ≡ code black)
+  pub crowned : {n : ℕ} {cp cr : Colour} {a b d : Sided} {r : ℕ} → Site n s [] (fork σ cp a p (fork σ cr b r d))
+      → (spun σ s p .root ≡ r) × (read (spun σ s p) r state ≡ code black)
 
 -- balance_insertion after the slot x was hung in a red-black tree t, which made it t′.
 pub record BalancesInsertion (n budget : ℕ) (s : Links) (x : ℕ) : Type 0 where
@@ -69,34 +74,43 @@ pub record BalancesInsertion (n budget : ℕ) (s : Links) (x : ℕ) : Type 0 whe
   -- the capacity is budget enough
   pub enough : (t : Tree) → Holds n s t → depth t ≤ n
   -- a slot that stands nowhere in the tree keeps all its words
-  pub spares : {j : ℕ} {σ : Side} {C : Way} {c : Colour} {a b : Sided} → Site n s C (fork σ c a x b) → Absent j (plug C (fork σ c a x b)) → Agree s (balancedInsertion budget s x) j
+  pub spares : {j : ℕ} {σ : Side} {C : Way} {c : Colour} {a b : Sided} → Site n s C (fork σ c a x b) → Absent j (plug C (fork σ c a x b))
+      → Agree s (balancedInsertion budget s x) j
   -- place, prev and next of every slot are as they were, on any words
   pub keeps : (f : ℕ) → Aside f → Keeps f s (balancedInsertion budget s x)
 
 -- balance_deletion from the slot x, whose subtree t stands at the end of the way C and has one black less than C wants.
--- g stands in for t: it is what t counts as once the driver is done. "The one child takes the slot's position": the replacement stays, and g is t itself.
+-- g stands in for t: it is what t counts as once the driver is done. "The one child takes the slot's position": the replacement stays,
+-- and g is t itself.
 -- "Or the slot stands as its own replacement": it is detached afterwards, and g is bare, so that the tree is red-black without it.
 pub record BalancesDeletion (n budget : ℕ) (s : Links) (x : ℕ) : Type 0 where
-  -- t stands unchanged at the end of a new way, with g in its place the whole is red-black, and every tree there has the neighbours that it had
-  pub mends : {σ : Side} {C : Way} {h : ℕ} {c : Colour} {a b g : Sided} → Wants (suc h) c C → RedBlack black h g → Site n s C (fork σ black a x b) → length C < budget → Mended n (balancedDeletion budget s x) C (fork σ black a x b) g
+  -- t stands unchanged at the end of a new way, with g in its place the whole is red-black,
+  -- and every tree there has the neighbours that it had
+  pub mends : {σ : Side} {C : Way} {h : ℕ} {c : Colour} {a b g : Sided} → Wants (suc h) c C → RedBlack black h g
+      → Site n s C (fork σ black a x b) → length C < budget → Mended n (balancedDeletion budget s x) C (fork σ black a x b) g
   -- a replacement that stays: the tree is red-black, and its slots in order are the same list
-  pub staying : {σ : Side} {C : Way} {h : ℕ} {c : Colour} {a b : Sided} → Wants (suc h) c C → RedBlack black h (fork σ black a x b) → Site n s C (fork σ black a x b) → length C < budget
+  pub staying : {σ : Side} {C : Way} {h : ℕ} {c : Colour} {a b : Sided} → Wants (suc h) c C → RedBlack black h (fork σ black a x b)
+      → Site n s C (fork σ black a x b) → length C < budget
       → (u : Tree) × Holds n (balancedDeletion budget s x) u × RedBlackTree u × (slots u ≡ listed (plug C (fork σ black a x b)))
   -- its own replacement, a black slot without children: the tree is red-black with nothing in its place
-  pub going : {σ : Side} {C : Way} {c : Colour} → Wants 1 c C → Site n s C (fork σ black bare x bare) → length C < budget → Mended n (balancedDeletion budget s x) C (fork σ black bare x bare) bare
+  pub going : {σ : Side} {C : Way} {c : Colour} → Wants 1 c C → Site n s C (fork σ black bare x bare) → length C < budget
+      → Mended n (balancedDeletion budget s x) C (fork σ black bare x bare) bare
   -- a red replacement below the root, which in a red-black tree the one child is, is painted black, and no other word changes
-  pub blackened : {σ : Side} {f : Frame} {C : Way} {a b : Sided} → Site n s (f ∷ C) (fork σ red a x b) → 0 < budget → balancedDeletion budget s x ≡ painted s x black
+  pub blackened : {σ : Side} {f : Frame} {C : Way} {a b : Sided} → Site n s (f ∷ C) (fork σ red a x b) → 0 < budget
+      → balancedDeletion budget s x ≡ painted s x black
   -- the capacity is budget enough
   pub enough : {σ : Side} {C : Way} {c : Colour} {a b : Sided} → Site n s C (fork σ c a x b) → length C < n
   -- a slot that stands nowhere in the tree keeps all its words
-  pub spares : {j : ℕ} {σ : Side} {C : Way} {c : Colour} {a b : Sided} → Site n s C (fork σ c a x b) → Absent j (plug C (fork σ c a x b)) → Agree s (balancedDeletion budget s x) j
+  pub spares : {j : ℕ} {σ : Side} {C : Way} {c : Colour} {a b : Sided} → Site n s C (fork σ c a x b) → Absent j (plug C (fork σ c a x b))
+      → Agree s (balancedDeletion budget s x) j
   -- place, prev and next of every slot are as they were, on any words
   pub keeps : (f : ℕ) → Aside f → Keeps f s (balancedDeletion budget s x)
 
 -- "Remove": the slot p leaves the tree t. Its chain and its own words are the live tree's.
 pub record RemovesSlot (n budget : ℕ) (s : Links) (t : Tree) (p : ℕ) : Type 0 where
   -- the tree is red-black again, and its slots in order are those of t without p
-  pub removes : Holds n s t → RedBlackTree t → Stands p t → n ≤ budget → (u : Tree) × Holds n (removed budget s p) u × RedBlackTree u × OneFewer p (slots t) (slots u)
+  pub removes : Holds n s t → RedBlackTree t → Stands p t → n ≤ budget
+      → (u : Tree) × Holds n (removed budget s p) u × RedBlackTree u × OneFewer p (slots t) (slots u)
   -- a slot that stands nowhere in the tree keeps all its words
   pub spares : Holds n s t → RedBlackTree t → Stands p t → (j : ℕ) → Fresh j t → Agree s (removed budget s p) j
   -- place, prev and next of every slot are as they were, on any words
@@ -105,26 +119,35 @@ pub record RemovesSlot (n budget : ℕ) (s : Links) (t : Tree) (p : ℕ) : Type 
 -- "Insert .. hangs it where the order says .. then balances": the slot x, whose pair no slot of the tree t has, joins it.
 pub record HangsSlot (n budget : ℕ) (names : List ℕ) (s : Links) (t : Tree) (x hash key : ℕ) : Type 0 where
   -- the tree is red-black again, its pairs strictly rise, and its slots in order are those of t with x among them
-  pub hangs : Holds n s t → RedBlackTree t → Rising names (slots t) → (Has names t hash key → ⊥) → x < n → Fresh x t → pairOf names x ≡ pair hash key → n ≤ budget
-      → (u : Tree) × Holds n (inserted budget s x (spotted budget names s hash key)) u × RedBlackTree u × Rising names (slots u) × OneFewer x (slots u) (slots t)
+  pub hangs : Holds n s t → RedBlackTree t → Rising names (slots t) → (Has names t hash key → ⊥) → x < n → Fresh x t
+      → pairOf names x ≡ pair hash key → n ≤ budget
+      → (u : Tree) × Holds n (inserted budget s x (spotted budget names s hash key)) u × RedBlackTree u × Rising names (slots u)
+      × OneFewer x (slots u) (slots t)
   -- another slot that stands nowhere in the tree keeps all its words
   pub spares : Holds n s t → RedBlackTree t → Rising names (slots t) → (Has names t hash key → ⊥) → x < n → Fresh x t → n ≤ budget
       → (j : ℕ) → j ≢ x → Fresh j t → Agree s (inserted budget s x (spotted budget names s hash key)) j
   -- place, prev and next of every slot are as they were, on any words
   pub keeps : (f : ℕ) → Aside f → Keeps f s (inserted budget s x (spotted budget names s hash key))
 
--- The stored sizes: where they are those of the tree t that the links hold, they are afterwards those of the tree u that the links hold then.
+-- The stored sizes: where they are those of the tree t that the links hold,
+-- they are afterwards those of the tree u that the links hold then.
 -- That there is such a tree the claims above say.
 pub record KeepsSizes (n budget : ℕ) (s : Links) (t : Tree) : Type 0 where
   -- a rotation and both balancings, on any tree, red-black or not
-  pub rotation : Holds n s t → SizedTree n s t → (σ : Side) (p : ℕ) → Stands p t → (u : Tree) → Holds n (spun σ s p) u → SizedTree n (spun σ s p) u
-  pub insertion : (x : ℕ) → Holds n (painted s x red) t → SizedTree n s t → Stands x t → (u : Tree) → Holds n (balancedInsertion budget s x) u → SizedTree n (balancedInsertion budget s x) u
-  pub deletion : (x : ℕ) → Holds n s t → SizedTree n s t → Stands x t → (u : Tree) → Holds n (balancedDeletion budget s x) u → SizedTree n (balancedDeletion budget s x) u
+  pub rotation : Holds n s t → SizedTree n s t → (σ : Side) (p : ℕ) → Stands p t → (u : Tree) → Holds n (spun σ s p) u
+      → SizedTree n (spun σ s p) u
+  pub insertion : (x : ℕ) → Holds n (painted s x red) t → SizedTree n s t → Stands x t → (u : Tree)
+      → Holds n (balancedInsertion budget s x) u → SizedTree n (balancedInsertion budget s x) u
+  pub deletion : (x : ℕ) → Holds n s t → SizedTree n s t → Stands x t → (u : Tree) → Holds n (balancedDeletion budget s x) u
+      → SizedTree n (balancedDeletion budget s x) u
   -- the slot p leaves a red-black tree, and its own size is 0 then
-  pub removal : (p : ℕ) → Holds n s t → RedBlackTree t → SizedTree n s t → Stands p t → n ≤ budget → (u : Tree) → Holds n (removed budget s p) u → SizedTree n (removed budget s p) u
+  pub removal : (p : ℕ) → Holds n s t → RedBlackTree t → SizedTree n s t → Stands p t → n ≤ budget → (u : Tree)
+      → Holds n (removed budget s p) u → SizedTree n (removed budget s p) u
   -- the slot x, whose pair no slot of the tree has, joins it
-  pub hanging : (names : List ℕ) (x hash key : ℕ) → Holds n s t → RedBlackTree t → SizedTree n s t → Rising names (slots t) → (Has names t hash key → ⊥) → x < n → Fresh x t → n ≤ budget
-      → (u : Tree) → Holds n (inserted budget s x (spotted budget names s hash key)) u → SizedTree n (inserted budget s x (spotted budget names s hash key)) u
+  pub hanging : (names : List ℕ) (x hash key : ℕ) → Holds n s t → RedBlackTree t → SizedTree n s t → Rising names (slots t)
+      → (Has names t hash key → ⊥) → x < n → Fresh x t → n ≤ budget
+      → (u : Tree) → Holds n (inserted budget s x (spotted budget names s hash key)) u
+      → SizedTree n (inserted budget s x (spotted budget names s hash key)) u
 
 -- The two traps in the text of the balancing, of the models, on any words.
 pub record Traps (s : Links) : Type 0 where
@@ -133,8 +156,10 @@ pub record Traps (s : Links) : Type 0 where
   -- "A driver that trusts it leaves a red root": the words are as they were, and so a red root stays red
   pub as-it-was : (budget : ℕ) → balancedDeletion budget s (s .root) ≡ s
   pub root-stays-red : (budget : ℕ) → isRed s (s .root) ≡ true → isRed (balancedDeletion budget s (s .root)) (s .root) ≡ true
-  -- "balance_insertion, whose grandparent test is then null, keeps red under red": below a red slot with no parent it paints x red, and that is all
-  pub no-grandparent : (x : ℕ) → read s x parent ≢ null → isRed s (read s x parent) ≡ true → read s (read s x parent) parent ≡ null → insertionTurn s x ≡ done s
+  -- "balance_insertion, whose grandparent test is then null, keeps red under red": below a red slot with no parent it paints x red,
+  -- and that is all
+  pub no-grandparent : (x : ℕ) → read s x parent ≢ null → isRed s (read s x parent) ≡ true → read s (read s x parent) parent ≡ null
+      → insertionTurn s x ≡ done s
   pub red-under-red : (budget x : ℕ) → read s x parent ≢ null → isRed s (read s x parent) ≡ true → read s (read s x parent) parent ≡ null
       → (balancedInsertion budget s x ≡ painted s x red) × (isRed (painted s x red) (read s x parent) ≡ true)
 

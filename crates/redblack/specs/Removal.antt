@@ -12,7 +12,8 @@ replaced s q p x =
     pick (eqb q null) (rooted s x)
     (pick (eqb (read s q left) p) (stored s q left x) (stored s q right x))
 
--- "With two children, successor and slot trade positions and colours." They trade their sizes too. t is the successor; what is read is read before a link changes.
+-- "With two children, successor and slot trade positions and colours." They trade their sizes too. t is the successor;
+-- what is read is read before a link changes.
 unfoldable pub lowered : Links → ℕ → ℕ → ℕ → ℕ → Links
 lowered s p t pr tp =
     let a = stored s p parent tp in

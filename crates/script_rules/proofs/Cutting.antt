@@ -10,7 +10,8 @@ use Rattle.index_rules.specs.Index.{Index}
 use Rattle.script_rules.specs.Text.{newline}
 use Rattle.script_rules.specs.Commands.{spoken}
 use Rattle.script_rules.specs.Answers.{Said, carriedOut}
-use Rattle.script_rules.specs.Feeding.{Line, blank, heldOf, longest, Desk, answered, fedByte, Fed, roomLeft, feeding, feeds, Heard, prefixed, heard, deskOf, printed, Run, over, call}
+use Rattle.script_rules.specs.Feeding.{Line, blank, heldOf, longest, Desk, answered, fedByte, Fed, roomLeft, feeding, feeds, Heard}
+use Rattle.script_rules.specs.Feeding.{prefixed, heard, deskOf, printed, Run, over, call}
 use Rattle.script_rules.proofs.Feeding.{Within, byte-within, feeds-short, feeds-long}
 use Rattle.script_rules.proofs.Room.{answer-short, typed-whole}
 
@@ -62,13 +63,15 @@ fair (b ∷ l) k d rest w = go (decLt (roomLeft (d .paper)) longest) (fair l (su
         record {
           least = rw f (omega arith);
           most = rw f (omega arith);
-          same = rw (f, drop-less (feeding l (suc k) (fedByte d b) .taken) k b l (again .least)) (again .same ∙ byte-heard d b (l ++ rest) w (omega arith));
+          same = rw (f, drop-less (feeding l (suc k) (fedByte d b) .taken) k b l (again .least))
+              (again .same ∙ byte-heard d b (l ++ rest) w (omega arith));
         }
 
 start-within : (line : Line) (ix : Index) (buffer : List ℕ) → Within (deskOf line ix buffer .paper)
 start-within line ix buffer = omega arith
 
-pub call-heard : (line : Line) (ix : Index) (chunk rest buffer : List ℕ) {f : Fed} → longest ≤ length buffer → f ≡ feeds chunk (deskOf line ix buffer)
+pub call-heard : (line : Line) (ix : Index) (chunk rest buffer : List ℕ) {f : Fed} → longest ≤ length buffer
+    → f ≡ feeds chunk (deskOf line ix buffer)
     → prefixed (printed f) (heard (f .desk .line) (f .desk .index) (drop (f .taken) chunk ++ rest)) ≡ heard line ix (chunk ++ rest)
 call-heard line ix chunk rest buffer {f} r e =
     let d = deskOf line ix buffer in
@@ -98,13 +101,19 @@ taken-most chunk line ix buffer = go (decLt (length buffer) longest)
   where
     go : Dec (length buffer < longest) → feeds chunk (deskOf line ix buffer) .taken ≤ length chunk
     go (yes s) = rw (← feeds-short chunk (deskOf line ix buffer) s) (omega arith)
-    go (no n) = rw (← feeds-long chunk (deskOf line ix buffer) (omega arith)) (omega (arith, fair chunk 0 (deskOf line ix buffer) [] (start-within line ix buffer) .most))
+    go (no n) =
+        rw (← feeds-long chunk (deskOf line ix buffer) (omega arith))
+        (omega (arith, fair chunk 0 (deskOf line ix buffer) [] (start-within line ix buffer) .most))
 
-first-taken : (chunk : List ℕ) (d : Desk) → Within (d .paper) → longest ≤ roomLeft (d .paper) → 0 < length chunk → 0 < feeding chunk 0 d .taken
+first-taken : (chunk : List ℕ) (d : Desk) → Within (d .paper) → longest ≤ roomLeft (d .paper) → 0 < length chunk
+    → 0 < feeding chunk 0 d .taken
 unfolding feeding
 first-taken [] d w r h = absurd (omega arith)
-first-taken (b ∷ l) d w r h = rw (le-ltb (roomLeft (d .paper)) longest r) (omega (arith, fair l 1 (fedByte d b) [] (byte-within d b w) .least))
+first-taken (b ∷ l) d w r h =
+    rw (le-ltb (roomLeft (d .paper)) longest r) (omega (arith, fair l 1 (fedByte d b) [] (byte-within d b w) .least))
 
-pub taken-some : (chunk : List ℕ) (line : Line) (ix : Index) (buffer : List ℕ) → longest ≤ length buffer → 0 < length chunk → 0 < feeds chunk (deskOf line ix buffer) .taken
+pub taken-some : (chunk : List ℕ) (line : Line) (ix : Index) (buffer : List ℕ) → longest ≤ length buffer → 0 < length chunk
+    → 0 < feeds chunk (deskOf line ix buffer) .taken
 taken-some chunk line ix buffer r h =
-    rw (← feeds-long chunk (deskOf line ix buffer) r) (first-taken chunk (deskOf line ix buffer) (start-within line ix buffer) (omega arith) h)
+    rw (← feeds-long chunk (deskOf line ix buffer) r)
+    (first-taken chunk (deskOf line ix buffer) (start-within line ix buffer) (omega arith) h)

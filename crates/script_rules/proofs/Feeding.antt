@@ -10,7 +10,8 @@ use lib.ListN.{length, drop, getD, length-set}
 use borrow.Author.Tests.{lt-ltb, le-ltb, eq-eqb, ne-eqb}
 use Rattle.script_rules.specs.Text.{newline}
 use Rattle.script_rules.specs.Commands.{spoken}
-use Rattle.script_rules.specs.Feeding.{Line, blank, heldOf, noted, Paper, typedOne, typed, longest, Turn, performed, Desk, answered, fedByte, Fed, fed, roomLeft, feeding, feeds, finishes}
+use Rattle.script_rules.specs.Feeding.{Line, blank, heldOf, noted, Paper, typedOne, typed, longest, Turn, performed, Desk, answered}
+use Rattle.script_rules.specs.Feeding.{fedByte, Fed, fed, roomLeft, feeding, feeds, finishes}
 use Rattle.script_rules.proofs.Reading.{from, past}
 
 -- Writing does not pass the buffer's end, and keeps its length.
@@ -65,7 +66,8 @@ module _ (chunk : List ℕ) (i : ℕ) (d : Desk) where
   unfolding feeding
   feeding-on h r f = rw (from chunk i h, le-ltb _ _ r, f, add-one i)
 
-pub feeds-short : (chunk : List ℕ) (d : Desk) → length (d .paper .bytes) < longest → _≡_ {A = Fed} (record { number = 1; desk = d; taken = 0 }) (feeds chunk d)
+pub feeds-short : (chunk : List ℕ) (d : Desk) → length (d .paper .bytes) < longest
+    → _≡_ {A = Fed} (record { number = 1; desk = d; taken = 0 }) (feeds chunk d)
 unfolding feeds
 feeds-short chunk d h = rw (lt-ltb _ _ h)
 

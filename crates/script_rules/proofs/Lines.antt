@@ -13,7 +13,8 @@ use Rattle.index_rules.specs.Index.{Index}
 use Rattle.script_rules.specs.Text.{newline}
 use Rattle.script_rules.specs.Commands.{Command, spoken}
 use Rattle.script_rules.specs.Answers.{Said, carriedOut}
-use Rattle.script_rules.specs.Feeding.{width, Line, blank, heldOf, noted, longest, answered, Fed, finishes, prefixed, heard, deskOf, printed, NoNewline, nothing, another}
+use Rattle.script_rules.specs.Feeding.{width, Line, blank, heldOf, noted, longest, answered, Fed, finishes, prefixed, heard, deskOf}
+use Rattle.script_rules.specs.Feeding.{printed, NoNewline, nothing, another}
 use Rattle.script_rules.proofs.Feeding.{ends-none}
 use Rattle.script_rules.proofs.Room.{answer-short, typed-whole}
 
@@ -27,7 +28,8 @@ record Kept (line : Line) : Type 0 where
   long : length (line .bytes) ≡ width
   within : line .count ≤ width
 
-noted-room : (line : Line) (b : ℕ) → line .count < width → noted line b ≡ record { bytes = set (line .bytes) (line .count) b; count = line .count + 1 }
+noted-room : (line : Line) (b : ℕ) → line .count < width
+    → noted line b ≡ record { bytes = set (line .bytes) (line .count) b; count = line .count + 1 }
 unfolding noted
 noted-room line b h = simp (lt-ltb _ _ h)
 
@@ -47,14 +49,16 @@ held-long line k = let a = k .long in let b = k .within in simp length-take (ome
 
 held : (line : Line) (l : List ℕ) → Kept line → heldOf (notedAll line l) ≡ take width (heldOf line ++ l)
 unfolding notedAll
-held line [] k = sym (ap (take width) (append-nil (heldOf line)) ∙ take-all width (heldOf line) (omega (arith, held-long line k, k .within)))
+held line [] k =
+    sym (ap (take width) (append-nil (heldOf line)) ∙ take-all width (heldOf line) (omega (arith, held-long line k, k .within)))
 held line (b ∷ l) k = go (decLt (line .count) width) (held (noted line b) l (noted-kept line b k))
   where
     go : Dec (line .count < width) → heldOf (notedAll (noted line b) l) ≡ take width (heldOf (noted line b) ++ l)
         → heldOf (notedAll (noted line b) l) ≡ take width (heldOf line ++ (b ∷ l))
     go (yes s) again =
         let e : heldOf (noted line b) ≡ heldOf line ++ (b ∷ []) =
-        ap heldOf (noted-room line b s) ∙ rw (add-one (line .count)) (take-suc-set (line .bytes) (line .count) b (omega (arith, k .long))) in
+        ap heldOf (noted-room line b s)
+        ∙ rw (add-one (line .count)) (take-suc-set (line .bytes) (line .count) b (omega (arith, k .long))) in
         again ∙ ap (λ (m : List ℕ). take width (m ++ l)) e ∙ ap (take width) (append-assoc (heldOf line) (b ∷ []) l)
     go (no n) again =
         let f : width ≤ length (heldOf line) = omega (arith, held-long line k) in
@@ -118,7 +122,8 @@ record Last (ix : Index) (l : List ℕ) (f : Fed) : Type 0 where
   text : printed f ≡ carriedOut ix (spoken l) .text
   left : f .desk .index ≡ carriedOut ix (spoken l) .left
 
-ended : (ix : Index) (l buffer : List ℕ) (line : Line) → line ≡ notedAll blank l → l ≢ [] → longest ≤ length buffer → Last ix l (finishes (deskOf line ix buffer))
+ended : (ix : Index) (l buffer : List ℕ) (line : Line) → line ≡ notedAll blank l → l ≢ [] → longest ≤ length buffer
+    → Last ix l (finishes (deskOf line ix buffer))
 unfolding finishes answered
 ended ix l buffer line e n r =
     let s = carriedOut ix (spoken (heldOf line)) in
@@ -126,7 +131,8 @@ ended ix l buffer line e n r =
     let some : line .count ≢ 0 = not-none (rw e (begun l n)) in
     let whole = typed-whole (record { bytes = buffer; at = 0 }) (s .text) (omega (arith, answer-short ix (spoken (heldOf line)))) in
     record {
-      text = rw (le-ltb (length buffer) longest r, ne-eqb (line .count) 0 some) (whole .behind ∙ ap (λ (c : Command). carriedOut ix c .text) m);
+      text = rw (le-ltb (length buffer) longest r, ne-eqb (line .count) 0 some)
+          (whole .behind ∙ ap (λ (c : Command). carriedOut ix c .text) m);
       left = rw (le-ltb (length buffer) longest r, ne-eqb (line .count) 0 some) (ap (λ (c : Command). carriedOut ix c .left) m);
     }
   where

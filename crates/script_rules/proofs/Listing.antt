@@ -60,7 +60,8 @@ module _ (n : ℕ) (cells : List ℕ) (i count : ℕ) {whole : Value} (so-far : 
   pub count-outside : i ≢ null → n ≤ i → none ≡ whole
   count-outside e h = sym (ap (raised count) (met-outside (n - count) n cells i e h)) ∙ so-far
 
-  pub count-on : {j : ℕ} → i ≢ null → i < n → count < n → j ≡ cell cells i next → raised (count + 1) (met (n - (count + 1)) n cells j) ≡ whole
+  pub count-on : {j : ℕ} → i ≢ null → i < n → count < n → j ≡ cell cells i next
+      → raised (count + 1) (met (n - (count + 1)) n cells j) ≡ whole
   count-on e h g f =
       let z : n - count ≡ suc (n - (count + 1)) = omega arith in
       ap (λ (k : ℕ). raised (count + 1) (met (n - (count + 1)) n cells k)) f
@@ -82,14 +83,16 @@ entry-typed p names cells i {h} {k} {at} eh ek ep e1 e2 e3 e4 e5 e6 =
     rw (← eh, ← ek, ← ep, typed-then, typed-then, typed-then)
     (e6 ∙ ap (λ (x : Paper). typedOne x newline)
     (e5 ∙ ap (λ (x : Paper). typed x (decimal at))
-    (e4 ∙ ap (λ (x : Paper). typedOne x space) (e3 ∙ ap (λ (x : Paper). typed x (decimal k)) (e2 ∙ ap (λ (x : Paper). typedOne x space) e1)))))
+    (e4
+    ∙ ap (λ (x : Paper). typedOne x space) (e3 ∙ ap (λ (x : Paper). typed x (decimal k)) (e2 ∙ ap (λ (x : Paper). typedOne x space) e1)))))
 
 pub entries-over : (p : Paper) (names cells : List ℕ) (left i : ℕ) → left ≤ 0 → typed p (entryLines left names cells i) ≡ p
 unfolding entryLines typed
 entries-over p names cells zero i h = refl
 entries-over p names cells (suc left) i h = absurd (omega arith)
 
-pub entries-on : (p : Paper) {q : Paper} (names cells : List ℕ) (left i : ℕ) {j : ℕ} → 0 < left → q ≡ typed p (entryLine names cells i) → j ≡ cell cells i next
+pub entries-on : (p : Paper) {q : Paper} (names cells : List ℕ) (left i : ℕ) {j : ℕ} → 0 < left → q ≡ typed p (entryLine names cells i)
+    → j ≡ cell cells i next
     → typed q (entryLines (left - 1) names cells j) ≡ typed p (entryLines left names cells i)
 unfolding entryLines
 entries-on p names cells zero i h e f = absurd (omega arith)
@@ -104,11 +107,13 @@ module _ (p : Paper) (t : Live) {b : Bool} (f : b ≡ fits t) where
   list-unfit n e = rw (← f, n) e
 
   module _ (y : b ≡ true) {first : ℕ} (at : first ≡ firstOf t) where
-    pub list-lost : {q : Paper} → none ≡ met (slotsOf (t .names)) (slotsOf (t .names)) (t .cells) first → q ≡ typed p (numberLine noText 9) → q ≡ typed p (listing t)
+    pub list-lost : {q : Paper} → none ≡ met (slotsOf (t .names)) (slotsOf (t .names)) (t .cells) first → q ≡ typed p (numberLine noText 9)
+        → q ≡ typed p (listing t)
     unfolding listing
     list-lost m e = rw (← f, y, ← at, ← m) e
 
-    pub list-all : {c : ℕ} {q r : Paper} → some c ≡ met (slotsOf (t .names)) (slotsOf (t .names)) (t .cells) first → q ≡ typed p (numberLine entriesText c)
+    pub list-all : {c : ℕ} {q r : Paper} → some c ≡ met (slotsOf (t .names)) (slotsOf (t .names)) (t .cells) first
+        → q ≡ typed p (numberLine entriesText c)
         → r ≡ typed q (entryLines c (t .names) (t .cells) first) → r ≡ typed p (listing t)
     unfolding listing
     list-all {c} m e g =
@@ -125,6 +130,7 @@ module _ (p : Paper) (ix : Index) {b : Bool} (f : b ≡ fits (ix .live)) where
     unfolding marking fitsIndex
     mark-journal n e = rw (← f, y, ← g, n) e
 
-    pub mark-all : {q : Paper} {m : ℕ} → j ≡ true → m ≡ lengthOf (ix .lines) → q ≡ typed p (numberLine markText m) → q ≡ typed p (marking ix)
+    pub mark-all : {q : Paper} {m : ℕ} → j ≡ true → m ≡ lengthOf (ix .lines) → q ≡ typed p (numberLine markText m)
+        → q ≡ typed p (marking ix)
     unfolding marking fitsIndex
     mark-all n l e = rw (← f, y, ← g, n, ← l) e

@@ -10,8 +10,10 @@ use lib.Dec.{eqb}
 use borrow.Author.Tests.{eqb-true}
 use Rattle.slots.specs.Words.{pick}
 use Rattle.index_rules.proofs.Fit.{both}
-use Rattle.script_rules.specs.Text.{decimal, Read, read, unread, readNumber, readNext, begins, space, plusWord, minusWord, askWord, rollWord, markWord, listWord}
-use Rattle.script_rules.specs.Commands.{Command, insert, remove, find, rollback, mark, list, bad, most64, most32, readThen, alone, pairOf, entryOf, markOf, meant, textOf, Fits}
+use Rattle.script_rules.specs.Text.{decimal, Read, read, unread, readNumber, readNext, begins, space, plusWord, minusWord, askWord}
+use Rattle.script_rules.specs.Text.{rollWord, markWord, listWord}
+use Rattle.script_rules.specs.Commands.{Command, insert, remove, find, rollback, mark, list, bad, most64, most32, readThen, alone}
+use Rattle.script_rules.specs.Commands.{pairOf, entryOf, markOf, meant, textOf, Fits}
 use Rattle.script_rules.proofs.Numbers.{picked, Stops, ended, other, Written, number-read, number-written}
 
 -- A word of one byte or two that stands at the front.
@@ -77,7 +79,8 @@ pair-text : (c : ℕ → ℕ → Command) (m : List ℕ) (d : Command) → pairO
 unfolding pairOf
 pair-text c m d e = first (readNumber most64 m) refl e
   where
-    last : (h k : ℕ) (rest end : List ℕ) → Written most64 m h rest → Spaced most64 rest k end → alone (c h k) end ≡ d → (d ≡ bad) ⊎ Two c m d
+    last : (h k : ℕ) (rest end : List ℕ) → Written most64 m h rest → Spaced most64 rest k end → alone (c h k) end ≡ d
+        → (d ≡ bad) ⊎ Two c m d
     last h k rest [] w s f = inr (record {
       h = h;
       k = k;
@@ -88,11 +91,13 @@ pair-text c m d e = first (readNumber most64 m) refl e
     })
     last h k rest (b ∷ l) w s f = inl (sym f)
 
-    second : (h : ℕ) (rest : List ℕ) → Written most64 m h rest → (r : Read) → readNext most64 rest ≡ r → readThen r (λ k end. alone (c h k) end) ≡ d → (d ≡ bad) ⊎ Two c m d
+    second : (h : ℕ) (rest : List ℕ) → Written most64 m h rest → (r : Read) → readNext most64 rest ≡ r
+        → readThen r (λ k end. alone (c h k) end) ≡ d → (d ≡ bad) ⊎ Two c m d
     second h rest w (read k end) q f = last h k rest end w (next-read most64 rest (omega arith) (omega arith) q) f
     second h rest w unread q f = inl (sym f)
 
-    first : (r : Read) → readNumber most64 m ≡ r → readThen r (λ h rest. readThen (readNext most64 rest) (λ k end. alone (c h k) end)) ≡ d → (d ≡ bad) ⊎ Two c m d
+    first : (r : Read) → readNumber most64 m ≡ r → readThen r (λ h rest. readThen (readNext most64 rest) (λ k end. alone (c h k) end)) ≡ d
+        → (d ≡ bad) ⊎ Two c m d
     first (read h rest) q f = second h rest (number-read most64 m (omega arith) (omega arith) q) (readNext most64 rest) refl f
     first unread q f = inl (sym f)
 
@@ -111,7 +116,8 @@ entry-text : (m : List ℕ) (d : Command) → entryOf m ≡ d → (d ≡ bad) �
 unfolding entryOf
 entry-text m d e = first (readNumber most64 m) refl e
   where
-    last : (h k p : ℕ) (rest more end : List ℕ) → Written most64 m h rest → Spaced most64 rest k more → Spaced most32 more p end → alone (insert h k p) end ≡ d → (d ≡ bad) ⊎ Three m d
+    last : (h k p : ℕ) (rest more end : List ℕ) → Written most64 m h rest → Spaced most64 rest k more → Spaced most32 more p end
+        → alone (insert h k p) end ≡ d → (d ≡ bad) ⊎ Three m d
     last h k p rest more [] w s t f = inr (record {
       h = h;
       k = k;
@@ -132,11 +138,14 @@ entry-text m d e = first (readNumber most64 m) refl e
 
     second : (h : ℕ) (rest : List ℕ) → Written most64 m h rest → (r : Read) → readNext most64 rest ≡ r
         → readThen r (λ k more. readThen (readNext most32 more) (λ p end. alone (insert h k p) end)) ≡ d → (d ≡ bad) ⊎ Three m d
-    second h rest w (read k more) q f = third h k rest more w (next-read most64 rest (omega arith) (omega arith) q) (readNext most32 more) refl f
+    second h rest w (read k more) q f =
+        third h k rest more w (next-read most64 rest (omega arith) (omega arith) q) (readNext most32 more) refl f
     second h rest w unread q f = inl (sym f)
 
     first : (r : Read) → readNumber most64 m ≡ r
-        → readThen r (λ h rest. readThen (readNext most64 rest) (λ k more. readThen (readNext most32 more) (λ p end. alone (insert h k p) end))) ≡ d → (d ≡ bad) ⊎ Three m d
+        → readThen r
+        (λ h rest. readThen (readNext most64 rest) (λ k more. readThen (readNext most32 more) (λ p end. alone (insert h k p) end))) ≡ d
+        → (d ≡ bad) ⊎ Three m d
     first (read h rest) q f = second h rest (number-read most64 m (omega arith) (omega arith) q) (readNext most64 rest) refl f
     first unread q f = inl (sym f)
 
@@ -171,15 +180,21 @@ below32 h = omega arith
 
 told-entry : (l : List ℕ) (d : Command) → l ≡ plusWord ++ drop 2 l → (d ≡ bad) ⊎ Three (drop 2 l) d → Told l d
 told-entry l d w (inl b) = inl b
-told-entry l d w (inr t) = inr (rw (t .is) (below (t .hb), below (t .kb), below32 (t .pb)), w ∙ ap (λ (m : List ℕ). plusWord ++ m) (t .text) ∙ sym (ap textOf (t .is)))
+told-entry l d w (inr t) =
+    inr (
+      rw (t .is) (below (t .hb), below (t .kb), below32 (t .pb)),
+      w ∙ ap (λ (m : List ℕ). plusWord ++ m) (t .text) ∙ sym (ap textOf (t .is)),
+    )
 
 told-remove : (l : List ℕ) (d : Command) → l ≡ minusWord ++ drop 2 l → (d ≡ bad) ⊎ Two remove (drop 2 l) d → Told l d
 told-remove l d w (inl b) = inl b
-told-remove l d w (inr t) = inr (rw (t .is) (below (t .hb), below (t .kb)), w ∙ ap (λ (m : List ℕ). minusWord ++ m) (t .text) ∙ sym (ap textOf (t .is)))
+told-remove l d w (inr t) =
+    inr (rw (t .is) (below (t .hb), below (t .kb)), w ∙ ap (λ (m : List ℕ). minusWord ++ m) (t .text) ∙ sym (ap textOf (t .is)))
 
 told-find : (l : List ℕ) (d : Command) → l ≡ askWord ++ drop 2 l → (d ≡ bad) ⊎ Two find (drop 2 l) d → Told l d
 told-find l d w (inl b) = inl b
-told-find l d w (inr t) = inr (rw (t .is) (below (t .hb), below (t .kb)), w ∙ ap (λ (m : List ℕ). askWord ++ m) (t .text) ∙ sym (ap textOf (t .is)))
+told-find l d w (inr t) =
+    inr (rw (t .is) (below (t .hb), below (t .kb)), w ∙ ap (λ (m : List ℕ). askWord ++ m) (t .text) ∙ sym (ap textOf (t .is)))
 
 told-roll : (l : List ℕ) (d : Command) → l ≡ rollWord ++ drop 2 l → (d ≡ bad) ⊎ One (drop 2 l) d → Told l d
 told-roll l d w (inl b) = inl b

@@ -94,11 +94,17 @@ on-read most v (b ∷ l) {x} {r} n e = go (λ f. on-read most (10 * v + (b - 48)
       stops = d .stops;
     }
 
-    wide : (readOn most (10 * v + (b - 48)) l ≡ read x r → Digits most (10 * v + (b - 48)) l x r) → 48 ≤ b → b ≤ 57 → ((leb v ((most - (b - 48)) / 10) ≡ true) × (readOn most (10 * v + (b - 48)) l ≡ read x r)) ⊎ ((leb v ((most - (b - 48)) / 10) ≡ false) × (unread ≡ read x r)) → Digits most v (b ∷ l) x r
+    wide : (readOn most (10 * v + (b - 48)) l ≡ read x r → Digits most (10 * v + (b - 48)) l x r) → 48 ≤ b → b ≤ 57
+        → ((leb v ((most - (b - 48)) / 10) ≡ true) × (readOn most (10 * v + (b - 48)) l ≡ read x r))
+        ⊎ ((leb v ((most - (b - 48)) / 10) ≡ false) × (unread ≡ read x r))
+        → Digits most v (b ∷ l) x r
     wide again low high (inl (w, f)) = more low high (leb-true _ _ w) (again f)
     wide again low high (inr (w, f)) = unread-not f
 
-    go : (readOn most (10 * v + (b - 48)) l ≡ read x r → Digits most (10 * v + (b - 48)) l x r) → ((isDigit b ≡ true) × (pick (leb v ((most - (b - 48)) / 10)) (readOn most (10 * v + (b - 48)) l) unread ≡ read x r)) ⊎ ((isDigit b ≡ false) × (read v (b ∷ l) ≡ read x r)) → Digits most v (b ∷ l) x r
+    go : (readOn most (10 * v + (b - 48)) l ≡ read x r → Digits most (10 * v + (b - 48)) l x r)
+        → ((isDigit b ≡ true) × (pick (leb v ((most - (b - 48)) / 10)) (readOn most (10 * v + (b - 48)) l) unread ≡ read x r))
+        ⊎ ((isDigit b ≡ false) × (read v (b ∷ l) ≡ read x r))
+        → Digits most v (b ∷ l) x r
     go again (inl (d, f)) = wide again (digit-is b d .0) (digit-is b d .1) (picked (leb v ((most - (b - 48)) / 10)) f)
     go again (inr (d, f)) = stopped most v (other d) f
 
@@ -109,7 +115,8 @@ enough zero m x h g = let l : x < 10 = h in simp (lt-ltb x 10 l)
 enough (suc k) zero x h g = let l : x < 10 = g in simp (lt-ltb x 10 l)
 enough (suc k) (suc m) x h g = go (enough k m (x / 10)) (decLt x 10)
   where
-    go : (x / 10 < 10 ^ suc k → x / 10 < 10 ^ suc m → digits (suc k) (x / 10) ≡ digits (suc m) (x / 10)) → Dec (x < 10) → digits (suc (suc k)) x ≡ digits (suc (suc m)) x
+    go : (x / 10 < 10 ^ suc k → x / 10 < 10 ^ suc m → digits (suc k) (x / 10) ≡ digits (suc m) (x / 10)) → Dec (x < 10)
+        → digits (suc (suc k)) x ≡ digits (suc (suc m)) x
     go again (yes l) = simp (lt-ltb x 10 l)
     go again (no n) =
         let h′ : x < 10 ^ suc k * 10 = rw (pow-suc 10 (suc k)) at h in
@@ -121,7 +128,8 @@ pub record Written (most : ℕ) (l : List ℕ) (x : ℕ) (r : List ℕ) : Type 0
   pub text : l ≡ decimal x ++ r
   pub bound : x ≤ most
 
-pub number-read : (most : ℕ) (l : List ℕ) {x : ℕ} {r : List ℕ} → 9 ≤ most → most < 10 ^ 20 → readNumber most l ≡ read x r → Written most l x r
+pub number-read : (most : ℕ) (l : List ℕ) {x : ℕ} {r : List ℕ} → 9 ≤ most → most < 10 ^ 20 → readNumber most l ≡ read x r
+    → Written most l x r
 unfolding readNumber digits
 number-read most [] n g e = unread-not e
 number-read most (b ∷ l) {x} {r} n g e = go (picked (eqb b 48) e)
@@ -141,12 +149,15 @@ number-read most (b ∷ l) {x} {r} n g e = go (picked (eqb b 48) e)
         lt-trans : x ≤ most → x < 10 ^ 20
         lt-trans h = omega arith
 
-    digit : b ≢ 48 → ((isDigit b ≡ true) × (readOn most (b - 48) l ≡ read x r)) ⊎ ((isDigit b ≡ false) × (unread ≡ read x r)) → Written most (b ∷ l) x r
+    digit : b ≢ 48 → ((isDigit b ≡ true) × (readOn most (b - 48) l ≡ read x r)) ⊎ ((isDigit b ≡ false) × (unread ≡ read x r))
+        → Written most (b ∷ l) x r
     digit ne (inl (d, f)) = nonzero (omega (arith, digit-is b d .0)) (digit-is b d .1) (on-read most (b - 48) l n f)
     digit ne (inr (d, f)) = unread-not f
 
-    go : ((eqb b 48 ≡ true) × (read 0 l ≡ read x r)) ⊎ ((eqb b 48 ≡ false) × (pick (isDigit b) (readOn most (b - 48) l) unread ≡ read x r)) → Written most (b ∷ l) x r
-    go (inl (z, f)) = record { text = rw (← number-is f, ← rest-is f) (ap (λ (c : ℕ). c ∷ l) (eqb-true _ _ z)); bound = rw (← number-is f) (omega arith) }
+    go : ((eqb b 48 ≡ true) × (read 0 l ≡ read x r)) ⊎ ((eqb b 48 ≡ false) × (pick (isDigit b) (readOn most (b - 48) l) unread ≡ read x r))
+        → Written most (b ∷ l) x r
+    go (inl (z, f)) =
+        record { text = rw (← number-is f, ← rest-is f) (ap (λ (c : ℕ). c ∷ l) (eqb-true _ _ z)); bound = rw (← number-is f) (omega arith) }
     go (inr (z, f)) = digit (eqb-false _ _ z) (picked (isDigit b) f)
 
 on-digit : (most v d : ℕ) (l : List ℕ) → d < 10 → 10 * v + d ≤ most → readOn most v ((48 + d) ∷ l) ≡ readOn most (10 * v + d) l
@@ -170,7 +181,8 @@ on-written most (suc k) x r h p b = go (λ l. on-written most k (x / 10) l) (dec
         let h′ : x < 10 ^ k * 10 = rw (pow-suc 10 k) at h in
         let back : 10 * (x / 10) + x % 10 ≡ x = omega arith in
         simp (le-ltb x 10 (omega arith), append-assoc)
-        (again ((48 + x % 10) ∷ r) (omega arith) (omega arith) (omega arith) ∙ on-digit most (x / 10) (x % 10) r (omega arith) (omega arith) ∙ ap (λ (v : ℕ). readOn most v r) back)
+        (again ((48 + x % 10) ∷ r) (omega arith) (omega arith) (omega arith) ∙ on-digit most (x / 10) (x % 10) r (omega arith) (omega arith)
+        ∙ ap (λ (v : ℕ). readOn most v r) back)
 
 -- The first digit of a number above 0 is not 0.
 record First (l : List ℕ) : Type 0 where
@@ -211,7 +223,8 @@ number-written most (suc x) {r} h g st =
     let small : suc x < 10 ^ 20 = omega arith in
     let f = first-digit 20 (suc x) small (omega arith) in
     let all = on-written most 20 (suc x) r small (omega arith) h in
-    ap (λ (l : List ℕ). readNumber most (l ++ r)) (f .is) ∙ opened most (f .byte) (f .after ++ r) (f .low) (f .high) ∙ sym (ap (λ (l : List ℕ). readOn most 0 (l ++ r)) (f .is)) ∙ all ∙ on-stops most (suc x) st
+    ap (λ (l : List ℕ). readNumber most (l ++ r)) (f .is) ∙ opened most (f .byte) (f .after ++ r) (f .low) (f .high)
+    ∙ sym (ap (λ (l : List ℕ). readOn most 0 (l ++ r)) (f .is)) ∙ all ∙ on-stops most (suc x) st
 
 -- The digits are digits, and are worth the number.
 digits-append : {a b : List ℕ} → Text.Digits a → Text.Digits b → Text.Digits (a ++ b)
@@ -232,7 +245,8 @@ unfolding digits worth
 worth-digits zero x r h = ap (λ (v : ℕ). worth v r) (omega arith)
 worth-digits (suc k) x r h = go (decLt x 10) (λ l. worth-digits k (x / 10) l)
   where
-    go : Dec (x < 10) → ((l : List ℕ) → x / 10 < 10 ^ k → worth 0 (digits k (x / 10) ++ l) ≡ worth (x / 10) l) → worth 0 (digits (suc k) x ++ r) ≡ worth x r
+    go : Dec (x < 10) → ((l : List ℕ) → x / 10 < 10 ^ k → worth 0 (digits k (x / 10) ++ l) ≡ worth (x / 10) l)
+        → worth 0 (digits (suc k) x ++ r) ≡ worth x r
     go (yes l) again = let z : 10 * 0 + (48 + x - 48) ≡ x = omega arith in rw (lt-ltb x 10 l) (ap (λ (v : ℕ). worth v r) z)
     go (no n) again =
         let h′ : x < 10 ^ k * 10 = rw (pow-suc 10 k) at h in

@@ -105,7 +105,8 @@ module _ (word l : List ℕ) (i : ℕ) where
   unfolding begins
   begins-other h g n = rw (from word i h, from l i g) (simp (ne-eqb _ _ (λ e. n (sym e))))
 
-  pub begins-on : i < length word → i < length l → getD l i 0 ≡ getD word i 0 → begins (drop i word) (drop i l) ≡ begins (drop (i + 1) word) (drop (i + 1) l)
+  pub begins-on : i < length word → i < length l → getD l i 0 ≡ getD word i 0
+      → begins (drop i word) (drop i l) ≡ begins (drop (i + 1) word) (drop (i + 1) l)
   unfolding begins
   begins-on h g e = rw (from word i h, from l i g) (simp (eq-eqb _ _ (sym e)))
 

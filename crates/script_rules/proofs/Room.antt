@@ -20,7 +20,8 @@ use Rattle.index_rules.specs.Rollback.{rolls}
 use Rattle.index_rules.proofs.Fit.{fits-fit, half}
 use Rattle.script_rules.specs.Text.{digits, space, noText, markText, slotText, goneText, backText}
 use Rattle.script_rules.specs.Commands.{Command, insert, remove, find, rollback, mark, list, bad}
-use Rattle.script_rules.specs.Answers.{numbered, numberLine, valueLine, told, foundValue, foundText, searchLine, more, met, entryLine, entryLines, counting, listing, marking, carriedOut}
+use Rattle.script_rules.specs.Answers.{numbered, numberLine, valueLine, told, foundValue, foundText, searchLine, more, met, entryLine}
+use Rattle.script_rules.specs.Answers.{entryLines, counting, listing, marking, carriedOut}
 use Rattle.script_rules.specs.Feeding.{Paper, typedOne, typed, longest}
 use Rattle.tree_rules.specs.Find.{Counted, counted, slotsOf}
 
@@ -55,7 +56,8 @@ search-short c = go (eqb (c .answer .number) 1) (eqb (c .answer .number) 0) (c .
     front false v = simp length-append (omega (arith, digits-short 20 (c .answer .number)))
 
     go : (u t : Bool) (v : Value)
-        → length (pick u (numberLine noText 1) (pick t (foundValue v) (numbered noText (c .answer .number)) ++ numberLine (space ∷ []) (c .looks))) ≤ 50
+        → length (pick u (numberLine noText 1)
+        (pick t (foundValue v) (numbered noText (c .answer .number)) ++ numberLine (space ∷ []) (c .looks))) ≤ 50
     go true t v = omega (arith, line-short noText 1)
     go false t v =
         omega (
@@ -68,12 +70,18 @@ search-short c = go (eqb (c .answer .number) 1) (eqb (c .answer .number) 0) (c .
 entry-short : (names cells : List ℕ) (i : ℕ) → length (entryLine names cells i) ≤ 63
 unfolding entryLine
 entry-short names cells i =
-    simp length-append (omega (arith, digits-short 20 (nameOf names i hashPart), digits-short 20 (nameOf names i keyPart), digits-short 20 (cell cells i place)))
+    simp length-append (omega (
+      arith,
+      digits-short 20 (nameOf names i hashPart),
+      digits-short 20 (nameOf names i keyPart),
+      digits-short 20 (cell cells i place),
+    ))
 
 entries-short : (c : ℕ) (names cells : List ℕ) (i : ℕ) → length (entryLines c names cells i) ≤ 63 * c
 unfolding entryLines
 entries-short zero names cells i = omega arith
-entries-short (suc c) names cells i = simp length-append (omega (arith, entry-short names cells i, entries-short c names cells (cell cells i next)))
+entries-short (suc c) names cells i =
+    simp length-append (omega (arith, entry-short names cells i, entries-short c names cells (cell cells i next)))
 
 -- No more slots are met than there are visits.
 met-few : (v n : ℕ) (cells : List ℕ) (i : ℕ) {c : ℕ} → met v n cells i ≡ some c → c ≤ v
@@ -83,7 +91,8 @@ met-few zero n cells i e = go (eqb i null) e
     go : {c : ℕ} (t : Bool) → pick t (some 0) none ≡ some c → c ≤ 0
     go {c} true f = let z : 0 ≡ c = cc in omega arith
     go {c} false f = let z : _≡_ {A = ℕ} 0 1 = cc in absurd (omega arith)
-met-few (suc v) n cells i {c} e = go (λ d q. met-few v n cells (cell cells i next) q) (eqb i null) (ltb i n) (met v n cells (cell cells i next)) refl e
+met-few (suc v) n cells i {c} e =
+    go (λ d q. met-few v n cells (cell cells i next) q) (eqb i null) (ltb i n) (met v n cells (cell cells i next)) refl e
   where
     go : ((d : ℕ) → met v n cells (cell cells i next) ≡ some d → d ≤ v) → (s t : Bool) (r : Value) → met v n cells (cell cells i next) ≡ r
         → pick s (some 0) (pick t (more r) none) ≡ some c → c ≤ suc v
@@ -101,7 +110,14 @@ listing-short t = go (fits t) refl (met (slotsOf (t .names)) (slotsOf (t .names)
     go true f (some c) q =
         let fit = fits-fit t f in
         simp length-append
-        (omega (arith, digits-short 20 c, entries-short c (t .names) (t .cells) (firstOf t), met-few (slotsOf (t .names)) (slotsOf (t .names)) (t .cells) (firstOf t) q, half fit, fit .most))
+        (omega (
+          arith,
+          digits-short 20 c,
+          entries-short c (t .names) (t .cells) (firstOf t),
+          met-few (slotsOf (t .names)) (slotsOf (t .names)) (t .cells) (firstOf t) q,
+          half fit,
+          fit .most,
+        ))
     go true f none q = omega (arith, line-short noText 9)
     go false f r q = omega (arith, line-short noText 1)
 
@@ -135,7 +151,9 @@ unfolding typed
 typed-whole p [] h = record { at = omega arith; long = refl; behind = sym (append-nil _) }
 typed-whole p (b ∷ l) h = step (typed-whole (record { bytes = set (p .bytes) (p .at) b; at = p .at + 1 }) l)
   where
-    step : (p .at + 1 + length l ≤ length (set (p .bytes) (p .at) b) → Whole (record { bytes = set (p .bytes) (p .at) b; at = p .at + 1 }) l) → Whole p (b ∷ l)
+    step : (p .at + 1 + length l ≤ length (set (p .bytes) (p .at) b)
+        → Whole (record { bytes = set (p .bytes) (p .at) b; at = p .at + 1 }) l)
+        → Whole p (b ∷ l)
     step again =
         let next : Paper = record { bytes = set (p .bytes) (p .at) b; at = p .at + 1 } in
         let e : typedOne p b ≡ next = simp (lt-ltb (p .at) (length (p .bytes)) (omega arith)) in

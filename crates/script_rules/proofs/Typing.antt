@@ -23,7 +23,8 @@ unfolding typed
 typed-one p b = refl
 
 -- The byte at a place of a word, and then the rest of it.
-pub typed-drop : (p : Paper) (word : List ℕ) (i : ℕ) → i < length word → typed p (drop i word) ≡ typed (typedOne p (getD word i 0)) (drop (i + 1) word)
+pub typed-drop : (p : Paper) (word : List ℕ) (i : ℕ) → i < length word
+    → typed p (drop i word) ≡ typed (typedOne p (getD word i 0)) (drop (i + 1) word)
 unfolding typed
 typed-drop p word i h = rw (add-one i, drop-cons word i 0 h)
 
@@ -57,7 +58,8 @@ digits-more p q r (suc k) x n h e f =
     ∙ simp (le-ltb _ _ h)
 
 -- A word, a number and the end of the line, one after another.
-pub word-number-end : (p : Paper) (word : List ℕ) (v : ℕ) {q r s : Paper} → q ≡ typed p word → r ≡ typed q (decimal v) → s ≡ typedOne r newline
+pub word-number-end : (p : Paper) (word : List ℕ) (v : ℕ) {q r s : Paper} → q ≡ typed p word → r ≡ typed q (decimal v)
+    → s ≡ typedOne r newline
     → s ≡ typed p (numberLine word v)
 word-number-end p word v e f g =
     g ∙ sym (typed-one _ newline) ∙ ap (λ (x : Paper). typed x (newline ∷ [])) (f ∙ ap (λ (x : Paper). typed x (decimal v)) e)

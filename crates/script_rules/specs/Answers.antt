@@ -10,7 +10,8 @@ use Rattle.index_rules.specs.Index.{Index, Outcome, fitsIndex, lengthOf}
 use Rattle.index_rules.specs.Insert.{inserts}
 use Rattle.index_rules.specs.Remove.{removes}
 use Rattle.index_rules.specs.Rollback.{rolls}
-use Rattle.script_rules.specs.Text.{newline, space, decimal, slotText, goneText, atText, noneText, markText, backText, entriesText, noText, badText}
+use Rattle.script_rules.specs.Text.{newline, space, decimal, slotText, goneText, atText, noneText, markText, backText, entriesText}
+use Rattle.script_rules.specs.Text.{noText, badText}
 use Rattle.script_rules.specs.Commands.{Command, insert, remove, find, rollback, mark, list, bad}
 use Rattle.tree_rules.specs.Find.{Counted, counted, slotsOf}
 

@@ -12,7 +12,8 @@ use Rattle.index_rules.specs.Find.{finds}
 use Rattle.script_rules.specs.Text.{newline, space, decimal, worth, Digits, atText, noneText, noText, entriesText}
 use Rattle.script_rules.specs.Commands.{Command, find, bad, spoken, textOf, Fits}
 use Rattle.script_rules.specs.Answers.{numberLine, entryLinesOf, listing, carriedOut}
-use Rattle.script_rules.specs.Feeding.{Line, blank, Paper, typed, longest, feeds, finishes, Heard, prefixed, heard, deskOf, printed, Run, NoNewline}
+use Rattle.script_rules.specs.Feeding.{Line, blank, Paper, typed, longest, feeds, finishes, Heard, prefixed, heard, deskOf, printed}
+use Rattle.script_rules.specs.Feeding.{Run, NoNewline}
 
 -- "decimal numbers", "with no leading zero".
 pub record Decimals (x : ℕ) : Type 0 where
@@ -33,7 +34,8 @@ pub record Means (l : List ℕ) : Type 0 where
 pub record Calls (chunk : List ℕ) (line : Line) (ix : Index) (buffer : List ℕ) : Type 0 where
   -- 1 exactly where the longest answer has no room, and then nothing has changed and nothing is taken
   pub one : (feeds chunk (deskOf line ix buffer) .number ≡ 1) ↔ (length buffer < longest)
-  pub refused : length buffer < longest → feeds chunk (deskOf line ix buffer) ≡ record { number = 1; desk = deskOf line ix buffer; taken = 0 }
+  pub refused : length buffer < longest
+      → feeds chunk (deskOf line ix buffer) ≡ record { number = 1; desk = deskOf line ix buffer; taken = 0 }
   pub other : longest ≤ length buffer → feeds chunk (deskOf line ix buffer) .number ≡ 0
   -- it takes no more than there is, and something where there is room and something to take: calls come to an end
   pub most : feeds chunk (deskOf line ix buffer) .taken ≤ length chunk
@@ -43,11 +45,14 @@ pub record Calls (chunk : List ℕ) (line : Line) (ix : Index) (buffer : List �
 -- 1 is answered before anything is looked at.
 pub record Asks (ix : Index) (h k : ℕ) : Type 0 where
   pub at : (slot : ℕ) → finds (unsizedOf (ix .live)) h k .answer ≡ given slot
-      → carriedOut ix (find h k) .text ≡ atText ++ (decimal slot ++ (space ∷ (decimal (length (finds (unsizedOf (ix .live)) h k .looks)) ++ (newline ∷ []))))
+      → carriedOut ix (find h k) .text
+      ≡ atText ++ (decimal slot ++ (space ∷ (decimal (length (finds (unsizedOf (ix .live)) h k .looks)) ++ (newline ∷ []))))
   pub none : finds (unsizedOf (ix .live)) h k .answer ≡ nothing
-      → carriedOut ix (find h k) .text ≡ noneText ++ (space ∷ (decimal (length (finds (unsizedOf (ix .live)) h k .looks)) ++ (newline ∷ [])))
+      → carriedOut ix (find h k) .text
+      ≡ noneText ++ (space ∷ (decimal (length (finds (unsizedOf (ix .live)) h k .looks)) ++ (newline ∷ [])))
   pub nine : finds (unsizedOf (ix .live)) h k .answer ≡ refused 9
-      → carriedOut ix (find h k) .text ≡ noText ++ (decimal 9 ++ (space ∷ (decimal (length (finds (unsizedOf (ix .live)) h k .looks)) ++ (newline ∷ []))))
+      → carriedOut ix (find h k) .text
+      ≡ noText ++ (decimal 9 ++ (space ∷ (decimal (length (finds (unsizedOf (ix .live)) h k .looks)) ++ (newline ∷ []))))
   pub one : finds (unsizedOf (ix .live)) h k .answer ≡ refused 1 → carriedOut ix (find h k) .text ≡ noText ++ (decimal 1 ++ (newline ∷ []))
   pub left : carriedOut ix (find h k) .left ≡ ix
 
@@ -63,7 +68,8 @@ pub record Claims : Type 0 where
   pub cutting : {line : Line} {ix : Index} {input : List ℕ} {h : Heard} → Run line ix input h → h ≡ heard line ix input
   -- line by line: each is answered as it is meant, and the next begins
   pub lines : (ix : Index) (l rest : List ℕ) → NoNewline l
-      → heard blank ix (l ++ (newline ∷ rest)) ≡ prefixed (carriedOut ix (spoken l) .text) (heard blank (carriedOut ix (spoken l) .left) rest)
+      → heard blank ix (l ++ (newline ∷ rest))
+      ≡ prefixed (carriedOut ix (spoken l) .text) (heard blank (carriedOut ix (spoken l) .left) rest)
   -- "An unended last line counts", and where none has begun nothing is printed
   pub last-line : (ix : Index) (l buffer : List ℕ) → NoNewline l → l ≢ [] → longest ≤ length buffer
       → let f = finishes (deskOf (heard blank ix l .line) (heard blank ix l .index) buffer) in
@@ -71,5 +77,6 @@ pub record Claims : Type 0 where
   pub no-line : (ix : Index) (buffer : List ℕ) → longest ≤ length buffer
       → (printed (finishes (deskOf blank ix buffer)) ≡ []) × (finishes (deskOf blank ix buffer) .desk .index ≡ ix)
   -- "`l` lists hash, key, place by the chain from first"
-  pub lists : (t : Live) → Fit t → (h : Sound t) → listing t ≡ numberLine entriesText (countOf t) ++ entryLinesOf (t .names) (t .cells) (h .chain)
+  pub lists : (t : Live) → Fit t → (h : Sound t)
+      → listing t ≡ numberLine entriesText (countOf t) ++ entryLinesOf (t .names) (t .cells) (h .chain)
   pub asks : (ix : Index) (h k : ℕ) → Asks ix h k

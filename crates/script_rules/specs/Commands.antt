@@ -4,7 +4,8 @@ use Prim.Native.Nat.{ℕ, _<_, _^_}
 use lib.ListN.{length, drop}
 use lib.Dec.{ltb}
 use Rattle.slots.specs.Words.{pick}
-use Rattle.script_rules.specs.Text.{Read, read, unread, readNumber, readNext, begins, decimal, space, plusWord, minusWord, askWord, rollWord, markWord, listWord}
+use Rattle.script_rules.specs.Text.{Read, read, unread, readNumber, readNext, begins, decimal, space, plusWord, minusWord, askWord}
+use Rattle.script_rules.specs.Text.{rollWord, markWord, listWord}
 
 -- "`+` takes hash, key, place; `-` and `?` hash, key; `r` a mark; `m` and `l` nothing." "A line of another form .. prints `bad`."
 pub data Command : Type 0 where

@@ -68,11 +68,13 @@ pub record Desk : Type 0 where
 
 -- The desk that a line, a lent index and a lent buffer, written so far, are.
 abbrev pub lentDesk : Line → List ℕ → List ℕ → List ℕ → List ℕ → List ℕ → List ℕ → ℕ → Desk
-lentDesk line names cells head sizes lines out at = record { line = line; index = lent names cells head sizes lines; paper = lentPaper out at }
+lentDesk line names cells head sizes lines out at =
+    record { line = line; index = lent names cells head sizes lines; paper = lentPaper out at }
 
 -- The line is answered, and the next one begins.
 unfoldable pub answered : Desk → Desk
-answered d = let t = performed (d .index) (d .paper) (spoken (heldOf (d .line))) in record { line = blank; index = t .index; paper = t .paper }
+answered d =
+    let t = performed (d .index) (d .paper) (spoken (heldOf (d .line))) in record { line = blank; index = t .index; paper = t .paper }
 
 unfoldable pub fedByte : Desk → ℕ → Desk
 fedByte d b = pick (eqb b newline) (answered d) (record { line = noted (d .line) b; index = d .index; paper = d .paper })

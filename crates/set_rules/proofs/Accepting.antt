@@ -1,6 +1,6 @@
 -- The check says yes exactly of accepted sets. From its walk come the slots that the bins hold: each is used, stands once, and they are as
--- many as the used ones, so they are the used ones. The other way, the clauses build what the walk finds, and by the same counting its budget
--- is enough.
+-- many as the used ones, so they are the used ones. The other way, the clauses build what the walk finds, and by the same counting its
+-- budget is enough.
 use mathlib.Core.Path.{_≡_, refl, ap, sym, _∙_}
 use mathlib.Core.Logic.{_≢_, _⊎_, inl, inr}
 use mathlib.Core.Bool.{Bool, true, false, false≢true}
@@ -20,13 +20,17 @@ use Rattle.tree_rules.proofs.Chaining.{chain-inside, chain-once}
 use Rattle.index_rules.specs.Sound.{used, slotsFine, leaves}
 use Rattle.index_rules.proofs.Fit.{both}
 use Rattle.index_rules.proofs.Rules.{and, left-of, all-but, all-fine, fine-all}
-use Rattle.set_rules.specs.Words.{Set, Fit, tablesOf, lengthAt, headersIn, rootAt, firstAt, countAt, Bin, empty, moved, bad, list, tree, binAt, bini}
-use Rattle.set_rules.specs.Accepted.{slotted, Place, Listed, ended, onward, HeldIn, listed, grown, EntryOf, ParentMoved, EntriesHome, HeadsOnce, GoodList, GoodChain, InOne, Accepted}
+use Rattle.set_rules.specs.Words.{Set, Fit, tablesOf, lengthAt, headersIn, rootAt, firstAt, countAt, Bin, empty, moved, bad, list}
+use Rattle.set_rules.specs.Words.{tree, binAt, bini}
+use Rattle.set_rules.specs.Accepted.{slotted, Place, Listed, ended, onward, HeldIn, listed, grown, EntryOf, ParentMoved, EntriesHome}
+use Rattle.set_rules.specs.Accepted.{HeadsOnce, GoodList, GoodChain, InOne, Accepted}
 use Rattle.set_rules.specs.Accepting.{headersFine, tableFine, allHeld, accepted}
 use Rattle.set_rules.proofs.Fit.{small, length-least, halves, near-parent, far-parent}
 use Rattle.set_rules.proofs.Trees.{Grown, Owned}
-use Rattle.set_rules.proofs.Forest.{Held, as-list, as-tree, Part, whole, beneath, Good, empties, moves, holding, final, two, Row, start, more, row-found, row-run}
-use Rattle.set_rules.proofs.Gathering.{not-empty, not-moved, Sub, all-once, all-members, all-bins, entry-in, held-home, held-holds, holds-unique}
+use Rattle.set_rules.proofs.Forest.{Held, as-list, as-tree, Part, whole, beneath, Good, empties, moves, holding, final, two, Row}
+use Rattle.set_rules.proofs.Forest.{start, more, row-found, row-run}
+use Rattle.set_rules.proofs.Gathering.{not-empty, not-moved, Sub, all-once, all-members, all-bins, entry-in, held-home, held-holds}
+use Rattle.set_rules.proofs.Gathering.{holds-unique}
 use Rattle.set_rules.proofs.Naming.{ranges, headers-blank, blank-headers}
 use Rattle.set_rules.proofs.Homes.{entry-only, entry-own}
 use Rattle.tree_rules.specs.Find.{slotsOf}
@@ -77,7 +81,8 @@ module _ {s : Set} (fit : Fit s) where
     only-empty (moves q z g) e = absurd (false≢true (sym e))
     only-empty (holding q h g) e = absurd (false≢true (sym e))
 
-    below-empty : {left k i : ℕ} {may : Bool} {m : List ℕ} → Good s beneath left k i may m → may ≡ false → suc k + left ≡ tablesOf s → suc k < tablesOf s
+    below-empty : {left k i : ℕ} {may : Bool} {m : List ℕ} → Good s beneath left k i may m → may ≡ false → suc k + left ≡ tablesOf s
+        → suc k < tablesOf s
         → (binAt s (suc k) i ≡ empty) × (binAt s (suc k) (i + lengthAt s k) ≡ empty)
     below-empty final e u t = absurd (omega arith)
     below-empty (two f g) e u t = (only-empty f e, only-empty g e)
@@ -95,14 +100,16 @@ module _ {s : Set} (fit : Fit s) where
         below (holding q h g) u = below-empty g refl u (p .table)
 
         go : (j ≡ j % lengthAt s k) ⊎ (j ≡ j % lengthAt s k + lengthAt s k)
-            → (binAt s (suc k) (j % lengthAt s k) ≡ empty) × (binAt s (suc k) (j % lengthAt s k + lengthAt s k) ≡ empty) → binAt s (suc k) j ≡ empty
+            → (binAt s (suc k) (j % lengthAt s k) ≡ empty) × (binAt s (suc k) (j % lengthAt s k + lengthAt s k) ≡ empty)
+            → binAt s (suc k) j ≡ empty
         go (inl e) h = ap (λ (i : ℕ). binAt s (suc k) i) e ∙ h .0
         go (inr e) h = ap (λ (i : ℕ). binAt s (suc k) i) e ∙ h .1
 
     homes : EntriesHome s
     homes k i x e = go (sub-at (e .place) .good) (e .holds)
       where
-        go : {left : ℕ} {may : Bool} {m : List ℕ} → Good s whole left k i may m → HeldIn s (binAt s k i) (e .held) → bini (lengthAt s k) (nameOf (s .names) x hashPart) ≡ i
+        go : {left : ℕ} {may : Bool} {m : List ℕ} → Good s whole left k i may m → HeldIn s (binAt s k i) (e .held)
+            → bini (lengthAt s k) (nameOf (s .names) x hashPart) ≡ i
         go (empties q g) h = absurd (not-empty h q)
         go (moves q z g) h = absurd (not-moved h q)
         go (holding {l = a} q h g) o =
@@ -152,18 +159,21 @@ module _ {s : Set} (fit : Fit s) where
         }
 
     -- A used slot is one of those that the bins hold, where these are as many.
-    in-one : length l ≡ tally (slotsOf (s .names)) (used (s .cells)) → (x : ℕ) → x < slotsOf (s .names) → cell (s .cells) x state ≢ free → InOne s x
+    in-one : length l ≡ tally (slotsOf (s .names)) (used (s .cells)) → (x : ℕ) → x < slotsOf (s .names)
+        → cell (s .cells) x state ≢ free → InOne s x
     in-one e x b d =
         let u : used (s .cells) x ≡ 1 = rw (ne-eqb (cell (s .cells) x state) free d) in
         let z =
-        exactly (slotsOf (s .names)) l (λ y m. all-members fit row y m .inside) (used (s .cells)) (all-once fit row) (λ y m. all-members fit row y m .used-one) e x b
+        exactly (slotsOf (s .names)) l (λ y m. all-members fit row y m .inside) (used (s .cells)) (all-once fit row)
+        (λ y m. all-members fit row y m .used-one) e x b
         in
         let m = all-members fit row x (omega (arith, u, z)) in
         record { table = m .table; index = m .index; entry = m .entry; only = λ k i f. entry-only fit parent-moved homes f (m .entry) }
 
-    -- A chain of as many slots as the tree, each used and at home in the tree's bin, has the tree's slots: each is an entry of that bin, and
-    -- there are no more of these.
-    chain-at : length l ≡ tally (slotsOf (s .names)) (used (s .cells)) → (k i h : ℕ) → Place s k i → binAt s k i ≡ tree h → GoodChain s k i h
+    -- A chain of as many slots as the tree, each used and at home in the tree's bin, has the tree's slots: each is an entry of that bin,
+    -- and there are no more of these.
+    chain-at : length l ≡ tally (slotsOf (s .names)) (used (s .cells)) → (k i h : ℕ) → Place s k i → binAt s k i ≡ tree h
+        → GoodChain s k i h
     chain-at e k i h p b = record { visits = v; linked = c .1; count = c .2; own = λ x. (to x, from x) }
       where
         t : Tree
@@ -175,7 +185,8 @@ module _ {s : Set} (fit : Fit s) where
         v : List ℕ
         v = g .chain .0
 
-        c : (l : List ℕ) × Chain (slotsOf (s .names)) (s .cells) null (firstAt s h) l × (length l ≡ countAt s h) × Owned s (lengthAt s k) i l
+        c : (l : List ℕ) × Chain (slotsOf (s .names)) (s .cells) null (firstAt s h) l × (length l ≡ countAt s h)
+            × Owned s (lengthAt s k) i l
         c = g .chain
 
         holds : HeldIn s (binAt s k i) (slots t)
@@ -188,17 +199,22 @@ module _ {s : Set} (fit : Fit s) where
         to x m = let o = c .3 x m in entry-own fit parent-moved homes holds (p .table) (in-one e x (inside x m) (o .0) .entry) (o .1)
 
         in-tree : (x : ℕ) → EntryOf s k i x → 1 ≤ times x (slots t)
-        in-tree x f = let z : times x (f .held) ≡ times x (slots t) = ap (times x) (holds-unique fit (f .holds) holds) in omega (arith, f .member)
+        in-tree x f =
+            let z : times x (f .held) ≡ times x (slots t) = ap (times x) (holds-unique fit (f .holds) holds) in omega (arith, f .member)
 
         sizes : length v ≡ tally (slotsOf (s .names)) (λ x. times x (slots t))
-        sizes = c .2 ∙ sym (g .count) ∙ sym (tally-times (slotsOf (s .names)) (slots t) (λ x m. hangs-inside (slotsOf (s .names)) (s .cells) (g .rooted .hangs) m))
+        sizes =
+            c .2 ∙ sym (g .count)
+            ∙ sym (tally-times (slotsOf (s .names)) (slots t) (λ x m. hangs-inside (slotsOf (s .names)) (s .cells) (g .rooted .hangs) m))
 
         from : (x : ℕ) → EntryOf s k i x → 1 ≤ times x v
         from x f =
             let m = in-tree x f in
             let z =
-            exactly (slotsOf (s .names)) v inside (λ y. times y (slots t)) (chain-once (slotsOf (s .names)) (s .cells) (small fit) (firstAt s h) (c .1))
-            (λ y n. omega (arith, in-tree y (to y n), g .rooted .once y)) sizes x (hangs-inside (slotsOf (s .names)) (s .cells) (g .rooted .hangs) m)
+            exactly (slotsOf (s .names)) v inside (λ y. times y (slots t))
+            (chain-once (slotsOf (s .names)) (s .cells) (small fit) (firstAt s h) (c .1))
+            (λ y n. omega (arith, in-tree y (to y n), g .rooted .once y)) sizes x
+            (hangs-inside (slotsOf (s .names)) (s .cells) (g .rooted .hangs) m)
             in
             omega (arith, z, m)
 
@@ -230,7 +246,14 @@ module _ {s : Set} (fit : Fit s) where
             };
         trees =
             λ k i h p z. (let g = grown-at row k i h p z in
-            record { tree = g .0; rooted = g .1 .rooted; rising = g .1 .rising; coloured = g .1 .hues; level = g .1 .even; size = g .1 .count });
+            record {
+              tree = g .0;
+              rooted = g .1 .rooted;
+              rising = g .1 .rising;
+              coloured = g .1 .hues;
+              level = g .1 .even;
+              size = g .1 .count;
+            });
         chains = chain-at row (omega (arith, r .2, c .2));
         slots = record { used = in-one row (omega (arith, r .2, c .2)); cleared = λ x w z. fine x w .cleared z };
       }
@@ -242,8 +265,11 @@ module _ {s : Set} (fit : Fit s) where
     -- A bin's list or tree is good, by the clauses.
     list-good : {k i a : ℕ} → Place s k i → binAt s k i ≡ list a → (l : List ℕ) × Held s k i (list a) l
     list-good {k} {i} {a} p e =
-        let g = ok .lists k i a p e in
-        (g .visits, as-list (g .ends) (g .apart) (g .plain) (λ x m. ok .home k i x (record { place = p; held = g .visits; holds = rw e (listed (g .ends)); member = m })))
+        let g = ok .lists k i a p e in (
+          g .visits,
+          as-list (g .ends) (g .apart) (g .plain)
+              (λ x m. ok .home k i x (record { place = p; held = g .visits; holds = rw e (listed (g .ends)); member = m })),
+        )
 
     -- An entry of a tree's bin is not free.
     hued : (c : Colour) → code c ≢ free
@@ -275,7 +301,8 @@ module _ {s : Set} (fit : Fit s) where
         )
 
     -- A bin, given what is below it.
-    build-bin : (left k i : ℕ) → Place s k i → suc k + left ≡ tablesOf s → ((may : Bool) → (may ≡ false → binAt s k i ≢ moved) → Built beneath left k i may)
+    build-bin : (left k i : ℕ) → Place s k i → suc k + left ≡ tablesOf s
+        → ((may : Bool) → (may ≡ false → binAt s k i ≢ moved) → Built beneath left k i may)
         → (may : Bool) → (may ≡ false → binAt s k i ≡ empty) → (b : Bin) → binAt s k i ≡ b → Built whole left k i may
     build-bin left k i p t below may quiet empty e = let r = below false (λ z m. omega (arith, kinds e m)) in (r .0, empties e (r .1))
     build-bin left k i p t below true quiet moved e =
@@ -295,10 +322,12 @@ module _ {s : Set} (fit : Fit s) where
     build-bin left k i p t below false quiet (tree h) e = absurd (omega (arith, kinds e (quiet refl)))
     build-bin left k i p t below may quiet bad e = absurd (ok .none-bad k i p e)
 
-    both-built : {left k i : ℕ} {may : Bool} → Built whole left (suc k) i may → Built whole left (suc k) (i + lengthAt s k) may → Built beneath (suc left) k i may
+    both-built : {left k i : ℕ} {may : Bool} → Built whole left (suc k) i may → Built whole left (suc k) (i + lengthAt s k) may
+        → Built beneath (suc left) k i may
     both-built f g = (f .0 ++ g .0, two (f .1) (g .1))
 
-    build-below : (left k i : ℕ) → Place s k i → suc k + left ≡ tablesOf s → (may : Bool) → (may ≡ false → binAt s k i ≢ moved) → Built beneath left k i may
+    build-below : (left k i : ℕ) → Place s k i → suc k + left ≡ tablesOf s → (may : Bool) → (may ≡ false → binAt s k i ≢ moved)
+        → Built beneath left k i may
     build-below zero k i p t may still = ([], final)
     build-below (suc left) k i p t may still =
         let n : suc k < tablesOf s = omega arith in
@@ -311,7 +340,8 @@ module _ {s : Set} (fit : Fit s) where
         in
         let g =
         build-bin left (suc k) (i + lengthAt s k) far (omega arith) (build-below left (suc k) (i + lengthAt s k) far (omega arith)) may
-        (λ z. ok .parent-moved k (i + lengthAt s k) far (rw (far-parent i (lengthAt s k) (p .index)) (still z))) (binAt s (suc k) (i + lengthAt s k)) refl
+        (λ z. ok .parent-moved k (i + lengthAt s k) far (rw (far-parent i (lengthAt s k) (p .index)) (still z)))
+        (binAt s (suc k) (i + lengthAt s k)) refl
         in
         both-built f g
 
@@ -320,7 +350,9 @@ module _ {s : Set} (fit : Fit s) where
     build-row (suc i) b =
         let p : Place s 0 i = record { table = omega (arith, fit .least); index = omega arith } in
         let t : suc 0 + (tablesOf s - 1) ≡ tablesOf s = omega (arith, fit .least) in
-        let f = build-bin (tablesOf s - 1) 0 i p t (build-below (tablesOf s - 1) 0 i p t) true (λ z. absurd (false≢true (sym z))) (binAt s 0 i) refl in
+        let f =
+        build-bin (tablesOf s - 1) 0 i p t (build-below (tablesOf s - 1) 0 i p t) true (λ z. absurd (false≢true (sym z)))
+        (binAt s 0 i) refl in
         let r = build-row i (omega arith) in
         (f .0 ++ r .0, more (f .1) (r .1))
 
@@ -342,7 +374,8 @@ module _ {s : Set} (fit : Fit s) where
         let inside : (x : ℕ) → 1 ≤ times x l → x < slotsOf (s .names) = λ x m. all-members fit row x m .inside in
         let most = length-most (slotsOf (s .names)) l inside (all-once fit row) in
         let count = exactly-length (slotsOf (s .names)) l inside (used (s .cells)) (used-times row) in
-        let table : leaves (slotsOf (s .names)) (tally (slotsOf (s .names)) (used (s .cells))) (tableFine (lengthAt s 0) s (slotsOf (s .names))) ≡ true =
+        let table : leaves (slotsOf (s .names)) (tally (slotsOf (s .names)) (used (s .cells)))
+        (tableFine (lengthAt s 0) s (slotsOf (s .names))) ≡ true =
         rw (row-run fit row (slotsOf (s .names)) most) (eq-eqb _ _ (all-but (slotsOf (s .names)) (length l) _ most count))
         in
         let o = ok .headers in
@@ -350,5 +383,6 @@ module _ {s : Set} (fit : Fit s) where
         blank-headers fit (ok .heads) (o .roots)
         (λ h b none. record { root = o .other-root h b none; first = o .other-first h b none; count = o .other-count h b none })
         in
-        and (fine-all (slotted s) (slotsOf (s .names)) (slotsOf (s .names)) (λ x b. record { links = ok .words .links x b; states = ok .words .states x b; cleared = ok .slots .cleared x b }))
+        and (fine-all (slotted s) (slotsOf (s .names)) (slotsOf (s .names))
+        (λ x b. record { links = ok .words .links x b; states = ok .words .states x b; cleared = ok .slots .cleared x b }))
         (and headers table)

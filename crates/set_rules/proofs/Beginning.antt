@@ -23,12 +23,19 @@ trimmed-past d x j l = go (decLt j 8)
 
 module _ (c : Cursor) where
   pub standing-begins : c .depth < 8 → Begins c (standing c)
-  standing-begins h = record { depth = refl; eight = refl; kept = λ j l. trimmed-same (c .depth) (c .indexes) j l h; past = trimmed-past (c .depth) (c .indexes) }
+  standing-begins h =
+      record {
+        depth = refl;
+        eight = refl;
+        kept = λ j l. trimmed-same (c .depth) (c .indexes) j l h;
+        past = trimmed-past (c .depth) (c .indexes);
+      }
 
   pub begins-is : {p : Place} → Begins c p → p ≡ standing c
   unfolding kept
   begins-is {p} b =
-      let e : p .indexes ≡ trimmed (c .depth) (c .indexes) = ext-getD 0 (p .indexes) (trimmed (c .depth) (c .indexes)) (b .eight) (λ j l. go j (omega (arith, b .eight)) (decLe j (c .depth))) in
+      let e : p .indexes ≡ trimmed (c .depth) (c .indexes) =
+      ext-getD 0 (p .indexes) (trimmed (c .depth) (c .indexes)) (b .eight) (λ j l. go j (omega (arith, b .eight)) (decLe j (c .depth))) in
       (λ k. place (b .depth k) (e k))
     where
       go : (j : ℕ) → j < 8 → Dec (j ≤ c .depth) → getD (p .indexes) j 0 ≡ getD (trimmed (c .depth) (c .indexes)) j 0

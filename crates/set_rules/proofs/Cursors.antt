@@ -70,7 +70,8 @@ unfolding levelsFine
 levels-under zero lengths base x h j l = absurd (omega arith)
 levels-under (suc d) lengths base x h j l = go (ℕ-discrete j d) (λ k. levels-under d lengths base x (parts .1) j k)
   where
-    parts : (levelFine (getD lengths (base + d) 0) (getD lengths (base + suc d) 0) (getD x d 0) (getD x (suc d) 0) ≡ true) × (levelsFine d lengths base x ≡ true)
+    parts : (levelFine (getD lengths (base + d) 0) (getD lengths (base + suc d) 0) (getD x d 0) (getD x (suc d) 0) ≡ true)
+        × (levelsFine d lengths base x ≡ true)
     parts = both h
 
     go : Dec (j ≡ d)
@@ -162,7 +163,8 @@ module _ (s : Set) (fit : Fit s) (c : Cursor) where
       inner : (j : ℕ) → j < c .depth → getD (c .indexes) j 0 < getD (s .lengths) (c .base + j) 0
       inner zero l = go (h .first)
         where
-          go : (indexAt c 0 < lengthAt s (c .base)) ⊎ ((c .depth ≡ 0) × (indexAt c 0 ≡ lengthAt s (c .base))) → indexAt c 0 < getD (s .lengths) (c .base + 0) 0
+          go : (indexAt c 0 < lengthAt s (c .base)) ⊎ ((c .depth ≡ 0) × (indexAt c 0 ≡ lengthAt s (c .base)))
+              → indexAt c 0 < getD (s .lengths) (c .base + 0) 0
           go (inl k) = omega (arith, start)
           go (inr e) = absurd (omega arith)
       inner (suc j) l = h .level j (omega arith) .0
@@ -242,11 +244,13 @@ module _ (s : Set) (fit : Fit s) (c : Cursor) where
       go (yes k) (no i) = BadCursor.out-of-range j (omega arith) (omega arith) not-end
       go (yes k) (yes i) = BadCursor.not-congruent j l (congruent k i)
 
-  levels-bad : (d : ℕ) → d ≤ c .depth → c .base + c .depth < tablesOf s → levelsFine d (s .lengths) (c .base) (c .indexes) ≡ false → BadCursor s c
+  levels-bad : (d : ℕ) → d ≤ c .depth → c .base + c .depth < tablesOf s → levelsFine d (s .lengths) (c .base) (c .indexes) ≡ false
+      → BadCursor s c
   unfolding levelsFine
   levels-bad zero l deep e = absurd (false≢true (sym e))
   levels-bad (suc d) l deep e =
-      go (levelFine (lengthAt s (c .base + d)) (lengthAt s (c .base + suc d)) (indexAt c d) (indexAt c (suc d))) refl e (λ f. levels-bad d (omega arith) deep f)
+      go (levelFine (lengthAt s (c .base + d)) (lengthAt s (c .base + suc d)) (indexAt c d) (indexAt c (suc d))) refl e
+      (λ f. levels-bad d (omega arith) deep f)
     where
       go : (b : Bool) → levelFine (lengthAt s (c .base + d)) (lengthAt s (c .base + suc d)) (indexAt c d) (indexAt c (suc d)) ≡ b
           → pick b (levelsFine d (s .lengths) (c .base) (c .indexes)) false ≡ false
@@ -259,7 +263,8 @@ module _ (s : Set) (fit : Fit s) (c : Cursor) where
   unfolding fine
   wrong-bad e = deep (decLt (c .base + c .depth) (tablesOf s))
     where
-      range : c .base + c .depth < tablesOf s → baseFine (lengthAt s (c .base)) (c .depth) (indexAt c 0) ≡ true → levelsFine (c .depth) (s .lengths) (c .base) (c .indexes) ≡ true
+      range : c .base + c .depth < tablesOf s → baseFine (lengthAt s (c .base)) (c .depth) (indexAt c 0) ≡ true
+          → levelsFine (c .depth) (s .lengths) (c .base) (c .indexes) ≡ true
           → BadCursor s c
       range l f g =
           let h : inRange (slotsOf (s .names)) (c .last) ≡ false = simp (lt-ltb _ _ l, f, g) at e in
@@ -277,7 +282,9 @@ module _ (s : Set) (fit : Fit s) (c : Cursor) where
 
       first : c .base + c .depth < tablesOf s → (b : Bool) → baseFine (lengthAt s (c .base)) (c .depth) (indexAt c 0) ≡ b → BadCursor s c
       first l true f = levels l f (levelsFine (c .depth) (s .lengths) (c .base) (c .indexes)) refl
-      first l false f = BadCursor.out-of-range 0 (omega arith) (beyond (decLt (indexAt c 0) (lengthAt s (c .base)))) (λ z. false≢true (sym f ∙ right-base _ _ _ (inr z)))
+      first l false f =
+          BadCursor.out-of-range 0 (omega arith) (beyond (decLt (indexAt c 0) (lengthAt s (c .base))))
+          (λ z. false≢true (sym f ∙ right-base _ _ _ (inr z)))
         where
           beyond : Dec (indexAt c 0 < lengthAt s (c .base)) → lengthAt s (c .base + 0) ≤ indexAt c 0
           beyond (yes k) = absurd (false≢true (sym f ∙ right-base _ _ _ (inl k)))

@@ -6,7 +6,8 @@ use mathlib.Core.Bool.{Bool, true, false, false≢true}
 use mathlib.Core.List.{List}
 use Prim.Native.Nat.{ℕ, zero, suc, _+_, _-_, _*_, _%_, _^_, _≤_, _<_}
 use native.Mathlib.Decide.{ℕ-discrete, decLe}
-use native.Mathlib.Nat.{pow-succ', pow-le-pow-right, one-le-pow, mul-comm, mul-assoc, mod-lt, mod-eq-of-lt, mod-eq-sub-mod, add-mod-right, mod-mod-of-dvd, dvd-mul-left}
+use native.Mathlib.Nat.{pow-succ', pow-le-pow-right, one-le-pow, mul-comm, mul-assoc, mod-lt, mod-eq-of-lt, mod-eq-sub-mod, add-mod-right}
+use native.Mathlib.Nat.{mod-mod-of-dvd, dvd-mul-left}
 use native.Mathlib.Omega.{arith}
 use lib.ListN.{length, getD, List·getD-eq-default}
 use lib.Bits.{and-mask}
@@ -27,7 +28,8 @@ unfolding doubling
 doubling-power zero x p h = absurd (false≢true h)
 doubling-power (suc k) x p h = go (eqb x p) refl h (λ y. doubling-power k x (2 * p) y)
   where
-    go : (b : Bool) → eqb x p ≡ b → pick b true (doubling k x (2 * p)) ≡ true → (doubling k x (2 * p) ≡ true → (e : ℕ) × (x ≡ 2 * p * 2 ^ e)) → (e : ℕ) × (x ≡ p * 2 ^ e)
+    go : (b : Bool) → eqb x p ≡ b → pick b true (doubling k x (2 * p)) ≡ true
+        → (doubling k x (2 * p) ≡ true → (e : ℕ) × (x ≡ 2 * p * 2 ^ e)) → (e : ℕ) × (x ≡ p * 2 ^ e)
     go true z y again = (0, eqb-true x p z ∙ omega arith)
     go false z y again = let r = again y in (suc (r .0), r .1 ∙ step-power p (r .0))
 
@@ -45,9 +47,11 @@ power-doubling (suc k) x p (suc e) l h = go (eqb x p) (power-doubling k x (2 * p
 doubled-twice : (k : ℕ) (l : List ℕ) → doubled k l ≡ true → (j : ℕ) → j < k → getD l (suc j) 0 ≡ 2 * getD l j 0
 unfolding doubled
 doubled-twice zero l e j b = absurd (omega arith)
-doubled-twice (suc k) l e j b = let h = both (eqb (getD l (suc k) 0) (2 * getD l k 0)) _ e in go (ℕ-discrete j k) (h .0) (λ d. doubled-twice k l (h .1) j (omega arith))
+doubled-twice (suc k) l e j b =
+    let h = both (eqb (getD l (suc k) 0) (2 * getD l k 0)) _ e in go (ℕ-discrete j k) (h .0) (λ d. doubled-twice k l (h .1) j (omega arith))
   where
-    go : Dec (j ≡ k) → eqb (getD l (suc k) 0) (2 * getD l k 0) ≡ true → (j ≢ k → getD l (suc j) 0 ≡ 2 * getD l j 0) → getD l (suc j) 0 ≡ 2 * getD l j 0
+    go : Dec (j ≡ k) → eqb (getD l (suc k) 0) (2 * getD l k 0) ≡ true → (j ≢ k → getD l (suc j) 0 ≡ 2 * getD l j 0)
+        → getD l (suc j) 0 ≡ 2 * getD l j 0
     go (yes z) f rest = rw z (eqb-true _ _ f)
     go (no z) f rest = rest z
 
@@ -125,7 +129,8 @@ module _ {s : Set} (fit : Fit s) where
   -- A bin's parent is the one that the hash names in the table before.
   pub bini-up : (k : ℕ) → suc k < tablesOf s → (hash : ℕ) → bini (lengthAt s (suc k)) hash % lengthAt s k ≡ bini (lengthAt s k) hash
   bini-up k l hash =
-      rw (bini-mod (suc k) l hash, bini-mod k (omega arith) hash, fit .twice k l) (mod-mod-of-dvd (lengthAt s k) hash (dvd-mul-left (lengthAt s k) 2))
+      rw (bini-mod (suc k) l hash, bini-mod k (omega arith) hash, fit .twice k l)
+      (mod-mod-of-dvd (lengthAt s k) hash (dvd-mul-left (lengthAt s k) 2))
 
   pub bini-less : (k : ℕ) → k < tablesOf s → (hash : ℕ) → bini (lengthAt s k) hash < lengthAt s k
   bini-less k l hash = rw (bini-mod k l hash) (mod-lt hash (length-least k l))

@@ -24,7 +24,8 @@ use Rattle.tree_rules.specs.Find.{slotsOf}
 
 -- Bin i of table k may hold these slots, as a list or as a tree.
 pub data Held (s : Set) (k i : ℕ) : Bin → List ℕ → Type 0 where
-  as-list : {a : ℕ} {l : List ℕ} → Listed (slotsOf (s .names)) (s .cells) a l → Apart (s .names) l → ((x : ℕ) → 1 ≤ times x l → ListSlot (s .cells) x)
+  as-list : {a : ℕ} {l : List ℕ} → Listed (slotsOf (s .names)) (s .cells) a l → Apart (s .names) l
+      → ((x : ℕ) → 1 ≤ times x l → ListSlot (s .cells) x)
       → Home (s .names) (lengthAt s k) i l → Held s k i (list a) l
   as-tree : {h : ℕ} {t : Tree} → Grown s (lengthAt s k) i h t → Held s k i (tree h) (slots t)
 
@@ -36,7 +37,8 @@ pub data Part : Type 0 where
 pub data Good (s : Set) : Part → ℕ → ℕ → ℕ → Bool → List ℕ → Type 0 where
   empties : {left k i : ℕ} {may : Bool} {l : List ℕ} → binAt s k i ≡ empty → Good s beneath left k i false l → Good s whole left k i may l
   moves : {left k i : ℕ} {l : List ℕ} → binAt s k i ≡ moved → left ≢ 0 → Good s beneath left k i true l → Good s whole left k i true l
-  holding : {left k i : ℕ} {b : Bin} {l m : List ℕ} → binAt s k i ≡ b → Held s k i b l → Good s beneath left k i false m → Good s whole left k i true (l ++ m)
+  holding : {left k i : ℕ} {b : Bin} {l m : List ℕ} → binAt s k i ≡ b → Held s k i b l → Good s beneath left k i false m
+      → Good s whole left k i true (l ++ m)
   final : {k i : ℕ} {may : Bool} → Good s beneath zero k i may []
   two : {left k i : ℕ} {may : Bool} {l m : List ℕ} → Good s whole left (suc k) i may l → Good s whole left (suc k) (i + lengthAt s k) may m
       → Good s beneath (suc left) k i may (l ++ m)
@@ -57,19 +59,24 @@ module _ {s : Set} (fit : Fit s) where
   Belows left k i = (may : Bool) (v rest : ℕ) → belowFine left s k i may v ≡ some rest → Found beneath left k i may v rest
 
   -- A bin that holds a list or a tree, with what is below it.
-  held-found : {left k i v m rest : ℕ} {b : Bin} {l : List ℕ} → binAt s k i ≡ b → Held s k i b l → length l + m ≡ v → Found beneath left k i false m rest
+  held-found : {left k i v m rest : ℕ} {b : Bin} {l : List ℕ} → binAt s k i ≡ b → Held s k i b l → length l + m ≡ v
+      → Found beneath left k i false m rest
       → Found whole left k i true v rest
-  held-found {l = l} p h e f = record { slots = l ++ f .slots; good = holding p h (f .good); spent = simp length-append (omega (arith, f .spent)) }
+  held-found {l = l} p h e f =
+      record { slots = l ++ f .slots; good = holding p h (f .good); spent = simp length-append (omega (arith, f .spent)) }
 
   asks-found : (left k i : ℕ) → Belows left k i → (may : Bool) (v rest : ℕ) (b : Bin) → binAt s k i ≡ b
       → binAsks s left k i (belowFine left s k i) may v b ≡ some rest → Found whole left k i may v rest
   unfolding binAsks wellPlaced ownFine
-  asks-found left k i again may v rest empty p e = let f = again false v rest e in record { slots = f .slots; good = empties p (f .good); spent = f .spent }
+  asks-found left k i again may v rest empty p e =
+      let f = again false v rest e in record { slots = f .slots; good = empties p (f .good); spent = f .spent }
   asks-found left k i again true v rest moved p e = go (eqb left 0) refl e
     where
-      go : (b : Bool) → eqb left 0 ≡ b → pick (pick b false true) (belowFine left s k i true v) none ≡ some rest → Found whole left k i true v rest
+      go : (b : Bool) → eqb left 0 ≡ b → pick (pick b false true) (belowFine left s k i true v) none ≡ some rest
+          → Found whole left k i true v rest
       go true z e = refuted e
-      go false z e = let f = again true v rest e in record { slots = f .slots; good = moves p (eqb-false left 0 z) (f .good); spent = f .spent }
+      go false z e =
+          let f = again true v rest e in record { slots = f .slots; good = moves p (eqb-false left 0 z) (f .good); spent = f .spent }
   asks-found left k i again false v rest moved p e = go (eqb left 0) e
     where
       go : (b : Bool) → pick (pick b false false) (belowFine left s k i true v) none ≡ some rest → Found whole left k i false v rest
@@ -77,15 +84,18 @@ module _ {s : Set} (fit : Fit s) where
       go false e = refuted e
   asks-found left k i again true v rest (list a) p e = go (listFine v (s .names) (s .cells) (lengthAt s k) i a) refl e
     where
-      go : (o : Value) → listFine v (s .names) (s .cells) (lengthAt s k) i a ≡ o → then o (belowFine left s k i false) ≡ some rest → Found whole left k i true v rest
+      go : (o : Value) → listFine v (s .names) (s .cells) (lengthAt s k) i a ≡ o → then o (belowFine left s k i false) ≡ some rest
+          → Found whole left k i true v rest
       go none z e = refuted e
       go (some m) z e =
           let w = list-walked s (small fit) (lengthAt s k) i v a m z in
           held-found p (as-list (w .ends) (w .apart) (w .plain) (w .home)) (w .spent) (again false m rest e)
   asks-found left k i again false v rest (list a) p e = refuted e
-  asks-found left k i again true v rest (tree h) p e = go (treeFine (s .names) (s .cells) (lengthAt s k) i (rootAt s h) (firstAt s h) (countAt s h) v) refl e
+  asks-found left k i again true v rest (tree h) p e =
+      go (treeFine (s .names) (s .cells) (lengthAt s k) i (rootAt s h) (firstAt s h) (countAt s h) v) refl e
     where
-      go : (o : Value) → treeFine (s .names) (s .cells) (lengthAt s k) i (rootAt s h) (firstAt s h) (countAt s h) v ≡ o → then o (belowFine left s k i false) ≡ some rest → Found whole left k i true v rest
+      go : (o : Value) → treeFine (s .names) (s .cells) (lengthAt s k) i (rootAt s h) (firstAt s h) (countAt s h) v ≡ o
+          → then o (belowFine left s k i false) ≡ some rest → Found whole left k i true v rest
       go none z e = refuted e
       go (some m) z e =
           let w = fine-grown fit (lengthAt s k) i h v m z in
@@ -101,14 +111,20 @@ module _ {s : Set} (fit : Fit s) where
       (λ j v m h. asks-found left (suc k) j (below-found left (suc k) j) may v m (binAt s (suc k) j) refl h)
     where
       go : (o : Value) → binAsks s left (suc k) i (belowFine left s (suc k) i) may v (binAt s (suc k) i) ≡ o
-          → then o (λ w. binAsks s left (suc k) (i + lengthAt s k) (belowFine left s (suc k) (i + lengthAt s k)) may w (binAt s (suc k) (i + lengthAt s k))) ≡ some rest
-          → ((j v m : ℕ) → binAsks s left (suc k) j (belowFine left s (suc k) j) may v (binAt s (suc k) j) ≡ some m → Found whole left (suc k) j may v m)
+          → then o (λ w. binAsks s left (suc k) (i + lengthAt s k) (belowFine left s (suc k) (i + lengthAt s k)) may w
+          (binAt s (suc k) (i + lengthAt s k))) ≡ some rest
+          → ((j v m : ℕ) → binAsks s left (suc k) j (belowFine left s (suc k) j) may v (binAt s (suc k) j) ≡ some m
+          → Found whole left (suc k) j may v m)
           → Found beneath (suc left) k i may v rest
       go none z e one = refuted e
       go (some m) z e one =
           let f = one i v m z in
           let g = one (i + lengthAt s k) m rest e in
-          record { slots = f .slots ++ g .slots; good = two (f .good) (g .good); spent = simp length-append (omega (arith, f .spent, g .spent)) }
+          record {
+            slots = f .slots ++ g .slots;
+            good = two (f .good) (g .good);
+            spent = simp length-append (omega (arith, f .spent, g .spent));
+          }
 
   bin-found : (left k i : ℕ) (may : Bool) (v rest : ℕ) → binFine left s k i may v ≡ some rest → Found whole left k i may v rest
   unfolding binFine
@@ -140,7 +156,8 @@ module _ {s : Set} (fit : Fit s) where
   held-run left k i v (tree h) (as-tree {t = t} g) m =
       rw (grown-fine fit (lengthAt s k) i h v t g m (rooted-most (slotsOf (s .names)) (s .cells) (small fit) _ (g .rooted)))
 
-  good-run : {p : Part} {left k i : ℕ} {may : Bool} {l : List ℕ} → Good s p left k i may l → (v : ℕ) → length l ≤ v → run p left k i may v ≡ some (v - length l)
+  good-run : {p : Part} {left k i : ℕ} {may : Bool} {l : List ℕ} → Good s p left k i may l → (v : ℕ) → length l ≤ v
+      → run p left k i may v ≡ some (v - length l)
   unfolding binAsks belowFine wellPlaced ownFine
   good-run (empties p g) v m = rw p (good-run g v m)
   good-run (moves {left = left} p d g) v m = rw (p, ne-eqb left 0 d) (good-run g v m)

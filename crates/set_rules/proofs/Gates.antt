@@ -17,7 +17,8 @@ use Rattle.set_rules.specs.Walk.{InTables, standing, stepsOn, nexts}
 use Rattle.set_rules.specs.Ways.{Steps}
 use Rattle.set_rules.specs.Walked.{Lookups, Starts}
 use Rattle.set_rules.proofs.Looks.{lookup-most}
-use Rattle.set_rules.proofs.Looking.{Outcome, outcome, astray-nine, hit-given, miss-nothing, unfit-one, unknown-ten, known-loop, fitted}
+use Rattle.set_rules.proofs.Looking.{Outcome, outcome, astray-nine, hit-given, miss-nothing, unfit-one, unknown-ten, known-loop}
+use Rattle.set_rules.proofs.Looking.{fitted}
 use Rattle.set_rules.proofs.Cursors.{Right, fine-right, right-stands, right-not-bad, wrong-bad}
 use Rattle.set_rules.proofs.Stepping.{steps-walked}
 use Rattle.tree_rules.specs.Find.{slotsOf}
@@ -78,8 +79,12 @@ module _ (s : Set) (t hash key : ℕ) where
         one = (is-one (gate s t hash key), λ n. answers (unfit-one s t hash key n));
         ten = (is-ten (gate s t hash key), λ h. answers (unknown-ten s t hash key (h .0) (h .1)));
         nine = (is-nine (gate s t hash key), λ h. answers (known-loop s t hash key (h .0) (h .1)) ∙ astray-nine s t hash key (h .1) (h .2));
-        at = λ slot. (is-at slot (gate s t hash key), λ h. answers (known-loop s t hash key (h .0) (h .1)) ∙ hit-given s t hash key (h .1) (h .2));
-        none = (is-none (gate s t hash key), λ h. answers (known-loop s t hash key (h .0) (h .1)) ∙ miss-nothing s t hash key (h .1) (h .2));
+        at = λ slot. (
+          is-at slot (gate s t hash key),
+          λ h. answers (known-loop s t hash key (h .0) (h .1)) ∙ hit-given s t hash key (h .1) (h .2),
+        );
+        none =
+            (is-none (gate s t hash key), λ h. answers (known-loop s t hash key (h .0) (h .1)) ∙ miss-nothing s t hash key (h .1) (h .2));
         one-looks = λ n. looks (unfit-one s t hash key n);
         ten-looks = λ fit l. looks (unknown-ten s t hash key fit l);
         most = lookup-most s t hash key;
@@ -99,7 +104,8 @@ module _ (s : Set) (t : ℕ) where
   unfolding starts
   start-unknown fit l = rw (fit-fits fit, le-ltb _ _ l)
 
-  pub start-made : Fit s → t < tablesOf s → starts s t ≡ record { answer = given 1; cursor = record { base = t; depth = 0; indexes = lone 0; last = null } }
+  pub start-made : Fit s → t < tablesOf s
+      → starts s t ≡ record { answer = given 1; cursor = record { base = t; depth = 0; indexes = lone 0; last = null } }
   unfolding starts
   start-made fit l = rw (fit-fits fit, lt-ltb _ _ l)
 
@@ -118,12 +124,14 @@ module _ (s : Set) (t : ℕ) where
       not-one e fit (yes l) = omega (arith, told (sym e ∙ start-made fit l))
       not-one e fit (no n) = omega (arith, told (sym e ∙ start-unknown fit (omega arith)))
 
-      is-ten-start : starts s t ≡ record { answer = refused 10; cursor = blank } → Dec (Fit s) → Dec (t < tablesOf s) → Fit s × (tablesOf s ≤ t)
+      is-ten-start : starts s t ≡ record { answer = refused 10; cursor = blank } → Dec (Fit s) → Dec (t < tablesOf s)
+          → Fit s × (tablesOf s ≤ t)
       is-ten-start e (no n) d = absurd (omega (arith, told (sym e ∙ start-unfit n)))
       is-ten-start e (yes fit) (yes l) = absurd (omega (arith, told (sym e ∙ start-made fit l)))
       is-ten-start e (yes fit) (no n) = (fit, omega arith)
 
-      is-made : starts s t ≡ record { answer = given 1; cursor = record { base = t; depth = 0; indexes = lone 0; last = null } } → Dec (Fit s) → Dec (t < tablesOf s) → Fit s × (t < tablesOf s)
+      is-made : starts s t ≡ record { answer = given 1; cursor = record { base = t; depth = 0; indexes = lone 0; last = null } }
+          → Dec (Fit s) → Dec (t < tablesOf s) → Fit s × (t < tablesOf s)
       is-made e (no n) d = absurd (omega (arith, told (sym e ∙ start-unfit n)))
       is-made e (yes fit) (yes l) = (fit, l)
       is-made e (yes fit) (no n) = absurd (omega (arith, told (sym e ∙ start-unknown fit (omega arith))))

@@ -17,7 +17,8 @@ use Rattle.set_rules.specs.Words.{Set, Fit, tablesOf, lengthAt, Bin, emp
 use Rattle.set_rules.specs.Accepted.{Place, HeldIn, listed, grown, EntryOf}
 use Rattle.set_rules.proofs.Fit.{small, bini-up, near-parent, far-parent}
 use Rattle.set_rules.proofs.Lists.{Home, apart-once, listed-inside, listed-unique}
-use Rattle.set_rules.proofs.Forest.{Held, as-list, as-tree, Part, whole, beneath, Good, empties, moves, holding, final, two, Row, start, more}
+use Rattle.set_rules.proofs.Forest.{Held, as-list, as-tree, Part, whole, beneath, Good, empties, moves, holding, final, two, Row}
+use Rattle.set_rules.proofs.Forest.{start, more}
 use Rattle.tree_rules.specs.Find.{slotsOf}
 
 -- A member of one list put after another is a member of one of them.
@@ -58,7 +59,8 @@ module _ {s : Set} (fit : Fit s) where
   held-holds (as-list e a p h) = listed e
   held-holds (as-tree g) = grown (g .rooted)
 
-  held-used : {k i : ℕ} {b : Bin} {l : List ℕ} → Held s k i b l → (x : ℕ) → 1 ≤ times x l → (used (s .cells) x ≡ 1) × (x < slotsOf (s .names))
+  held-used : {k i : ℕ} {b : Bin} {l : List ℕ} → Held s k i b l → (x : ℕ) → 1 ≤ times x l
+      → (used (s .cells) x ≡ 1) × (x < slotsOf (s .names))
   held-used (as-list e a p h) x m = (used-hued (s .cells) x black (p x m .states), listed-inside s (small fit) e x m)
   held-used (as-tree g) x m =
       let d = hangs-stand (slotsOf (s .names)) (s .cells) (g .rooted .hangs) m in
@@ -70,10 +72,12 @@ module _ {s : Set} (fit : Fit s) where
   holds-unique (grown {h = h} e) (grown f) = ap slots (rooted-unique (slotsOf (s .names)) (s .cells) (small fit) _ e f)
 
   -- In the table above, the hash names the parent.
-  home-up : (k i j : ℕ) (l : List ℕ) → suc k < tablesOf s → j % lengthAt s k ≡ i → Home (s .names) (lengthAt s (suc k)) j l → Home (s .names) (lengthAt s k) i l
+  home-up : (k i j : ℕ) (l : List ℕ) → suc k < tablesOf s → j % lengthAt s k ≡ i → Home (s .names) (lengthAt s (suc k)) j l
+      → Home (s .names) (lengthAt s k) i l
   home-up k i j l b e h x m = sym (bini-up fit k b (nameOf (s .names) x hashPart)) ∙ ap (λ (y : ℕ). y % lengthAt s k) (h x m) ∙ e
 
-  good-home : {p : Part} {left k i : ℕ} {may : Bool} {l : List ℕ} → Good s p left k i may l → suc k + left ≡ tablesOf s → i < lengthAt s k → Home (s .names) (lengthAt s k) i l
+  good-home : {p : Part} {left k i : ℕ} {may : Bool} {l : List ℕ} → Good s p left k i may l → suc k + left ≡ tablesOf s → i < lengthAt s k
+      → Home (s .names) (lengthAt s k) i l
   unfolding times
   good-home (empties p g) t b = good-home g t b
   good-home (moves p d g) t b = good-home g t b
@@ -82,10 +86,12 @@ module _ {s : Set} (fit : Fit s) where
   good-home (two {k = k} {i} {l = l} {m} f g) t b =
       let n : suc k < tablesOf s = omega arith in
       let u = home-up k i i l n (near-parent i (lengthAt s k) b) (good-home f (omega arith) (omega (arith, fit .twice k n))) in
-      let v = home-up k i (i + lengthAt s k) m n (far-parent i (lengthAt s k) b) (good-home g (omega arith) (omega (arith, fit .twice k n))) in
+      let v =
+      home-up k i (i + lengthAt s k) m n (far-parent i (lengthAt s k) b) (good-home g (omega arith) (omega (arith, fit .twice k n))) in
       λ x z. member-cases x l m z (u x) (v x)
 
-  good-once : {p : Part} {left k i : ℕ} {may : Bool} {l : List ℕ} → Good s p left k i may l → suc k + left ≡ tablesOf s → i < lengthAt s k → (x : ℕ) → times x l ≤ 1
+  good-once : {p : Part} {left k i : ℕ} {may : Bool} {l : List ℕ} → Good s p left k i may l → suc k + left ≡ tablesOf s → i < lengthAt s k
+      → (x : ℕ) → times x l ≤ 1
   unfolding times
   good-once (empties p g) t b x = good-once g t b x
   good-once (moves p d g) t b x = good-once g t b x
@@ -96,7 +102,8 @@ module _ {s : Set} (fit : Fit s) where
       let n : suc k < tablesOf s = omega arith in
       let p = good-home f (omega arith) (omega (arith, fit .twice k n)) in
       let q = good-home g (omega arith) (omega (arith, fit .twice k n)) in
-      go (decLe 1 (times x l)) (decLe 1 (times x m)) (p x) (q x) (good-once f (omega arith) (omega (arith, fit .twice k n)) x) (good-once g (omega arith) (omega (arith, fit .twice k n)) x)
+      go (decLe 1 (times x l)) (decLe 1 (times x m)) (p x) (q x) (good-once f (omega arith) (omega (arith, fit .twice k n)) x)
+      (good-once g (omega arith) (omega (arith, fit .twice k n)) x)
     where
       go : Dec (1 ≤ times x l) → Dec (1 ≤ times x m)
           → (1 ≤ times x l → bini (lengthAt s (suc k)) (nameOf (s .names) x hashPart) ≡ i)
@@ -114,7 +121,8 @@ module _ {s : Set} (fit : Fit s) where
     pub used-one : used (s .cells) x ≡ 1
     pub inside : x < slotsOf (s .names)
 
-  good-member : {p : Part} {left k i : ℕ} {may : Bool} {l : List ℕ} → Good s p left k i may l → suc k + left ≡ tablesOf s → i < lengthAt s k → (x : ℕ) → 1 ≤ times x l → Member x
+  good-member : {p : Part} {left k i : ℕ} {may : Bool} {l : List ℕ} → Good s p left k i may l → suc k + left ≡ tablesOf s → i < lengthAt s k
+      → (x : ℕ) → 1 ≤ times x l → Member x
   unfolding times
   good-member (empties p g) t b x z = good-member g t b x z
   good-member (moves p d g) t b x z = good-member g t b x z
@@ -132,7 +140,8 @@ module _ {s : Set} (fit : Fit s) where
   good-member final t b x z = absurd (omega arith)
   good-member (two {k = k} {i} {l = l} {m} f g) t b x z =
       let n : suc k < tablesOf s = omega arith in
-      member-cases x l m z (λ y. good-member f (omega arith) (omega (arith, fit .twice k n)) x y) (λ y. good-member g (omega arith) (omega (arith, fit .twice k n)) x y)
+      member-cases x l m z (λ y. good-member f (omega arith) (omega (arith, fit .twice k n)) x y)
+      (λ y. good-member g (omega arith) (omega (arith, fit .twice k n)) x y)
 
 -- Bin j of table l is bin i of table k, or below it.
 pub data Under (s : Set) : ℕ → ℕ → ℕ → ℕ → Type 0 where
@@ -161,7 +170,8 @@ module _ {s : Set} (fit : Fit s) where
   under-first zero j t b = (j, b, here)
   under-first (suc k) j t b = go (decLe (lengthAt s k) j) (under-first k)
     where
-      go : Dec (lengthAt s k ≤ j) → ((j : ℕ) → k < tablesOf s → j < lengthAt s k → (i : ℕ) × (i < lengthAt s 0) × Under s 0 i k j) → (i : ℕ) × (i < lengthAt s 0) × Under s 0 i (suc k) j
+      go : Dec (lengthAt s k ≤ j) → ((j : ℕ) → k < tablesOf s → j < lengthAt s k → (i : ℕ) × (i < lengthAt s 0) × Under s 0 i k j)
+          → (i : ℕ) × (i < lengthAt s 0) × Under s 0 i (suc k) j
       go (no d) again = let r = again j (omega arith) (omega arith) in (r .0, r .1, under-near (r .2))
       go (yes h) again =
           let r = again (j - lengthAt s k) (omega arith) (omega (arith, fit .twice k t)) in
@@ -178,20 +188,25 @@ module _ {s : Set} (fit : Fit s) where
     pub part : (x : ℕ) → times x slots ≤ times x l
 
   sub-more : {k j : ℕ} {l m : List ℕ} → ((x : ℕ) → times x l ≤ times x m) → Sub k j l → Sub k j m
-  sub-more f r = record { left = r .left; may = r .may; slots = r .slots; good = r .good; sum = r .sum; part = λ x. omega (arith, f x, r .part x) }
+  sub-more f r =
+      record { left = r .left; may = r .may; slots = r .slots; good = r .good; sum = r .sum; part = λ x. omega (arith, f x, r .part x) }
 
   abbrev Within : Part → ℕ → ℕ → ℕ → ℕ → Type 0
   Within whole k i l j = Under s k i l j
   Within beneath k i l j = Under s (suc k) i l j ⊎ Under s (suc k) (i + lengthAt s k) l j
 
-  good-sub : {p : Part} {left k i : ℕ} {may : Bool} {l : List ℕ} → Good s p left k i may l → suc k + left ≡ tablesOf s → (k′ j : ℕ) → Within p k i k′ j → k′ < tablesOf s → Sub k′ j l
-  good-sub (empties {left = left} {may = may} {l = l} p g) t _ _ here b = record { left = left; may = may; slots = l; good = empties {may = may} p g; sum = t; part = λ x. omega arith }
+  good-sub : {p : Part} {left k i : ℕ} {may : Bool} {l : List ℕ} → Good s p left k i may l → suc k + left ≡ tablesOf s → (k′ j : ℕ)
+      → Within p k i k′ j → k′ < tablesOf s → Sub k′ j l
+  good-sub (empties {left = left} {may = may} {l = l} p g) t _ _ here b =
+      record { left = left; may = may; slots = l; good = empties {may = may} p g; sum = t; part = λ x. omega arith }
   good-sub (empties p g) t k′ j (near u) b = good-sub g t k′ j (inl u) b
   good-sub (empties p g) t k′ j (far u) b = good-sub g t k′ j (inr u) b
-  good-sub (moves {left = left} {l = l} p d g) t _ _ here b = record { left = left; may = true; slots = l; good = moves p d g; sum = t; part = λ x. omega arith }
+  good-sub (moves {left = left} {l = l} p d g) t _ _ here b =
+      record { left = left; may = true; slots = l; good = moves p d g; sum = t; part = λ x. omega arith }
   good-sub (moves p d g) t k′ j (near u) b = good-sub g t k′ j (inl u) b
   good-sub (moves p d g) t k′ j (far u) b = good-sub g t k′ j (inr u) b
-  good-sub (holding {left = left} {l = l} {m} p h g) t _ _ here b = record { left = left; may = true; slots = l ++ m; good = holding p h g; sum = t; part = λ x. omega arith }
+  good-sub (holding {left = left} {l = l} {m} p h g) t _ _ here b =
+      record { left = left; may = true; slots = l ++ m; good = holding p h g; sum = t; part = λ x. omega arith }
   good-sub (holding {l = l} {m} p h g) t k′ j (near u) b = sub-more (λ x. omega (arith, times-append x l m)) (good-sub g t k′ j (inl u) b)
   good-sub (holding {l = l} {m} p h g) t k′ j (far u) b = sub-more (λ x. omega (arith, times-append x l m)) (good-sub g t k′ j (inr u) b)
   good-sub final t k′ j (inl u) b = absurd (omega (arith, under-least u))
@@ -200,7 +215,8 @@ module _ {s : Set} (fit : Fit s) where
   good-sub (two {l = l} {m} f g) t k′ j (inr u) b = sub-more (λ x. omega (arith, times-append x l m)) (good-sub g (omega arith) k′ j u b)
 
   -- Of a whole row: each slot is an entry, stands once, and every bin is part of it.
-  row-home : {i : ℕ} {l : List ℕ} → Row s i l → i ≤ lengthAt s 0 → (x : ℕ) → 1 ≤ times x l → bini (lengthAt s 0) (nameOf (s .names) x hashPart) < i
+  row-home : {i : ℕ} {l : List ℕ} → Row s i l → i ≤ lengthAt s 0 → (x : ℕ) → 1 ≤ times x l
+      → bini (lengthAt s 0) (nameOf (s .names) x hashPart) < i
   unfolding times
   row-home start b x z = absurd (omega arith)
   row-home (more {i = i} {l} {m} g r) b x z =
@@ -212,7 +228,8 @@ module _ {s : Set} (fit : Fit s) where
   unfolding times
   row-once start b x = omega arith
   row-once (more {i = i} {l} {m} g r) b x =
-      go (decLe 1 (times x l)) (decLe 1 (times x m)) (λ y. good-home fit g (omega (arith, fit .least)) (omega arith) x y) (λ y. row-home r (omega arith) x y)
+      go (decLe 1 (times x l)) (decLe 1 (times x m)) (λ y. good-home fit g (omega (arith, fit .least)) (omega arith) x y)
+      (λ y. row-home r (omega arith) x y)
       (good-once fit g (omega (arith, fit .least)) (omega arith) x) (row-once r (omega arith) x)
     where
       go : Dec (1 ≤ times x l) → Dec (1 ≤ times x m)
@@ -234,7 +251,15 @@ module _ {s : Set} (fit : Fit s) where
   row-at (more {i = m} {l} {m = l′} g r) i b = go (ℕ-discrete i m) (λ d. row-at r i (omega arith))
     where
       go : Dec (i ≡ m) → (i ≢ m → Sub 0 i l′) → Sub 0 i (l ++ l′)
-      go (yes e) rest = rw e (record { left = tablesOf s - 1; may = true; slots = l; good = g; sum = omega (arith, fit .least); part = λ x. omega (arith, times-append x l l′) })
+      go (yes e) rest =
+          rw e (record {
+            left = tablesOf s - 1;
+            may = true;
+            slots = l;
+            good = g;
+            sum = omega (arith, fit .least);
+            part = λ x. omega (arith, times-append x l l′);
+          })
       go (no d) rest = sub-more (λ x. omega (arith, times-append x l l′)) (rest d)
 
   module _ {l : List ℕ} (row : Row s (lengthAt s 0) l) where

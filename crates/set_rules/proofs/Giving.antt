@@ -1,5 +1,5 @@
--- The steps of a walk give what the bins give, in the rules' order. At a place, what is still to come is what its bin gives, then what comes after
--- it: the bin at that index plus the upper length, where there is one, and then up.
+-- The steps of a walk give what the bins give, in the rules' order. At a place, what is still to come is what its bin gives, then what
+-- comes after it: the bin at that index plus the upper length, where there is one, and then up.
 use mathlib.Core.Path.{_≡_, refl, ap, sym, _∙_}
 use mathlib.Core.Logic.{_≢_}
 use mathlib.Core.List.{List, [], _∷_, _++_, append-assoc}
@@ -17,13 +17,15 @@ use Rattle.set_rules.specs.Accepted.{Accepted, Listed}
 use Rattle.set_rules.proofs.Fit.{small, ends}
 use Rattle.set_rules.proofs.Naming.{ranges}
 use Rattle.set_rules.specs.Cursor.{Cursor, Step, lone, starts}
-use Rattle.set_rules.specs.Walk.{Place, place, deepest, advanced, kept, trimmed, onward, below, standing, Sought, at, ended, stepped, stepsOn, nexts}
+use Rattle.set_rules.specs.Walk.{Place, place, deepest, advanced, kept, trimmed, onward, below, standing, Sought, at, ended, stepped}
+use Rattle.set_rules.specs.Walk.{stepsOn, nexts}
 use Rattle.set_rules.specs.Ways.{moved-to}
 use Rattle.set_rules.specs.Held.{Made}
 use Rattle.set_rules.specs.Whole.{Gives, Onward, Listing}
 use Rattle.set_rules.proofs.Turns.{on, advanced-lt, advanced-ge, twice-at}
 use Rattle.set_rules.proofs.Cursors.{trimmed-same}
-use Rattle.set_rules.proofs.Seeking.{Good, Here, leftAt, seeks, at-end, at-empty, at-list, at-moved, at-tree, falls-onward, falls-below, good-onward, good-below}
+use Rattle.set_rules.proofs.Seeking.{Good, Here, leftAt, seeks, at-end, at-empty, at-list, at-moved, at-tree, falls-onward}
+use Rattle.set_rules.proofs.Seeking.{falls-below, good-onward, good-below}
 use Rattle.set_rules.proofs.Gates.{start-made, next-walked, next-stands}
 use Rattle.set_rules.proofs.Righting.{made-not-bad}
 use Rattle.tree_rules.specs.Find.{slotsOf}
@@ -38,13 +40,15 @@ module _ (s : Set) (base : ℕ) where
 
   -- What is to come from a place on.
   data From : Place → List ℕ → Type 0 where
-    here : {p : Place} {l m : List ℕ} → Here s base p → Gives s (base + p .depth) (deepest p) l → Rest (p .depth) (p .indexes) m → From p (l ++ m)
+    here : {p : Place} {l m : List ℕ} → Here s base p → Gives s (base + p .depth) (deepest p) l → Rest (p .depth) (p .indexes) m
+        → From p (l ++ m)
     over : {p : Place} → p .depth ≡ 0 → deepest p ≡ lengthAt s base → From p []
 
   -- It depends on the indexes down to the depth.
   rest-agree : {d : ℕ} {x m : List ℕ} (y : List ℕ) → ((j : ℕ) → j ≤ d → getD x j 0 ≡ getD y j 0) → Rest d x m → Rest d y m
   rest-agree y h (row g) = row (rw (h 0 (omega arith)) at g)
-  rest-agree y h (plus {d = d} l g r) = plus (rw (h (suc d) (omega arith)) at l) (rw (h (suc d) (omega arith)) at g) (rest-agree y (λ j k. h j (omega arith)) r)
+  rest-agree y h (plus {d = d} l g r) =
+      plus (rw (h (suc d) (omega arith)) at l) (rw (h (suc d) (omega arith)) at g) (rest-agree y (λ j k. h j (omega arith)) r)
   rest-agree y h (up {d = d} l r) = up (rw (h (suc d) (omega arith)) at l) (rest-agree y (λ j k. h j (omega arith)) r)
 
   rest-set : {d : ℕ} {x m : List ℕ} (v : ℕ) → Rest d x m → Rest d (set x (suc d) v) m
@@ -57,7 +61,8 @@ module _ (s : Set) (base : ℕ) where
     row-on x e (Onward.end z) = over refl (getD-set-same x 0 (getD x 0 0 + 1) 0 (omega arith) ∙ omega (arith, z))
     row-on x e (Onward.bin {l = a} {m} w g r) =
         let z : getD (set x 0 (getD x 0 0 + 1)) 0 0 ≡ suc (getD x 0 0) = getD-set-same x 0 (getD x 0 0 + 1) 0 (omega arith) ∙ omega arith in
-        here {p = place 0 (set x 0 (getD x 0 0 + 1))} {l = a} {m = m} (rw (z, add-zero base) w) (rw (z, add-zero base) g) (row {x = set x 0 (getD x 0 0 + 1)} {l = m} (rw z r))
+        here {p = place 0 (set x 0 (getD x 0 0 + 1))} {l = a} {m = m} (rw (z, add-zero base) w) (rw (z, add-zero base) g)
+        (row {x = set x 0 (getD x 0 0 + 1)} {l = m} (rw z r))
 
     rest-on : (d : ℕ) {x m : List ℕ} → length x ≡ 8 → d < 8 → base + d < tablesOf s → Rest d x m → From (advanced d (s .lengths) base x) m
     rest-on zero e l b (row {x = x} r) = row-on x e r
@@ -65,31 +70,39 @@ module _ (s : Set) (base : ℕ) where
         let y : List ℕ = set x (suc d) (on (s .lengths) base d x) in
         let z : getD y (suc d) 0 ≡ on (s .lengths) base d x = getD-set-same x (suc d) (on (s .lengths) base d x) 0 (omega arith) in
         let t = twice-at (s .lengths) base twice d b in
-        rw (advanced-lt (s .lengths) base d x k) (here {p = place (suc d) y} {l = a} {m = m} (rw z k) (rw z g) (up {d = d} {x = y} {m = m} (rw z (omega (arith, t))) (rest-set (on (s .lengths) base d x) r)))
+        rw (advanced-lt (s .lengths) base d x k)
+        (here {p = place (suc d) y} {l = a} {m = m} (rw z k) (rw z g)
+        (up {d = d} {x = y} {m = m} (rw z (omega (arith, t))) (rest-set (on (s .lengths) base d x) r)))
     rest-on (suc d) e l b (up {x = x} k r) =
         rw (advanced-ge (s .lengths) base d x k) (rest-on d (length-set x (suc d) 0 ∙ e) (omega arith) (omega arith) (rest-set 0 r))
 
     -- The place below a Moved bin has what the two bins there give, and what comes after the Moved one.
-    moved-on : (p : Place) {l m r : List ℕ} → Good s base p → Here s base p → base + suc (p .depth) < tablesOf s → Gives s (suc (base + p .depth)) (deepest p) l
+    moved-on : (p : Place) {l m r : List ℕ} → Good s base p → Here s base p → base + suc (p .depth) < tablesOf s
+        → Gives s (suc (base + p .depth)) (deepest p) l
         → Gives s (suc (base + p .depth)) (deepest p + lengthAt s (base + p .depth)) m → Rest (p .depth) (p .indexes) r
         → From (below s base p) (l ++ (m ++ r))
     moved-on p {l} {m} {r = c} h w b f g r =
         let d = p .depth in
         let x = p .indexes in
-        let z : getD (set x (suc d) (deepest p)) (suc d) 0 ≡ deepest p = getD-set-same x (suc d) (deepest p) 0 (omega (arith, h .eight, h .few)) in
+        let z : getD (set x (suc d) (deepest p)) (suc d) 0 ≡ deepest p =
+        getD-set-same x (suc d) (deepest p) 0 (omega (arith, h .eight, h .few)) in
         let t = twice-at (s .lengths) base twice d b in
-        here {p = below s base p} {l = l} {m = m ++ c} (rw z (omega (arith, t))) (rw (z, add-suc base d) f) (plus {d = d} {x = set x (suc d) (deepest p)} {l = m} {m = c} (rw z (omega (arith, t))) (rw (z, add-suc base d) g) (rest-set (deepest p) r))
+        here {p = below s base p} {l = l} {m = m ++ c} (rw z (omega (arith, t))) (rw (z, add-suc base d) f)
+        (plus {d = d} {x = set x (suc d) (deepest p)} {l = m} {m = c} (rw z (omega (arith, t))) (rw (z, add-suc base d) g)
+        (rest-set (deepest p) r))
 
 -- What the loop comes to: the first slot still to come, with its list after it, and the place after its bin.
 module _ (s : Set) (fit : Fit s) (acc : Accepted s) (base : ℕ) where
   data Sees : List ℕ → Sought → Type 0 where
     none : Sees [] ended
-    some : {x : ℕ} {q : Place} {l m : List ℕ} → Listed (slotsOf (s .names)) (s .cells) (cell (s .cells) x next) l → Good s base q → From s base q m → Sees (x ∷ (l ++ m)) (at x q)
+    some : {x : ℕ} {q : Place} {l m : List ℕ} → Listed (slotsOf (s .names)) (s .cells) (cell (s .cells) x next) l → Good s base q
+        → From s base q m → Sees (x ∷ (l ++ m)) (at x q)
 
   onward-on : (p : Place) {m : List ℕ} → Good s base p → Rest s base (p .depth) (p .indexes) m → From s base (onward s base p) m
   onward-on p h r = rest-on s base (fit .twice) (p .depth) (h .eight) (omega (arith, h .deep, h .few)) (h .deep) r
 
-  sees-list : (p : Place) {a : ℕ} {l m : List ℕ} → Good s base p → Here s base p → Listed (slotsOf (s .names)) (s .cells) a l → a ≢ null → Rest s base (p .depth) (p .indexes) m
+  sees-list : (p : Place) {a : ℕ} {l m : List ℕ} → Good s base p → Here s base p → Listed (slotsOf (s .names)) (s .cells) a l → a ≢ null
+      → Rest s base (p .depth) (p .indexes) m
       → Sees (l ++ m) (at a (onward s base p))
   sees-list p h w (Listed.ended e) d r = absurd (d e)
   sees-list p h w (Listed.onward b t) d r = some t (good-onward s base p h w) (onward-on p h r)
@@ -97,10 +110,12 @@ module _ (s : Set) (fit : Fit s) (acc : Accepted s) (base : ℕ) where
   sees : (t : ℕ) (p : Place) {l : List ℕ} → Good s base p → From s base p l → leftAt s base p < t → Sees l (seeks s base p)
   sees zero p h f k = absurd (omega arith)
   sees (suc t) p h (over d e) k =
-      let z : lengthAt s (base + p .depth) ≡ lengthAt s base = ap (λ (j : ℕ). lengthAt s (base + j)) d ∙ ap (λ (j : ℕ). lengthAt s j) (add-zero base) in
+      let z : lengthAt s (base + p .depth) ≡ lengthAt s base =
+      ap (λ (j : ℕ). lengthAt s (base + j)) d ∙ ap (λ (j : ℕ). lengthAt s j) (add-zero base) in
       rw (at-end s base p (omega (arith, z))) none
   sees (suc t) p h (here w (Gives.of-none e) r) k =
-      rw (at-empty s base p h w e) (sees t (onward s base p) (good-onward s base p h w) (onward-on p h r) (omega (arith, falls-onward s base p h w)))
+      rw (at-empty s base p h w e)
+      (sees t (onward s base p) (good-onward s base p h w) (onward-on p h r) (omega (arith, falls-onward s base p h w)))
   sees (suc t) p h (here w (Gives.of-list {a = a} e g) r) k =
       let z = ranges (slotsOf (s .names)) (headersIn s) _ .lists a .0 e in
       rw (at-list s base p h w e) (sees-list p h w g (omega (arith, z .3, small fit)) r)
@@ -114,13 +129,16 @@ module _ (s : Set) (fit : Fit s) (acc : Accepted s) (base : ℕ) where
   sees (suc t) p h (here {m = c} w (Gives.of-moved {l = a} {m = b} e n f g) r) k =
       let n : base + suc (p .depth) < tablesOf s = omega arith in
       rw (append-assoc a b c, at-moved s base p h w e n)
-      (sees t (below s base p) (good-below s base p h w n) (moved-on s base (fit .twice) p h w n f g r) (omega (arith, falls-below s base p h w n)))
+      (sees t (below s base p) (good-below s base p h w n) (moved-on s base (fit .twice) p h w n f g r)
+      (omega (arith, falls-below s base p h w n)))
 
   -- A cursor at a place stands where the place is.
-  stands-from : (q : Place) {m : List ℕ} → Good s base q → From s base q m → From s base (place (q .depth) (trimmed (q .depth) (q .indexes))) m
+  stands-from : (q : Place) {m : List ℕ} → Good s base q → From s base q m
+      → From s base (place (q .depth) (trimmed (q .depth) (q .indexes))) m
   stands-from q h f = go f (λ j k. trimmed-same (q .depth) (q .indexes) j k (omega (arith, h .deep, h .few)))
     where
-      go : {q : Place} {m : List ℕ} → From s base q m → ((j : ℕ) → j ≤ q .depth → getD (trimmed (q .depth) (q .indexes)) j 0 ≡ getD (q .indexes) j 0)
+      go : {q : Place} {m : List ℕ} → From s base q m
+          → ((j : ℕ) → j ≤ q .depth → getD (trimmed (q .depth) (q .indexes)) j 0 ≡ getD (q .indexes) j 0)
           → From s base (place (q .depth) (trimmed (q .depth) (q .indexes))) m
       go (over {p = q} d e) z = over d (z (q .depth) (omega arith) ∙ e)
       go (here {p = q} {l} {m} w g r) z =
@@ -137,7 +155,8 @@ module _ (s : Set) (fit : Fit s) (acc : Accepted s) where
 
     by-link : (x : ℕ) → cell (s .cells) (c .last) next ≡ x → x < slotsOf (s .names) → nexts s c ≡ stepped s c (at x (standing c))
     unfolding stepsOn
-    by-link x e l = next-walked s c fit (made-not-bad s fit c m) ∙ rw (e, ne-eqb x null (omega (arith, small fit)), lt-ltb x (slotsOf (s .names)) l)
+    by-link x e l =
+        next-walked s c fit (made-not-bad s fit c m) ∙ rw (e, ne-eqb x null (omega (arith, small fit)), lt-ltb x (slotsOf (s .names)) l)
 
   one-step : (c d : Cursor) (x : ℕ) {l : List ℕ} → nexts s c ≡ record { answer = given x; cursor = d } → Listing s d l → Listing s c (x ∷ l)
   one-step c d x {l} e r = Listing.step {l = l} (ap (λ (r : Step). r .answer) e) (rw (ap (λ (r : Step). r .cursor) e) r)
@@ -147,10 +166,13 @@ module _ (s : Set) (fit : Fit s) (acc : Accepted s) where
 
   -- The slots after the last one come first, then what is to come from where the cursor stands.
   abbrev Lists : ℕ → Type 0
-  Lists n = (c : Cursor) (l m : List ℕ) → Made s c → Listed (slotsOf (s .names)) (s .cells) (cell (s .cells) (c .last) next) l → From s (c .base) (standing c) m
+  Lists n =
+      (c : Cursor) (l m : List ℕ) → Made s c → Listed (slotsOf (s .names)) (s .cells) (cell (s .cells) (c .last) next) l
+      → From s (c .base) (standing c) m
       → length l + length m < n → Listing s c (l ++ m)
 
-  lists-loop : (n : ℕ) (c : Cursor) → Made s c → cell (s .cells) (c .last) next ≡ null → {m : List ℕ} {o : Sought} → Sees s fit acc (c .base) m o
+  lists-loop : (n : ℕ) (c : Cursor) → Made s c → cell (s .cells) (c .last) next ≡ null → {m : List ℕ} {o : Sought}
+      → Sees s fit acc (c .base) m o
       → seeks s (c .base) (standing c) ≡ o → length m ≤ n → Lists n → Listing s c m
   lists-loop n c made e none f k again = Listing.done (ap (λ (r : Step). r .answer) (by-loop c made e f))
   lists-loop n c made e (some {x = x} {q} {l} {m} t h g) f k again =
@@ -162,17 +184,22 @@ module _ (s : Set) (fit : Fit s) (acc : Accepted s) where
   lists zero c l m made t f k = absurd (omega arith)
   lists (suc n) c l m made (Listed.ended e) f k =
       let h = next-stands s c fit (made-not-bad s fit c made) in
-      lists-loop n c made e (sees s fit acc (c .base) (suc (leftAt s (c .base) (standing c))) (standing c) h f (omega arith)) refl (omega arith) (lists n)
+      lists-loop n c made e (sees s fit acc (c .base) (suc (leftAt s (c .base) (standing c))) (standing c) h f (omega arith)) refl
+      (omega arith) (lists n)
   lists (suc n) c l m made (Listed.onward {l = l′} b t) f k =
       let x = cell (s .cells) (c .last) next in
       let d = moved-to c (standing c) x in
       let z = by-link c made x refl b in
-      one-step c d x z (lists n d l′ m (made-next c d x z made) t (stands-from s fit acc (c .base) (standing c) (next-stands s c fit (made-not-bad s fit c made)) f) (omega arith))
+      one-step c d x z
+      (lists n d l′ m (made-next c d x z made) t
+      (stands-from s fit acc (c .base) (standing c) (next-stands s c fit (made-not-bad s fit c made)) f) (omega arith))
 
   -- A walk from the start of a table gives what its bins give.
   pub walk-gives : (t : ℕ) → t < tablesOf s → {l : List ℕ} → Onward s t 0 l → Listing s (starts s t .cursor) l
   unfolding kept
-  walk-gives t b {l} g = rw (start-made s t fit b) (lists (suc (length l)) c [] l made (Listed.ended (cell-null (s .cells) next (ends fit))) (first g) (omega arith))
+  walk-gives t b {l} g =
+      rw (start-made s t fit b)
+      (lists (suc (length l)) c [] l made (Listed.ended (cell-null (s .cells) next (ends fit))) (first g) (omega arith))
     where
       c : Cursor
       c = record { base = t; depth = 0; indexes = lone 0; last = null }

@@ -80,7 +80,8 @@ module _ (s : Set) (hash key : ℕ) where
       solid : p ≢ null
       solid = omega arith
 
-      go : Dec (pairOf (s .names) p ≡ pair hash key) → Finds (s .names) hash key (p ∷ l) (listed (s .names) (s .cells) (suc v) p hash key .answer)
+      go : Dec (pairOf (s .names) p ≡ pair hash key)
+          → Finds (s .names) hash key (p ∷ l) (listed (s .names) (s .cells) (suc v) p hash key .answer)
       go (yes e) =
           let z = stays (s .names) (s .cells) p hash key v solid b e in
           record {
@@ -94,7 +95,8 @@ module _ (s : Set) (hash key : ℕ) where
             none = λ n. z ∙ rest .none (λ x k. n x (omega (arith, times-rest x p l)));
           }
 
-  list-finds : slotsOf (s .names) ≤ null → {p : ℕ} {l : List ℕ} → Listed (slotsOf (s .names)) (s .cells) p l → Apart (s .names) l → (v : ℕ) → length l ≤ v
+  list-finds : slotsOf (s .names) ≤ null → {p : ℕ} {l : List ℕ} → Listed (slotsOf (s .names)) (s .cells) p l → Apart (s .names) l
+      → (v : ℕ) → length l ≤ v
       → Finds (s .names) hash key l (listed (s .names) (s .cells) v p hash key .answer)
   unfolding times
   list-finds few {p} (Listed.ended e) Apart.none v h =
@@ -108,7 +110,8 @@ module _ (s : Set) (fit : Fit s) (acc : Accepted s) (hash key : ℕ) where
   home-place k l = record { table = l; index = bini-less fit k l hash }
 
   list-held : (k p : ℕ) → k < tablesOf s → homeBin s k hash ≡ list p
-      → (l : List ℕ) × Listed (slotsOf (s .names)) (s .cells) p l × Finds (s .names) hash key l (listed (s .names) (s .cells) (slotsOf (s .names)) p hash key .answer)
+      → (l : List ℕ) × Listed (slotsOf (s .names)) (s .cells) p l
+      × Finds (s .names) hash key l (listed (s .names) (s .cells) (slotsOf (s .names)) p hash key .answer)
   list-held k p b e =
       let g = acc .lists k (bini (lengthAt s k) hash) p (home-place k b) e in
       let few = small fit in
@@ -116,23 +119,28 @@ module _ (s : Set) (fit : Fit s) (acc : Accepted s) (hash key : ℕ) where
       (g .visits, g .ends, list-finds s hash key few (g .ends) (g .apart) (slotsOf (s .names)) m)
 
   tree-held : (k h : ℕ) → k < tablesOf s → homeBin s k hash ≡ tree h
-      → (t : Tree) × Rooted (slotsOf (s .names)) (s .cells) (rootAt s h) t × Finds (s .names) hash key (slots t) (found (s .names) (s .cells) (rootAt s h) hash key .answer)
+      → (t : Tree) × Rooted (slotsOf (s .names)) (s .cells) (rootAt s h) t
+      × Finds (s .names) hash key (slots t) (found (s .names) (s .cells) (rootAt s h) hash key .answer)
   unfolding found
   tree-held k h b e =
       let g = acc .trees k (bini (lengthAt s k) hash) h (home-place k b) e in
       let few = small fit in
-      let a = seeks (s .names) (s .cells) few hash key (g .rooted .hangs) (g .rising) (slotsOf (s .names)) (rooted-most (slotsOf (s .names)) (s .cells) few (rootAt s h) (g .rooted)) in
+      let a =
+      seeks (s .names) (s .cells) few hash key (g .rooted .hangs) (g .rising) (slotsOf (s .names))
+      (rooted-most (slotsOf (s .names)) (s .cells) few (rootAt s h) (g .rooted)) in
       (g .tree, g .rooted, rw (g .rooted .from) (record { at = a .at; none = a .none }))
 
   module _ (t : ℕ) (there : t < tablesOf s) where
-    held-given : {k slot : ℕ} → Reaches s t hash k → (b : Bin) → homeBin s k hash ≡ b → {l : List ℕ} → HeldIn s b l → 1 ≤ times slot l → pairOf (s .names) slot ≡ pair hash key
+    held-given : {k slot : ℕ} → Reaches s t hash k → (b : Bin) → homeBin s k hash ≡ b → {l : List ℕ} → HeldIn s b l → 1 ≤ times slot l
+        → pairOf (s .names) slot ≡ pair hash key
         → whole s t hash key there .answer ≡ given slot
     held-given {k} {slot} c (list p) e (HeldIn.listed h) m f =
         let g = list-held k p (comes-in s t hash key there c) e in
         answers (at-bin s t hash key there c e) ∙ g .2 .at slot (rw (listed-unique s (small fit) h (g .1)) at m) f
     held-given {k} {slot} c (tree a) e (HeldIn.grown h) m f =
         let g = tree-held k a (comes-in s t hash key there c) e in
-        answers (at-bin s t hash key there c e) ∙ g .2 .at slot (rw (rooted-unique (slotsOf (s .names)) (s .cells) (small fit) (rootAt s a) h (g .1)) at m) f
+        answers (at-bin s t hash key there c e)
+        ∙ g .2 .at slot (rw (rooted-unique (slotsOf (s .names)) (s .cells) (small fit) (rootAt s a) h (g .1)) at m) f
 
     reached-given : {slot : ℕ} → Reached s t hash key slot → whole s t hash key there .answer ≡ given slot
     reached-given r = held-given (r .comes) (homeBin s (r .table) hash) refl (r .entry .holds) (r .entry .member) (r .has)
@@ -142,12 +150,22 @@ module _ (s : Set) (fit : Fit s) (acc : Accepted s) (hash key : ℕ) where
         let b = comes-in s t hash key there c in
         let g = list-held k p b e in
         let m = finds-at (s .names) hash key (g .2) slot (here-given (s .names) (s .cells) p hash key h) in
-        record { table = k; comes = c; entry = record { place = home-place k b; held = g .0; holds = rw e (HeldIn.listed (g .1)); member = m .0 }; has = m .1 }
+        record {
+          table = k;
+          comes = c;
+          entry = record { place = home-place k b; held = g .0; holds = rw e (HeldIn.listed (g .1)); member = m .0 };
+          has = m .1;
+        }
     hit-reached {slot} (Hit.in-tree {k} {h = a} c e h) =
         let b = comes-in s t hash key there c in
         let g = tree-held k a b e in
         let m = finds-at (s .names) hash key (g .2) slot (shape-claims .finds (s .names) (s .cells) (rootAt s a) hash key .at slot .1 h) in
-        record { table = k; comes = c; entry = record { place = home-place k b; held = slots (g .0); holds = rw e (HeldIn.grown (g .1)); member = m .0 }; has = m .1 }
+        record {
+          table = k;
+          comes = c;
+          entry = record { place = home-place k b; held = slots (g .0); holds = rw e (HeldIn.grown (g .1)); member = m .0 };
+          has = m .1;
+        }
 
     not-astray : Astray s t hash key → ⊥
     not-astray (Astray.bad-bin {k} c e) = acc .none-bad k (bini (lengthAt s k) hash) (home-place k (comes-in s t hash key there c)) e
@@ -155,9 +173,11 @@ module _ (s : Set) (fit : Fit s) (acc : Accepted s) (hash key : ℕ) where
         let b = comes-in s t hash key there c in
         acc .last-unmoved k (bini (lengthAt s k) hash) (home-place k b) (omega arith) e
     not-astray (Astray.in-list {k} {p} c e h) =
-        finds-never (s .names) hash key (list-held k p (comes-in s t hash key there c) e .2) 9 (omega arith) (lost-nine (s .names) (s .cells) p hash key h)
+        finds-never (s .names) hash key (list-held k p (comes-in s t hash key there c) e .2) 9 (omega arith)
+        (lost-nine (s .names) (s .cells) p hash key h)
     not-astray (Astray.in-tree {k} {h = a} c e h) =
-        finds-never (s .names) hash key (tree-held k a (comes-in s t hash key there c) e .2) 9 (omega arith) (shape-claims .finds (s .names) (s .cells) (rootAt s a) hash key .nine .1 h)
+        finds-never (s .names) hash key (tree-held k a (comes-in s t hash key there c) e .2) 9 (omega arith)
+        (shape-claims .finds (s .names) (s .cells) (rootAt s a) hash key .nine .1 h)
 
     at-reached : {a : Answer} → Outcome s t hash key there a → (slot : ℕ) → a ≡ given slot → Reached s t hash key slot
     at-reached (Outcome.lost h) slot e = absurd (not-astray h)
@@ -175,7 +195,8 @@ module _ (s : Set) (fit : Fit s) (acc : Accepted s) (hash key : ℕ) where
     never-refused (Outcome.miss h) n l e = omega (arith, number e)
 
     -- A lookup that is not lost looks at no slot twice.
-    looked-once : {a : Answer} → Outcome s t hash key there a → lookups s t hash key .answer ≢ refused 9 → (x : ℕ) → times x (lookups s t hash key .looks) ≤ 1
+    looked-once : {a : Answer} → Outcome s t hash key there a → lookups s t hash key .answer ≢ refused 9 → (x : ℕ)
+        → times x (lookups s t hash key .looks) ≤ 1
     unfolding times
     looked-once (Outcome.lost h) n x = absurd (not-astray h)
     looked-once (Outcome.hit (Hit.in-list c e h)) n x = lookup-looks s fit t hash key there .in-list c e .once n x
@@ -194,7 +215,8 @@ module _ (s : Set) (fit : Fit s) (acc : Accepted s) (hash key : ℕ) where
     list-limit : {k p : ℕ} {l : List ℕ} → Reaches s t hash k → homeBin s k hash ≡ list p → Listed (slotsOf (s .names)) (s .cells) p l
         → length (lookups s t hash key .looks) ≤ length l
     list-limit c e h =
-        rw (known-loop s t hash key fit there ∙ at-bin s t hash key there c e) (list-length (s .names) (s .cells) hash key (slotsOf (s .names)) h)
+        rw (known-loop s t hash key fit there ∙ at-bin s t hash key there c e)
+        (list-length (s .names) (s .cells) hash key (slotsOf (s .names)) h)
 
     pub looks-up : LooksUp s t hash key
     looks-up =

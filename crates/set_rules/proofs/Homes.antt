@@ -22,18 +22,23 @@ moved-or-not (tree h) = no (λ e. (let z : _≡_ {A = ℕ} 0 1 = cc in omega ari
 
 module _ {s : Set} (fit : Fit s) (parents : ParentMoved s) where
   -- Every bin that a hash names above one that is not empty is Moved.
-  pub above-moved : (hash l k : ℕ) → k < l → l < tablesOf s → binAt s l (bini (lengthAt s l) hash) ≢ empty → binAt s k (bini (lengthAt s k) hash) ≡ moved
+  pub above-moved : (hash l k : ℕ) → k < l → l < tablesOf s → binAt s l (bini (lengthAt s l) hash) ≢ empty
+      → binAt s k (bini (lengthAt s k) hash) ≡ moved
   above-moved hash zero k b t d = absurd (omega arith)
-  above-moved hash (suc l) k b t d = go (moved-or-not (binAt s l (bini (lengthAt s l) hash))) (ℕ-discrete k l) (λ c m. above-moved hash l k (omega arith) (omega arith) m)
+  above-moved hash (suc l) k b t d =
+      go (moved-or-not (binAt s l (bini (lengthAt s l) hash))) (ℕ-discrete k l) (λ c m. above-moved hash l k (omega arith) (omega arith) m)
     where
       parent : bini (lengthAt s (suc l)) hash % lengthAt s l ≡ bini (lengthAt s l) hash
       parent = bini-up fit l t hash
 
       go : Dec (binAt s l (bini (lengthAt s l) hash) ≡ moved) → Dec (k ≡ l)
-          → (k ≢ l → binAt s l (bini (lengthAt s l) hash) ≢ empty → binAt s k (bini (lengthAt s k) hash) ≡ moved) → binAt s k (bini (lengthAt s k) hash) ≡ moved
-      go (no m) c again = absurd (d (parents l (bini (lengthAt s (suc l)) hash) (record { table = t; index = bini-less fit (suc l) t hash }) (rw parent m)))
+          → (k ≢ l → binAt s l (bini (lengthAt s l) hash) ≢ empty → binAt s k (bini (lengthAt s k) hash) ≡ moved)
+          → binAt s k (bini (lengthAt s k) hash) ≡ moved
+      go (no m) c again =
+          absurd (d (parents l (bini (lengthAt s (suc l)) hash) (record { table = t; index = bini-less fit (suc l) t hash }) (rw parent m)))
       go (yes m) (yes c) again = rw c m
-      go (yes m) (no c) again = again c (λ e. (let z : _≡_ {A = Bin} empty moved = sym e ∙ m in let y : _≡_ {A = ℕ} 0 1 = cc in omega arith))
+      go (yes m) (no c) again =
+          again c (λ e. (let z : _≡_ {A = Bin} empty moved = sym e ∙ m in let y : _≡_ {A = ℕ} 0 1 = cc in omega arith))
 
   module _ (homes : EntriesHome s) where
     -- The bin of table k that the entry's hash names.
@@ -54,7 +59,8 @@ module _ {s : Set} (fit : Fit s) (parents : ParentMoved s) where
         go (no z) (no c) = absurd (entry-below f e (omega arith))
 
     -- An entry, in whatever bin, whose hash names a bin that holds slots is an entry of that bin.
-    pub entry-own : {k i l j x : ℕ} {m : List ℕ} → HeldIn s (binAt s k i) m → k < tablesOf s → EntryOf s l j x → bini (lengthAt s k) (nameOf (s .names) x hashPart) ≡ i
+    pub entry-own : {k i l j x : ℕ} {m : List ℕ} → HeldIn s (binAt s k i) m → k < tablesOf s → EntryOf s l j x
+        → bini (lengthAt s k) (nameOf (s .names) x hashPart) ≡ i
         → EntryOf s k i x
     entry-own {k} {i} {l} {j} {x} h b f e = go (ℕ-discrete l k) (decLe l k)
       where
@@ -66,7 +72,8 @@ module _ {s : Set} (fit : Fit s) (parents : ParentMoved s) where
 
         go : Dec (l ≡ k) → Dec (l ≤ k) → EntryOf s k i x
         go (yes z) c = let y : j ≡ i = sym lies ∙ ap (λ (m : ℕ). bini (lengthAt s m) hash) z ∙ e in rw (z, y) at f
-        go (no z) (yes c) = let m = above-moved hash k l (omega arith) b (rw e (not-empty h)) in absurd (not-moved (f .holds) (rw lies at m))
+        go (no z) (yes c) =
+            let m = above-moved hash k l (omega arith) b (rw e (not-empty h)) in absurd (not-moved (f .holds) (rw lies at m))
         go (no z) (no c) =
             let m = above-moved hash l k (omega arith) (f .place .table) (rw lies (not-empty (f .holds))) in
             absurd (not-moved h (rw e at m))

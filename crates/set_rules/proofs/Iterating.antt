@@ -15,12 +15,15 @@ use borrow.Author.Tests.{le-leb, lt-leb, lt-ltb, le-ltb, eq-eqb, ne-eqb}
 use Rattle.slots.specs.Words.{null, next, cell}
 use Rattle.set_rules.specs.Words.{Set, tablesOf, lengthAt, firstAt, Fit, Bin, empty, moved, bad, list, tree}
 use Rattle.set_rules.specs.Cursor.{Cursor, BadCursor}
-use Rattle.set_rules.specs.Walk.{Place, place, deepest, binHere, advanced, onward, below, Sought, at, ended, lost, trimmed, standing, stepped, stepsOn, turnsIn, nexts}
-use Rattle.set_rules.specs.NodeIter.{Iter, iter, over, pushed, recovered, proceeds, Yield, yields, ends, stuck, matched, looped, called, frames, stateAt, stateOf, IsCall}
+use Rattle.set_rules.specs.Walk.{Place, place, deepest, binHere, advanced, onward, below, Sought, at, ended, lost, trimmed, standing}
+use Rattle.set_rules.specs.Walk.{stepped, stepsOn, turnsIn, nexts}
+use Rattle.set_rules.specs.NodeIter.{Iter, iter, over, pushed, recovered, proceeds, Yield, yields, ends, stuck, matched, looped}
+use Rattle.set_rules.specs.NodeIter.{called, frames, stateAt, stateOf, IsCall}
 use Rattle.set_rules.proofs.Turns.{on, advanced-lt, advanced-ge}
 use Rattle.set_rules.proofs.Standing.{within-or-end, left-all}
 use Rattle.set_rules.proofs.Cursors.{trimmed-same}
-use Rattle.set_rules.proofs.Seeking.{Good, Here, leftAt, seeks, at-end, at-empty, at-bad, at-list, at-moved, at-last, at-tree, at-stray, falls-onward, falls-below, good-onward, good-below}
+use Rattle.set_rules.proofs.Seeking.{Good, Here, leftAt, seeks, at-end, at-empty, at-bad, at-list, at-moved, at-last, at-tree}
+use Rattle.set_rules.proofs.Seeking.{at-stray, falls-onward, falls-below, good-onward, good-below}
 use Rattle.set_rules.proofs.Gates.{next-walked, next-stands}
 use Rattle.tree_rules.specs.Find.{slotsOf}
 
@@ -68,12 +71,17 @@ module _ (s : Set) (base : ℕ) where
           → ((y : List ℕ) → length y ≡ 8 → back d y ≡ state (advanced d (s .lengths) base y))
           → back (suc d) x ≡ state (advanced (suc d) (s .lengths) base x)
       go (yes k) again =
-          rw (advanced-lt (s .lengths) base d x k, lt-ltb (on (s .lengths) base d x) (lengthAt s (base + suc d)) k, state-at d (on (s .lengths) base d x) x e l)
+          rw (
+            advanced-lt (s .lengths) base d x k,
+            lt-ltb (on (s .lengths) base d x) (lengthAt s (base + suc d)) k,
+            state-at d (on (s .lengths) base d x) x e l,
+          )
       go (no n) again =
           let k : lengthAt s (base + suc d) ≤ on (s .lengths) base d x = omega arith in
           let y : List ℕ = set x (suc d) 0 in
           let same : back d y ≡ back d x = ap (λ (it : Iter). proceeds s (lengthAt s base) it) (state-set d 0 x) in
-          rw (advanced-ge (s .lengths) base d x k, le-ltb (on (s .lengths) base d x) (lengthAt s (base + suc d)) k) (sym same ∙ again y (length-set x (suc d) 0 ∙ e))
+          rw (advanced-ge (s .lengths) base d x k, le-ltb (on (s .lengths) base d x) (lengthAt s (base + suc d)) k)
+          (sym same ∙ again y (length-set x (suc d) 0 ∙ e))
 
   module _ (p : Place) (h : Good s base p) where
     proceeding : proceeds s (lengthAt s base) (state p) ≡ state (onward s base p)
@@ -85,7 +93,10 @@ module _ (s : Set) (base : ℕ) where
 
     goes-on : Here s base p → over s (lengthAt s base) (state p) ≡ false
     goes-on w =
-        rw (lt-leb (lengthAt s base) (getD (p .indexes) 0 0) (first (ℕ-discrete (p .depth) 0)), lt-leb (lengthAt s (base + p .depth)) (deepest p) w)
+        rw (
+          lt-leb (lengthAt s base) (getD (p .indexes) 0 0) (first (ℕ-discrete (p .depth) 0)),
+          lt-leb (lengthAt s (base + p .depth)) (deepest p) w,
+        )
       where
         zeroth : lengthAt s (base + 0) ≡ lengthAt s base
         zeroth = ap (λ (k : ℕ). lengthAt s k) (add-zero base)
@@ -96,7 +107,8 @@ module _ (s : Set) (base : ℕ) where
 
     is-over : (p .depth ≡ 0) × (lengthAt s (base + p .depth) ≤ deepest p) → over s (lengthAt s base) (state p) ≡ true
     is-over e =
-        let z : lengthAt s (base + p .depth) ≡ lengthAt s base = ap (λ (k : ℕ). lengthAt s (base + k)) (e .0) ∙ ap (λ (k : ℕ). lengthAt s k) (add-zero base) in
+        let z : lengthAt s (base + p .depth) ≡ lengthAt s base =
+        ap (λ (k : ℕ). lengthAt s (base + k)) (e .0) ∙ ap (λ (k : ℕ). lengthAt s k) (add-zero base) in
         let f : deepest p ≡ getD (p .indexes) 0 0 = ap (λ (k : ℕ). getD (p .indexes) k 0) (e .0) in
         rw (le-leb (lengthAt s base) (getD (p .indexes) 0 0) (omega (arith, z, f, e .1)))
 
@@ -107,16 +119,21 @@ module _ (s : Set) (base : ℕ) where
     lost-both : Meets lost stuck
 
   module _ (t : ℕ) (p : Place) (h : Good s base p) where
-    turn-over : (p .depth ≡ 0) × (lengthAt s (base + p .depth) ≤ deepest p) → Meets (seeks s base p) (looped (suc t) s (lengthAt s base) (state p))
+    turn-over : (p .depth ≡ 0) × (lengthAt s (base + p .depth) ≤ deepest p)
+        → Meets (seeks s base p) (looped (suc t) s (lengthAt s base) (state p))
     unfolding looped
     turn-over e = rw (at-end s base p (e .1), is-over p h e) over-both
 
-    module _ (w : Here s base p) (again : (q : Place) → Good s base q → leftAt s base q < t → Meets (seeks s base q) (looped t s (lengthAt s base) (state q))) (k : leftAt s base p < suc t) where
+    module _ (w : Here s base p)
+        (again : (q : Place) → Good s base q → leftAt s base q < t → Meets (seeks s base q) (looped t s (lengthAt s base) (state q)))
+        (k : leftAt s base p < suc t) where
       abbrev turned-to : Bin → Yield
       turned-to b = matched s (lengthAt s base) (state p) b (λ it. looped t s (lengthAt s base) it)
 
       by-bin : (b : Bin) → binHere s base p ≡ b → Meets (seeks s base p) (turned-to b)
-      by-bin empty e = rw (at-empty s base p h w e, proceeding p h) (again (onward s base p) (good-onward s base p h w) (omega (arith, falls-onward s base p h w)))
+      by-bin empty e =
+          rw (at-empty s base p h w e, proceeding p h)
+          (again (onward s base p) (good-onward s base p h w) (omega (arith, falls-onward s base p h w)))
       by-bin bad e = rw (at-bad s base p h w e) lost-both
       by-bin (list x) e = rw (at-list s base p h w e, proceeding p h) (given-both (good-onward s base p h w))
       by-bin moved e = go (decLt (base + suc (p .depth)) (tablesOf s))
@@ -132,7 +149,9 @@ module _ (s : Set) (base : ℕ) where
       by-bin (tree a) e = go (decLt (firstAt s a) (slotsOf (s .names)))
         where
           go : Dec (firstAt s a < slotsOf (s .names)) → Meets (seeks s base p) (turned-to (tree a))
-          go (yes l) = rw (at-tree s base p h w e l, lt-ltb (firstAt s a) (slotsOf (s .names)) l, proceeding p h) (given-both (good-onward s base p h w))
+          go (yes l) =
+              rw (at-tree s base p h w e l, lt-ltb (firstAt s a) (slotsOf (s .names)) l, proceeding p h)
+              (given-both (good-onward s base p h w))
           go (no n) =
               let l : slotsOf (s .names) ≤ firstAt s a = omega arith in
               rw (at-stray s base p h w e l, le-ltb (firstAt s a) (slotsOf (s .names)) l) lost-both
@@ -156,21 +175,27 @@ module _ (s : Set) (fit : Fit s) (c : Cursor) (good : BadCursor s c → ⊥) whe
   h = next-stands s c fit good
 
   begun : stateAt s (c .base) (c .depth) (trimmed (c .depth) (c .indexes)) ≡ stateOf s c
-  begun = state-agree s (c .base) (c .depth) (trimmed (c .depth) (c .indexes)) (c .indexes) (λ j k. trimmed-same (c .depth) (c .indexes) j k (omega (arith, h .deep, h .few)))
+  begun =
+      state-agree s (c .base) (c .depth) (trimmed (c .depth) (c .indexes)) (c .indexes)
+      (λ j k. trimmed-same (c .depth) (c .indexes) j k (omega (arith, h .deep, h .few)))
 
   alike : {o : Sought} {y : Yield} → Meets s (c .base) o y → IsCall s c (stepped s c o) y
   alike (given-both g) = (refl, refl, refl, refl)
   alike over-both = refl
   alike lost-both = refl
 
-  pub as-source : (turns : ℕ) → turnsIn s (c .base) < turns → IsCall s c (nexts s c) (called turns s (lengthAt s (c .base)) (stateOf s c) (c .last))
+  pub as-source : (turns : ℕ) → turnsIn s (c .base) < turns
+      → IsCall s c (nexts s c) (called turns s (lengthAt s (c .base)) (stateOf s c) (c .last))
   unfolding stepsOn
   as-source turns k = rw (next-walked s c fit good) (go (ℕ-discrete link null) (decLt link (slotsOf (s .names))))
     where
       link : ℕ
       link = cell (s .cells) (c .last) next
 
-      go : Dec (link ≡ null) → Dec (link < slotsOf (s .names)) → IsCall s c (stepsOn s c) (called turns s (lengthAt s (c .base)) (stateOf s c) (c .last))
-      go (yes e) d = rw (eq-eqb link null e) (rw begun at (alike (meets s (c .base) turns (standing c) h (omega (arith, left-all (s .lengths) (c .base) (standing c) h)))))
+      go : Dec (link ≡ null) → Dec (link < slotsOf (s .names))
+          → IsCall s c (stepsOn s c) (called turns s (lengthAt s (c .base)) (stateOf s c) (c .last))
+      go (yes e) d =
+          rw (eq-eqb link null e)
+          (rw begun at (alike (meets s (c .base) turns (standing c) h (omega (arith, left-all (s .lengths) (c .base) (standing c) h)))))
       go (no n) (yes l) = rw (ne-eqb link null n, lt-ltb link (slotsOf (s .names)) l) (refl, begun, refl, refl)
       go (no n) (no l) = let m : slotsOf (s .names) ≤ link = omega arith in rw (ne-eqb link null n, le-ltb link (slotsOf (s .names)) m) refl

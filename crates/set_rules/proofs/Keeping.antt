@@ -50,7 +50,8 @@ module _ (s : Set) (fit : Fit s) (acc : Accepted s) where
   held-once {k} {i} p h = go (binAt s k i) refl h
     where
       go : (b : Bin) → binAt s k i ≡ b → {l : List ℕ} → HeldIn s b l → (x : ℕ) → times x l ≤ 1
-      go (list a) e (HeldIn.listed g) = let v = acc .lists k i a p e in rw (listed-unique s (small fit) (v .ends) g) at (apart-once s (small fit) (v .apart))
+      go (list a) e (HeldIn.listed g) =
+          let v = acc .lists k i a p e in rw (listed-unique s (small fit) (v .ends) g) at (apart-once s (small fit) (v .apart))
       go (tree a) e (HeldIn.grown r) = r .once
 
   entry-held : {k i x : ℕ} {l : List ℕ} → HeldIn s (binAt s k i) l → EntryOf s k i x → 1 ≤ times x l
@@ -97,9 +98,11 @@ module _ (s : Set) (fit : Fit s) (acc : Accepted s) where
     keeps-once (Keeps.nothing e) p = omega arith
     keeps-once (Keeps.its g) p = held-once p g x
     keeps-once {k} {i} (Keeps.parts {l = l} {m} e n f g) p =
-        go (decLe 1 (times x l)) (decLe 1 (times x m)) (keeps-home f (near-place p n)) (keeps-home g (far-place p n)) (keeps-once f (near-place p n)) (keeps-once g (far-place p n))
+        go (decLe 1 (times x l)) (decLe 1 (times x m)) (keeps-home f (near-place p n)) (keeps-home g (far-place p n))
+        (keeps-once f (near-place p n)) (keeps-once g (far-place p n))
       where
-        go : Dec (1 ≤ times x l) → Dec (1 ≤ times x m) → (1 ≤ times x l → home (suc k) ≡ i) → (1 ≤ times x m → home (suc k) ≡ i + lengthAt s k)
+        go : Dec (1 ≤ times x l) → Dec (1 ≤ times x m) → (1 ≤ times x l → home (suc k) ≡ i)
+            → (1 ≤ times x m → home (suc k) ≡ i + lengthAt s k)
             → times x l ≤ 1 → times x m ≤ 1 → times x (l ++ m) ≤ 1
         go (yes a) (yes b) u v c d = absurd (omega (arith, u a, v b, p .index))
         go (no a) b u v c d = omega (arith, times-append x l m)
@@ -131,12 +134,15 @@ module _ (s : Set) (fit : Fit s) (acc : Accepted s) where
         go : EntryOf s k i x ⊎ ((binAt s k i ≡ moved) × Later (suc k)) → 1 ≤ times x l
         go (inl f) = entry-held g f
         go (inr m) = absurd (not-moved g (m .0))
-    entry-keeps {k} {i} (Keeps.parts {l = l} {m} e n f g) p h r = go (settle h r) (halves (home (suc k)) (lengthAt s k) (omega (arith, bini-less fit (suc k) n hash, fit .twice k n))) (λ z w. entry-keeps f (near-place p n) z w) (λ z w. entry-keeps g (far-place p n) z w)
+    entry-keeps {k} {i} (Keeps.parts {l = l} {m} e n f g) p h r =
+        go (settle h r) (halves (home (suc k)) (lengthAt s k) (omega (arith, bini-less fit (suc k) n hash, fit .twice k n)))
+        (λ z w. entry-keeps f (near-place p n) z w) (λ z w. entry-keeps g (far-place p n) z w)
       where
         u : home (suc k) % lengthAt s k ≡ i
         u = bini-up fit k n hash ∙ h
 
-        go : EntryOf s k i x ⊎ ((binAt s k i ≡ moved) × Later (suc k)) → (home (suc k) ≡ home (suc k) % lengthAt s k) ⊎ (home (suc k) ≡ home (suc k) % lengthAt s k + lengthAt s k)
+        go : EntryOf s k i x ⊎ ((binAt s k i ≡ moved) × Later (suc k))
+            → (home (suc k) ≡ home (suc k) % lengthAt s k) ⊎ (home (suc k) ≡ home (suc k) % lengthAt s k + lengthAt s k)
             → (home (suc k) ≡ i → Later (suc k) → 1 ≤ times x l) → (home (suc k) ≡ i + lengthAt s k → Later (suc k) → 1 ≤ times x m)
             → 1 ≤ times x (l ++ m)
         go (inl a) b near far = absurd (not-moved (a .holds) e)
@@ -149,7 +155,8 @@ module _ (s : Set) (fit : Fit s) (acc : Accepted s) where
     unfolding times
     from-home (KeepsFrom.end e) h = absurd (omega arith)
     from-home (KeepsFrom.bin {l = l} {m} b g r) h =
-        member-cases x l m h (λ a. omega (arith, keeps-home x g (record { table = there; index = b }) a)) (λ a. omega (arith, from-home r a))
+        member-cases x l m h (λ a. omega (arith, keeps-home x g (record { table = there; index = b }) a))
+        (λ a. omega (arith, from-home r a))
 
     from-once : {i : ℕ} {l : List ℕ} → KeepsFrom s t i l → times x l ≤ 1
     unfolding times
@@ -158,7 +165,8 @@ module _ (s : Set) (fit : Fit s) (acc : Accepted s) where
         go (decLe 1 (times x l)) (decLe 1 (times x m)) (keeps-home x g (record { table = there; index = b })) (from-home r)
         (keeps-once x g (record { table = there; index = b })) (from-once r)
       where
-        go : Dec (1 ≤ times x l) → Dec (1 ≤ times x m) → (1 ≤ times x l → home x t ≡ i) → (1 ≤ times x m → suc i ≤ home x t) → times x l ≤ 1 → times x m ≤ 1 → times x (l ++ m) ≤ 1
+        go : Dec (1 ≤ times x l) → Dec (1 ≤ times x m) → (1 ≤ times x l → home x t ≡ i) → (1 ≤ times x m → suc i ≤ home x t) → times x l ≤ 1
+            → times x m ≤ 1 → times x (l ++ m) ≤ 1
         go (yes a) (yes b) u v c d = absurd (omega (arith, u a, v b))
         go (no a) b u v c d = omega (arith, times-append x l m)
         go (yes a) (no b) u v c d = omega (arith, times-append x l m)
@@ -166,7 +174,8 @@ module _ (s : Set) (fit : Fit s) (acc : Accepted s) where
     from-entry : {i : ℕ} {l : List ℕ} → KeepsFrom s t i l → 1 ≤ times x l → Later x t
     unfolding times
     from-entry (KeepsFrom.end e) h = absurd (omega arith)
-    from-entry (KeepsFrom.bin {l = l} {m} b g r) h = member-cases x l m h (keeps-entry x g (record { table = there; index = b })) (λ a. from-entry r a)
+    from-entry (KeepsFrom.bin {l = l} {m} b g r) h =
+        member-cases x l m h (keeps-entry x g (record { table = there; index = b })) (λ a. from-entry r a)
 
     entry-from : {i : ℕ} {l : List ℕ} → KeepsFrom s t i l → i ≤ home x t → Later x t → 1 ≤ times x l
     entry-from (KeepsFrom.end e) h f = absurd (omega (arith, bini-less fit t there (hash x)))
@@ -177,14 +186,16 @@ module _ (s : Set) (fit : Fit s) (acc : Accepted s) where
         go (no d) again = omega (arith, again (omega arith), times-append x l m)
 
   -- What a bin gives is there.
-  gives-bin : (k i : ℕ) → Place s k i → (binAt s k i ≡ moved → (l : List ℕ) × Gives s k i l) → (b : Bin) → binAt s k i ≡ b → (l : List ℕ) × Gives s k i l
+  gives-bin : (k i : ℕ) → Place s k i → (binAt s k i ≡ moved → (l : List ℕ) × Gives s k i l) → (b : Bin) → binAt s k i ≡ b
+      → (l : List ℕ) × Gives s k i l
   gives-bin k i p below empty e = ([], Gives.of-none e)
   gives-bin k i p below moved e = below e
   gives-bin k i p below bad e = absurd (acc .none-bad k i p e)
   gives-bin k i p below (list a) e = let g = acc .lists k i a p e in (g .visits, Gives.of-list e (g .ends))
   gives-bin k i p below (tree h) e = let g = acc .chains k i h p e in (g .visits, Gives.of-tree e (chain-listed (g .linked)))
 
-  both-given : {k i : ℕ} → binAt s k i ≡ moved → suc k < tablesOf s → (l : List ℕ) × Gives s (suc k) i l → (m : List ℕ) × Gives s (suc k) (i + lengthAt s k) m
+  both-given : {k i : ℕ} → binAt s k i ≡ moved → suc k < tablesOf s → (l : List ℕ) × Gives s (suc k) i l
+      → (m : List ℕ) × Gives s (suc k) (i + lengthAt s k) m
       → (l : List ℕ) × Gives s k i l
   both-given e n f g = (f .0 ++ g .0, Gives.of-moved e n (f .1) (g .1))
 
@@ -193,7 +204,8 @@ module _ (s : Set) (fit : Fit s) (acc : Accepted s) where
   gives-all (suc left) k i p t =
       let n : suc k < tablesOf s = omega arith in
       gives-bin k i p
-      (λ e. both-given e n (gives-all left (suc k) i (near-place p n) (omega arith)) (gives-all left (suc k) (i + lengthAt s k) (far-place p n) (omega arith)))
+      (λ e. both-given e n (gives-all left (suc k) i (near-place p n) (omega arith))
+      (gives-all left (suc k) (i + lengthAt s k) (far-place p n) (omega arith)))
       (binAt s k i) refl
 
   onward-all : (t : ℕ) → t < tablesOf s → (r i : ℕ) → i + r ≡ lengthAt s t → (l : List ℕ) × Onward s t i l
@@ -205,7 +217,8 @@ module _ (s : Set) (fit : Fit s) (acc : Accepted s) where
       (f .0 ++ g .0, Onward.bin w (f .1) (g .1))
 
   -- What a bin gives is what it leads to: a chain visits exactly its tree's slots.
-  same-times : {k i h : ℕ} {l m : List ℕ} → GoodChain s k i h → Listed (slotsOf (s .names)) (s .cells) (firstAt s h) l → Place s k i → HeldIn s (binAt s k i) m
+  same-times : {k i h : ℕ} {l m : List ℕ} → GoodChain s k i h → Listed (slotsOf (s .names)) (s .cells) (firstAt s h) l → Place s k i
+      → HeldIn s (binAt s k i) m
       → (x : ℕ) → times x l ≡ times x m
   same-times {k} {i} {h} {l} {m} c g p o x =
       let z = listed-unique s (small fit) (chain-listed (c .linked)) g in
@@ -213,7 +226,8 @@ module _ (s : Set) (fit : Fit s) (acc : Accepted s) where
       go (decLe 1 (times x l)) (decLe 1 (times x m)) n (held-once p o x) (λ a. entry-held o (c .own x .0 (rw (sym z) at a)))
       (λ b. rw z at (c .own x .1 (record { place = p; held = m; holds = o; member = b })))
     where
-      go : Dec (1 ≤ times x l) → Dec (1 ≤ times x m) → times x l ≤ 1 → times x m ≤ 1 → (1 ≤ times x l → 1 ≤ times x m) → (1 ≤ times x m → 1 ≤ times x l)
+      go : Dec (1 ≤ times x l) → Dec (1 ≤ times x m) → times x l ≤ 1 → times x m ≤ 1 → (1 ≤ times x l → 1 ≤ times x m)
+          → (1 ≤ times x m → 1 ≤ times x l)
           → times x l ≡ times x m
       go (yes a) b u v to from = omega (arith, to a)
       go (no a) (yes b) u v to from = omega (arith, from b)
@@ -234,7 +248,8 @@ module _ (s : Set) (fit : Fit s) (acc : Accepted s) where
       let v = likened g (far-place p n) in
       (u .0 ++ v .0, Keeps.parts e n (u .1) (v .1), λ x. omega (arith, times-append x l m, times-append x (u .0) (v .0), u .2 x, v .2 x))
 
-  likened-from : {t i : ℕ} {l : List ℕ} → t < tablesOf s → Onward s t i l → (m : List ℕ) × KeepsFrom s t i m × ((x : ℕ) → times x l ≡ times x m)
+  likened-from : {t i : ℕ} {l : List ℕ} → t < tablesOf s → Onward s t i l
+      → (m : List ℕ) × KeepsFrom s t i m × ((x : ℕ) → times x l ≡ times x m)
   likened-from b (Onward.end e) = ([], KeepsFrom.end e, λ x. refl)
   likened-from b (Onward.bin {l = l} {m} w g r) =
       let u = likened g (record { table = b; index = w }) in

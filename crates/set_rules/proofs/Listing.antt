@@ -22,7 +22,10 @@ use Rattle.set_rules.proofs.Cursors.{both}
 pub same-has : (names : List ℕ) (p hash key : ℕ) → pairOf names p ≡ pair hash key → hasPair names p hash key ≡ true
 unfolding hasPair
 same-has names p hash key e =
-    simp (eq-eqb (nameOf names p hashPart) hash (ap (λ (q : Pair). q .hash) e), eq-eqb (nameOf names p keyPart) key (ap (λ (q : Pair). q .key) e))
+    simp (
+      eq-eqb (nameOf names p hashPart) hash (ap (λ (q : Pair). q .hash) e),
+      eq-eqb (nameOf names p keyPart) key (ap (λ (q : Pair). q .key) e),
+    )
 
 pub has-same : (names : List ℕ) (p hash key : ℕ) → hasPair names p hash key ≡ true → pairOf names p ≡ pair hash key
 unfolding hasPair
@@ -55,17 +58,20 @@ module _ (names cells : List ℕ) (first hash key : ℕ) where
       → listed names cells (suc v) p hash key .answer ≡ listed names cells v (cell cells p next) hash key .answer
   onward {p} v n l d = answers (at-slot names cells hash key v p n l) ∙ rw (not-has names p hash key d)
 
-  pub stays : {p : ℕ} (v : ℕ) → p ≢ null → p < slotsOf names → pairOf names p ≡ pair hash key → listed names cells (suc v) p hash key .answer ≡ given p
+  pub stays : {p : ℕ} (v : ℕ) → p ≢ null → p < slotsOf names → pairOf names p ≡ pair hash key
+      → listed names cells (suc v) p hash key .answer ≡ given p
   stays {p} v n l d = answers (at-slot names cells hash key v p n l) ∙ rw (same-has names p hash key d)
 
   fewer : (n k : ℕ) → suc k ≤ n → n - k ≡ suc (n - suc k)
   fewer n k h = omega arith
 
   -- The answer from a link followed in time is the answer.
-  trace : {k p : ℕ} → ListFollows names cells first hash key k p → k ≤ slotsOf names → whole ≡ listed names cells (slotsOf names - k) p hash key .answer
+  trace : {k p : ℕ} → ListFollows names cells first hash key k p → k ≤ slotsOf names
+      → whole ≡ listed names cells (slotsOf names - k) p hash key .answer
   trace start l = let z : slotsOf names ≡ slotsOf names - 0 = omega arith in ap (λ (v : ℕ). listed names cells v first hash key .answer) z
   trace (step {k} {p} f n i e) l =
-      trace f (omega arith) ∙ ap (λ (v : ℕ). listed names cells v p hash key .answer) (fewer (slotsOf names) k l) ∙ onward (slotsOf names - suc k) n i e
+      trace f (omega arith) ∙ ap (λ (v : ℕ). listed names cells v p hash key .answer) (fewer (slotsOf names) k l)
+      ∙ onward (slotsOf names - suc k) n i e
 
   spent : {k p : ℕ} → ListFollows names cells first hash key k p → p ≢ null → k ≡ slotsOf names → whole ≡ refused 9
   spent {k} {p} f n e =
@@ -91,7 +97,8 @@ module _ (names cells : List ℕ) (first hash key : ℕ) where
 
   pub here-given : {slot : ℕ} → ListHere names cells first hash key slot → whole ≡ given slot
   here-given {slot} h =
-      trace (h .follows) (omega (arith, h .timely)) ∙ ap (λ (v : ℕ). listed names cells v slot hash key .answer) (fewer (slotsOf names) (h .visited) (h .timely))
+      trace (h .follows) (omega (arith, h .timely))
+      ∙ ap (λ (v : ℕ). listed names cells v slot hash key .answer) (fewer (slotsOf names) (h .visited) (h .timely))
       ∙ stays (slotsOf names - suc (h .visited)) (h .solid) (h .inside) (h .has)
 
   pub missed-nothing : ListMissed names cells first hash key → whole ≡ nothing
@@ -103,20 +110,27 @@ module _ (names cells : List ℕ) (first hash key : ℕ) where
     hit : {slot : ℕ} → ListHere names cells first hash key slot → Outcome (given slot)
     miss : ListMissed names cells first hash key → Outcome nothing
 
-  from : (v k p : ℕ) → ListFollows names cells first hash key k p → k + v ≡ slotsOf names → Outcome (listed names cells v p hash key .answer)
+  from : (v k p : ℕ) → ListFollows names cells first hash key k p → k + v ≡ slotsOf names
+      → Outcome (listed names cells v p hash key .answer)
   from zero k p f e = go (ℕ-discrete p null)
     where
       go : Dec (p ≡ null) → Outcome (listed names cells 0 p hash key .answer)
       go (yes z) = rw (at-null names cells hash key 0 p z) (miss (record { visited = k; follows = rw z at f; timely = omega arith }))
-      go (no n) = rw (visits-spent names cells hash key p n) (lost (record { visited = k; link = p; follows = f; solid = n; astray = inr (omega arith) }))
-  from (suc v) k p f e = go (ℕ-discrete p null) (decLt p (slotsOf names)) (decided names p hash key) (λ g. from v (suc k) (cell cells p next) g (omega arith))
+      go (no n) =
+          rw (visits-spent names cells hash key p n)
+          (lost (record { visited = k; link = p; follows = f; solid = n; astray = inr (omega arith) }))
+  from (suc v) k p f e =
+      go (ℕ-discrete p null) (decLt p (slotsOf names)) (decided names p hash key) (λ g. from v (suc k) (cell cells p next) g (omega arith))
     where
       go : Dec (p ≡ null) → Dec (p < slotsOf names) → Dec (pairOf names p ≡ pair hash key)
-          → (ListFollows names cells first hash key (suc k) (cell cells p next) → Outcome (listed names cells v (cell cells p next) hash key .answer))
+          → (ListFollows names cells first hash key (suc k) (cell cells p next)
+          → Outcome (listed names cells v (cell cells p next) hash key .answer))
           → Outcome (listed names cells (suc v) p hash key .answer)
-      go (yes z) d h rest = rw (at-null names cells hash key (suc v) p z) (miss (record { visited = k; follows = rw z at f; timely = omega arith }))
+      go (yes z) d h rest =
+          rw (at-null names cells hash key (suc v) p z) (miss (record { visited = k; follows = rw z at f; timely = omega arith }))
       go (no n) (no d) h rest =
-          rw (out-of-range names cells hash key (suc v) p n (omega arith)) (lost (record { visited = k; link = p; follows = f; solid = n; astray = inl (omega arith) }))
+          rw (out-of-range names cells hash key (suc v) p n (omega arith))
+          (lost (record { visited = k; link = p; follows = f; solid = n; astray = inl (omega arith) }))
       go (no n) (yes l) (yes h) rest =
           rw (stays v n l h) (hit (record { visited = k; follows = f; solid = n; inside = l; timely = omega arith; has = h }))
       go (no n) (yes l) (no h) rest = rw (onward v n l h) (rest (step f n l h))

@@ -1,5 +1,5 @@
--- Each answer of lookup comes exactly where the rules say: the loop from a table that it comes to has the answer of the whole loop, and what
--- it answers there is told by the bin.
+-- Each answer of lookup comes exactly where the rules say: the loop from a table that it comes to has the answer of the whole loop, and
+-- what it answers there is told by the bin.
 use mathlib.Core.Path.{_≡_, refl, sym, _∙_}
 use mathlib.Core.Logic.{_≢_}
 use mathlib.Core.Bool.{Bool, true, false, false≢true}
@@ -34,11 +34,13 @@ kind names cells hash key zero p = go (ℕ-discrete p null)
     go (no n) = rw (visits-spent names cells hash key p n) nine
 kind names cells hash key (suc v) p = go (ℕ-discrete p null) (decLt p (slotsOf names)) (λ q. kind names cells hash key v q)
   where
-    visit : (o : Look) → ((q : ℕ) → Kind (searched names cells v q hash key .answer)) → Kind (lookedThen o p (λ q. searched names cells v q hash key) .answer)
+    visit : (o : Look) → ((q : ℕ) → Kind (searched names cells v q hash key .answer))
+        → Kind (lookedThen o p (λ q. searched names cells v q hash key) .answer)
     visit here again = slot p
     visit (on q) again = again q
 
-    go : Dec (p ≡ null) → Dec (p < slotsOf names) → ((q : ℕ) → Kind (searched names cells v q hash key .answer)) → Kind (searched names cells (suc v) p hash key .answer)
+    go : Dec (p ≡ null) → Dec (p < slotsOf names) → ((q : ℕ) → Kind (searched names cells v q hash key .answer))
+        → Kind (searched names cells (suc v) p hash key .answer)
     go (yes e) d again = rw (at-null names cells hash key (suc v) p e) null-link
     go (no n) (no d) again = rw (out-of-range names cells hash key (suc v) p n (omega arith)) nine
     go (no n) (yes l) again = rw (at-slot names cells hash key v p n l) (visit (looked names cells p hash key) again)
@@ -55,35 +57,41 @@ module _ (s : Set) (t hash key : ℕ) (there : t < tablesOf s) where
   trace start = refl
   trace (down {k} c m l) = trace c ∙ turn s hash key k (comes-in c) (sym m)
 
-  pub at-bin : {k : ℕ} → Reaches s t hash k → {b : Bin} → homeBin s k hash ≡ b → whole ≡ asked s b hash key (forwarded (tablesOf s - suc k) s (suc k) hash key)
+  pub at-bin : {k : ℕ} → Reaches s t hash k → {b : Bin} → homeBin s k hash ≡ b
+      → whole ≡ asked s b hash key (forwarded (tablesOf s - suc k) s (suc k) hash key)
   at-bin {k} c e = trace c ∙ turn s hash key k (comes-in c) (sym e)
 
   pub astray-nine : Astray s t hash key → whole .answer ≡ refused 9
   astray-nine (Astray.bad-bin c e) = answers (at-bin c e)
   astray-nine (Astray.moved-last {k} c e l) = answers (at-bin c e ∙ past-last s hash key (suc k) l)
   astray-nine (Astray.in-list {k} {p} c e h) = answers (at-bin c e) ∙ listing.lost-nine (s .names) (s .cells) p hash key h
-  astray-nine (Astray.in-tree {k} {h} c e l) = answers (at-bin c e) ∙ shape-claims .finds (s .names) (s .cells) (rootAt s h) hash key .nine .1 l
+  astray-nine (Astray.in-tree {k} {h} c e l) =
+      answers (at-bin c e) ∙ shape-claims .finds (s .names) (s .cells) (rootAt s h) hash key .nine .1 l
 
   pub hit-given : {slot : ℕ} → Hit s t hash key slot → whole .answer ≡ given slot
   hit-given (Hit.in-list {k} {p} c e h) = answers (at-bin c e) ∙ listing.here-given (s .names) (s .cells) p hash key h
-  hit-given {slot} (Hit.in-tree {k} {h} c e l) = answers (at-bin c e) ∙ shape-claims .finds (s .names) (s .cells) (rootAt s h) hash key .at slot .1 l
+  hit-given {slot} (Hit.in-tree {k} {h} c e l) =
+      answers (at-bin c e) ∙ shape-claims .finds (s .names) (s .cells) (rootAt s h) hash key .at slot .1 l
 
   pub miss-nothing : Miss s t hash key → whole .answer ≡ nothing
   miss-nothing (Miss.in-none c e) = answers (at-bin c e)
   miss-nothing (Miss.in-list {k} {p} c e h) = answers (at-bin c e) ∙ listing.missed-nothing (s .names) (s .cells) p hash key h
-  miss-nothing (Miss.in-tree {k} {h} c e l) = answers (at-bin c e) ∙ shape-claims .finds (s .names) (s .cells) (rootAt s h) hash key .none .1 l
+  miss-nothing (Miss.in-tree {k} {h} c e l) =
+      answers (at-bin c e) ∙ shape-claims .finds (s .names) (s .cells) (rootAt s h) hash key .none .1 l
 
   pub data Outcome : Answer → Type 0 where
     lost : Astray s t hash key → Outcome (refused 9)
     hit : {slot : ℕ} → Hit s t hash key slot → Outcome (given slot)
     miss : Miss s t hash key → Outcome nothing
 
-  in-list : {k p : ℕ} → Reaches s t hash k → homeBin s k hash ≡ list p → {a : Answer} → listing.Outcome (s .names) (s .cells) p hash key a → Outcome a
+  in-list : {k p : ℕ} → Reaches s t hash k → homeBin s k hash ≡ list p → {a : Answer}
+      → listing.Outcome (s .names) (s .cells) p hash key a → Outcome a
   in-list c e (listing.Outcome.lost h) = lost (Astray.in-list c e h)
   in-list c e (listing.Outcome.hit h) = hit (Hit.in-list c e h)
   in-list c e (listing.Outcome.miss h) = miss (Miss.in-list c e h)
 
-  in-tree : {k h : ℕ} → Reaches s t hash k → homeBin s k hash ≡ tree h → {a : Answer} → Kind a → found (s .names) (s .cells) (rootAt s h) hash key .answer ≡ a → Outcome a
+  in-tree : {k h : ℕ} → Reaches s t hash k → homeBin s k hash ≡ tree h → {a : Answer} → Kind a
+      → found (s .names) (s .cells) (rootAt s h) hash key .answer ≡ a → Outcome a
   in-tree {k} {h} c e nine f = lost (Astray.in-tree c e (shape-claims .finds (s .names) (s .cells) (rootAt s h) hash key .nine .0 f))
   in-tree {k} {h} c e (slot x) f = hit (Hit.in-tree c e (shape-claims .finds (s .names) (s .cells) (rootAt s h) hash key .at x .0 f))
   in-tree {k} {h} c e null-link f = miss (Miss.in-tree c e (shape-claims .finds (s .names) (s .cells) (rootAt s h) hash key .none .0 f))

@@ -36,7 +36,8 @@ module _ (names cells : List ℕ) (hash key : ℕ) where
   is-on : (p q : ℕ) → listLook names cells p hash key ≡ on q → (pairOf names p ≢ pair hash key) × (cell cells p next ≡ q)
   is-on p q e = go (hasPair names p hash key) refl e
     where
-      go : (b : Bool) → hasPair names p hash key ≡ b → pick b here (on (cell cells p next)) ≡ on q → (pairOf names p ≢ pair hash key) × (cell cells p next ≡ q)
+      go : (b : Bool) → hasPair names p hash key ≡ b → pick b here (on (cell cells p next)) ≡ on q
+          → (pairOf names p ≢ pair hash key) × (cell cells p next ≡ q)
       go true h e = absurd (here-on e)
       go false h e = (λ z. false≢true (sym h ∙ same-has names p hash key z), on-is e)
 
@@ -63,7 +64,8 @@ module _ (names cells : List ℕ) (hash key : ℕ) where
 
 -- A list that ends is looked at no further than it is long.
 module _ (names cells : List ℕ) (hash key : ℕ) where
-  pub list-length : (visits : ℕ) {p : ℕ} {l : List ℕ} → Listed (slotsOf names) cells p l → length (listed names cells visits p hash key .looks) ≤ length l
+  pub list-length : (visits : ℕ) {p : ℕ} {l : List ℕ} → Listed (slotsOf names) cells p l
+      → length (listed names cells visits p hash key .looks) ≤ length l
   unfolding listed
   list-length zero {p} {l} h = go (eqb p null)
     where
@@ -71,10 +73,13 @@ module _ (names cells : List ℕ) (hash key : ℕ) where
       go true = omega arith
       go false = omega arith
   list-length (suc visits) (Listed.ended e) = rw (eq-eqb _ null e) (omega arith)
-  list-length (suc visits) (Listed.onward {i = p} {l = l} b h) = go (eqb p null) (leb (slotsOf names) p) (hasPair names p hash key) (list-length visits h)
+  list-length (suc visits) (Listed.onward {i = p} {l = l} b h) =
+      go (eqb p null) (leb (slotsOf names) p) (hasPair names p hash key) (list-length visits h)
     where
       go : (u v w : Bool) → length (listed names cells visits (cell cells p next) hash key .looks) ≤ length l
-          → length (pick u (ends nothing) (pick v (ends (refused 9)) (lookedThen (pick w here (on (cell cells p next))) p (λ q. listed names cells visits q hash key))) .looks) ≤ suc (length l)
+          → length (pick u (ends nothing) (pick v (ends (refused 9))
+          (lookedThen (pick w here (on (cell cells p next))) p (λ q. listed names cells visits q hash key))) .looks)
+          ≤ suc (length l)
       go true v w x = omega arith
       go false true w x = omega arith
       go false false true x = omega arith
@@ -109,7 +114,9 @@ pub lookup-most : (s : Set) (t hash key : ℕ) → length (lookups s t hash key 
 unfolding lookups
 lookup-most s t hash key = go (fits s) (ltb t (tablesOf s))
   where
-    go : (a b : Bool) → length (pick a (pick b (forwarded (tablesOf s - t) s t hash key) (ends (refused 10))) (ends (refused 1)) .looks) ≤ slotsOf (s .names)
+    go : (a b : Bool)
+        → length (pick a (pick b (forwarded (tablesOf s - t) s t hash key) (ends (refused 10))) (ends (refused 1)) .looks)
+        ≤ slotsOf (s .names)
     go true true = forwarded-most (tablesOf s - t) s t hash key
     go true false = omega arith
     go false b = omega arith

@@ -31,7 +31,8 @@ module _ (s : Set) (fit : Fit s) (acc : Accepted s) where
         go (yes e) again = rw (sym e) start
         go (no n) again =
             let m = above-moved fit (acc .parent-moved) hash (suc k) k (omega arith) b d in
-            let f : binAt s k (bini (lengthAt s k) hash) ≢ empty = λ e. (let z : _≡_ {A = Bin} empty moved = sym e ∙ m in let y : _≡_ {A = ℕ} 0 1 = cc in omega arith) in
+            let f : binAt s k (bini (lengthAt s k) hash) ≢ empty =
+            λ e. (let z : _≡_ {A = Bin} empty moved = sym e ∙ m in let y : _≡_ {A = ℕ} 0 1 = cc in omega arith) in
             down (again (omega arith) f) m b
 
   entry-reached : (t x hash key : ℕ) → EntryFrom s t x → pairOf (s .names) x ≡ pair hash key → Reached s t hash key x
@@ -40,12 +41,18 @@ module _ (s : Set) (fit : Fit s) (acc : Accepted s) where
       let e = f .entry in
       let z : nameOf (s .names) x hashPart ≡ hash = ap (λ (p : Pair). p .hash) h in
       let home : bini (lengthAt s k) hash ≡ f .index = ap (λ (y : ℕ). bini (lengthAt s k) y) (sym z) ∙ acc .home k (f .index) x e in
-      record { table = k; comes = comes-to hash t k (f .later) (e .place .table) (rw home (not-empty (e .holds))); entry = rw home e; has = h }
+      record {
+        table = k;
+        comes = comes-to hash t k (f .later) (e .place .table) (rw home (not-empty (e .holds)));
+        entry = rw home e;
+        has = h;
+      }
 
   reached-entry : {t x hash key : ℕ} → Reached s t hash key x → EntryFrom s t x × (pairOf (s .names) x ≡ pair hash key)
   reached-entry r = (record { table = r .table; index = _; later = comes-later (r .comes); entry = r .entry }, r .has)
 
-  maps : (t hash key x : ℕ) → t < tablesOf s → (lookups s t hash key .answer ≡ given x) ↔ (EntryFrom s t x × (pairOf (s .names) x ≡ pair hash key))
+  maps : (t hash key x : ℕ) → t < tablesOf s
+      → (lookups s t hash key .answer ≡ given x) ↔ (EntryFrom s t x × (pairOf (s .names) x ≡ pair hash key))
   maps t hash key x b =
       let u = looks-up s fit acc hash key t b in
       (λ e. reached-entry (u .at x .0 e), λ r. u .at x .1 (entry-reached t x hash key (r .0) (r .1)))

@@ -15,7 +15,8 @@ use Rattle.tree_rules.specs.Tree.{times}
 use Rattle.tree_rules.specs.Chain.{tally}
 use Rattle.tree_rules.proofs.Counting.{times-head, times-else, times-rest, times-cases, exactly, exactly-length}
 use Rattle.index_rules.proofs.Fit.{both}
-use Rattle.set_rules.specs.Words.{Set, Fit, tablesOf, headersIn, begins, rootAt, firstAt, countAt, Bin, empty, moved, bad, list, tree, binOf, binAt}
+use Rattle.set_rules.specs.Words.{Set, Fit, tablesOf, headersIn, begins, rootAt, firstAt, countAt, Bin, empty, moved, bad, list, tree}
+use Rattle.set_rules.specs.Words.{binOf, binAt}
 use Rattle.set_rules.specs.Accepted.{Place, HeadsOnce}
 use Rattle.set_rules.specs.Accepting.{isBlank, filled, namesHeader, naming, headersFine}
 use Rattle.set_rules.specs.Judged.{Ranges}
@@ -41,8 +42,10 @@ module _ (n h w : ℕ) where
           → Sorted (pick a empty (pick b moved (pick c (pick d (list (w - 2)) bad) (pick e (pick f (tree (w - 4098)) bad) bad))))
       go true a b q c r d t e u f v = zeroth (eqb-true w 0 a)
       go false a true q c r d t e u f v = first (eqb-true w 1 q)
-      go false a false q true r true t e u f v = slot (omega (arith, eqb-false w 0 a, eqb-false w 1 q)) (leb-true w 4097 r) (ltb-true (w - 2) n t)
-      go false a false q true r false t e u f v = no-slot (omega (arith, eqb-false w 0 a, eqb-false w 1 q)) (leb-true w 4097 r) (ltb-false (w - 2) n t)
+      go false a false q true r true t e u f v =
+          slot (omega (arith, eqb-false w 0 a, eqb-false w 1 q)) (leb-true w 4097 r) (ltb-true (w - 2) n t)
+      go false a false q true r false t e u f v =
+          no-slot (omega (arith, eqb-false w 0 a, eqb-false w 1 q)) (leb-true w 4097 r) (ltb-false (w - 2) n t)
       go false a false q false r d t true u true v = header (leb-false w 4097 r) (leb-true w 8193 u) (ltb-true (w - 4098) h v)
       go false a false q false r d t true u false v = no-header (leb-false w 4097 r) (leb-true w 8193 u) (ltb-false (w - 4098) h v)
       go false a false q false r d t false u f v = beyond (leb-false w 8193 u)
@@ -75,7 +78,12 @@ module _ (n h w : ℕ) where
   list-is : (i : ℕ) → (2 ≤ w) × (w ≤ 4097) × (i ≡ w - 2) × (i < n) → binOf n h w ≡ list i
   unfolding binOf
   list-is i p =
-      rw (ne-eqb w 0 (omega (arith, p .0)), ne-eqb w 1 (omega (arith, p .0)), le-leb w 4097 (p .1), lt-ltb (w - 2) n (omega (arith, p .2, p .3))) (ap list (sym (p .2)))
+      rw (
+        ne-eqb w 0 (omega (arith, p .0)),
+        ne-eqb w 1 (omega (arith, p .0)),
+        le-leb w 4097 (p .1),
+        lt-ltb (w - 2) n (omega (arith, p .2, p .3)),
+      ) (ap list (sym (p .2)))
 
   tree-is : (i : ℕ) → (4098 ≤ w) × (w ≤ 8193) × (i ≡ w - 4098) × (i < h) → binOf n h w ≡ tree i
   unfolding binOf
@@ -92,7 +100,8 @@ module _ (n h w : ℕ) where
   bad-is : (8194 ≤ w) ⊎ (((2 ≤ w) × (w ≤ 4097) × (n ≤ w - 2)) ⊎ ((4098 ≤ w) × (w ≤ 8193) × (h ≤ w - 4098))) → binOf n h w ≡ bad
   unfolding binOf
   bad-is (inl a) = rw (ne-eqb w 0 (omega arith), ne-eqb w 1 (omega arith), lt-leb w 4097 (omega arith), lt-leb w 8193 a)
-  bad-is (inr (inl p)) = rw (ne-eqb w 0 (omega (arith, p .0)), ne-eqb w 1 (omega (arith, p .0)), le-leb w 4097 (p .1), le-ltb (w - 2) n (p .2))
+  bad-is (inr (inl p)) =
+      rw (ne-eqb w 0 (omega (arith, p .0)), ne-eqb w 1 (omega (arith, p .0)), le-leb w 4097 (p .1), le-ltb (w - 2) n (p .2))
   bad-is (inr (inr p)) =
       rw (
         ne-eqb w 0 (omega (arith, p .0)),

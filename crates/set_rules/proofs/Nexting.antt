@@ -33,11 +33,13 @@ zeroed-trimmed : (d : ℕ) (x : List ℕ) → Zeroed (place d (trimmed d x))
 unfolding Zeroed
 zeroed-trimmed d x = trimmed-past d x
 
-zeroed-advanced : (lengths : List ℕ) (base d : ℕ) (x : List ℕ) → length x ≡ 8 → d < 8 → Zeroed (place d x) → Zeroed (advanced d lengths base x)
+zeroed-advanced : (lengths : List ℕ) (base d : ℕ) (x : List ℕ) → length x ≡ 8 → d < 8 → Zeroed (place d x)
+    → Zeroed (advanced d lengths base x)
 unfolding Zeroed advanced
 zeroed-advanced lengths base zero x e l z = λ j k. getD-set-other x 0 j (getD x 0 0 + 1) 0 (omega arith) ∙ z j k
 zeroed-advanced lengths base (suc d) x e l z =
-    go (decLt (on lengths base d x) (getD lengths (base + suc d) 0)) (zeroed-advanced lengths base d (set x (suc d) 0) (length-set x (suc d) 0 ∙ e) (omega arith) up)
+    go (decLt (on lengths base d x) (getD lengths (base + suc d) 0))
+    (zeroed-advanced lengths base d (set x (suc d) 0) (length-set x (suc d) 0 ∙ e) (omega arith) up)
   where
     up : (j : ℕ) → d < j → getD (set x (suc d) 0) j 0 ≡ 0
     up j k = by (ℕ-discrete j (suc d))
@@ -47,32 +49,39 @@ zeroed-advanced lengths base (suc d) x e l z =
         by (no n) = getD-set-other x (suc d) j 0 0 n ∙ z j (omega arith)
 
     go : Dec (on lengths base d x < getD lengths (base + suc d) 0)
-        → ((j : ℕ) → advanced d lengths base (set x (suc d) 0) .depth < j → getD (advanced d lengths base (set x (suc d) 0) .indexes) j 0 ≡ 0)
+        → ((j : ℕ) → advanced d lengths base (set x (suc d) 0) .depth < j
+        → getD (advanced d lengths base (set x (suc d) 0) .indexes) j 0 ≡ 0)
         → (j : ℕ) → advanced (suc d) lengths base x .depth < j → getD (advanced (suc d) lengths base x .indexes) j 0 ≡ 0
     go (yes k) again = rw (advanced-lt lengths base d x k) (λ j m. getD-set-other x (suc d) j (on lengths base d x) 0 (omega arith) ∙ z j m)
     go (no n) again = rw (advanced-ge lengths base d x (omega arith)) again
 
 module _ (s : Set) (base : ℕ) (from : Place) (good : InTables (s .lengths) base from) (zero-from : Zeroed from) where
   zeroed-after : {p q : Place} → InTables (s .lengths) base p → Zeroed p → After s base p q → Zeroed q
-  zeroed-after {p} h z a = rw (onward-after s base a) at (zeroed-advanced (s .lengths) base (p .depth) (p .indexes) (h .eight) (omega (arith, h .deep, h .few)) z)
+  zeroed-after {p} h z a =
+      rw (onward-after s base a)
+      at (zeroed-advanced (s .lengths) base (p .depth) (p .indexes) (h .eight) (omega (arith, h .deep, h .few)) z)
 
   zeroed-comes : {p : Place} → Comes s base from p → Zeroed p
   unfolding Zeroed
   zeroed-comes (Comes.start) = zero-from
   zeroed-comes (Comes.past {p} c w e a) = zeroed-after (comes-good s base from good c) (zeroed-comes c) a
-  zeroed-comes (Comes.down {p} c w e l) = λ j k. getD-set-other (p .indexes) (suc (p .depth)) j (deepest p) 0 (omega arith) ∙ zeroed-comes c j (omega arith)
+  zeroed-comes (Comes.down {p} c w e l) =
+      λ j k. getD-set-other (p .indexes) (suc (p .depth)) j (deepest p) 0 (omega arith) ∙ zeroed-comes c j (omega arith)
 
 module _ (s : Set) (c : Cursor) where
-  zeroed-step : Fit s → (BadCursor s c → ⊥) → {r : Step} → Steps s c r → (x : ℕ) → r .answer ≡ given x → (j : ℕ) → r .cursor .depth < j → indexAt (r .cursor) j ≡ 0
+  zeroed-step : Fit s → (BadCursor s c → ⊥) → {r : Step} → Steps s c r → (x : ℕ) → r .answer ≡ given x → (j : ℕ) → r .cursor .depth < j
+      → indexAt (r .cursor) j ≡ 0
   unfolding Zeroed
   zeroed-step fit n (Steps.by-next b e m l) x f j k = b .past j (omega (arith, b .depth))
   zeroed-step fit n (Steps.by-list r a) x f j k =
       let g = next-stands s c fit n in
-      zeroed-after s (c .base) (standing c) g (zeroed-trimmed (c .depth) (c .indexes)) (comes-good s (c .base) (standing c) g (read-comes c r))
+      zeroed-after s (c .base) (standing c) g (zeroed-trimmed (c .depth) (c .indexes))
+      (comes-good s (c .base) (standing c) g (read-comes c r))
       (zeroed-comes s (c .base) (standing c) g (zeroed-trimmed (c .depth) (c .indexes)) (read-comes c r)) a j k
   zeroed-step fit n (Steps.by-tree r m a) x f j k =
       let g = next-stands s c fit n in
-      zeroed-after s (c .base) (standing c) g (zeroed-trimmed (c .depth) (c .indexes)) (comes-good s (c .base) (standing c) g (read-comes c r))
+      zeroed-after s (c .base) (standing c) g (zeroed-trimmed (c .depth) (c .indexes))
+      (comes-good s (c .base) (standing c) g (read-comes c r))
       (zeroed-comes s (c .base) (standing c) g (zeroed-trimmed (c .depth) (c .indexes)) (read-comes c r)) a j k
   zeroed-step fit n (Steps.by-end b e k d f) x g j l = absurd (nothing-given g)
   zeroed-step fit n (Steps.lost h) x g j l = absurd (omega (arith, ap (λ (a : Answer). a .number) g))
@@ -105,13 +114,15 @@ module _ (s : Set) (c : Cursor) where
 
     over-good : BadCursor s over → ⊥
     over-good =
-        right-not-bad s fit over (record { deep = omega arith; first = inr (refl, refl); level = λ j l. absurd (omega arith); known = inl refl })
+        right-not-bad s fit over
+        (record { deep = omega arith; first = inr (refl, refl); level = λ j l. absurd (omega arith); known = inl refl })
 
     over-again : nexts s over ≡ record { answer = nothing; cursor = done s (c .base) }
     unfolding kept
     over-again =
         next-walked s over fit over-good
-        ∙ walked-steps s fit over (next-stands s over fit over-good) (Steps.by-end (standing-begins over (omega arith)) (cell-null (s .cells) next (ends fit)) Comes.start refl refl)
+        ∙ walked-steps s fit over (next-stands s over fit over-good)
+        (Steps.by-end (standing-begins over (omega arith)) (cell-null (s .cells) next (ends fit)) Comes.start refl refl)
 
   stays : {r : Step} → Turn s c r → r .answer ≡ nothing → nexts s (r .cursor) ≡ r
   stays (Turn.unfit n) e = absurd (omega (arith, ap (λ (a : Answer). a .number) e))
@@ -155,10 +166,15 @@ module _ (s : Set) (c : Cursor) where
       record {
         one = (λ e. is-one (turn s c) (told e), next-unfit s c);
         eleven = (λ e. is-eleven (turn s c) (told e), λ h. next-bad s c (h .0) (h .1));
-        nine = (λ e. is-nine (turn s c) (told e), λ h. next-walked s c (h .0) (h .1) ∙ walked-steps s (h .0) c (next-stands s c (h .0) (h .1)) (Steps.lost (h .2)));
+        nine = (
+          λ e. is-nine (turn s c) (told e),
+          λ h. next-walked s c (h .0) (h .1) ∙ walked-steps s (h .0) c (next-stands s c (h .0) (h .1)) (Steps.lost (h .2)),
+        );
         steps =
-            λ fit n r.
-            (λ e. rw (sym (next-walked s c fit n) ∙ e) at (steps-walked s fit c (next-stands s c fit n)), λ h. next-walked s c fit n ∙ walked-steps s fit c (next-stands s c fit n) h);
+            λ fit n r. (
+              λ e. rw (sym (next-walked s c fit n) ∙ e) at (steps-walked s fit c (next-stands s c fit n)),
+              λ h. next-walked s c fit n ∙ walked-steps s fit c (next-stands s c fit n) h,
+            );
         refuses = refuses (turn s c);
         past-depth = past-depth (turn s c);
         done = stays (turn s c);

@@ -25,6 +25,7 @@ module _ (names cells : List ℕ) (hash key : ℕ) where
   visits-spent p n = simp (ne-eqb _ _ n)
 
   pub at-slot : (visits p : ℕ) → p ≢ null → p < slotsOf names
-      → listed names cells (suc visits) p hash key ≡ lookedThen (listLook names cells p hash key) p (λ q. listed names cells visits q hash key)
+      → listed names cells (suc visits) p hash key
+      ≡ lookedThen (listLook names cells p hash key) p (λ q. listed names cells visits q hash key)
   unfolding listed
   at-slot visits p n h = simp (ne-eqb _ _ n, lt-leb _ _ h)

@@ -28,7 +28,8 @@ use Rattle.tree_rules.specs.Find.{slotsOf}
 -- Each level is right under the one above.
 abbrev Levels : List ℕ → ℕ → Place → Type 0
 Levels lengths base p =
-    (j : ℕ) → j < p .depth → Under (getD lengths (base + j) 0) (getD lengths (base + suc j) 0) (getD (p .indexes) j 0) (getD (p .indexes) (suc j) 0)
+    (j : ℕ) → j < p .depth
+    → Under (getD lengths (base + j) 0) (getD lengths (base + suc j) 0) (getD (p .indexes) j 0) (getD (p .indexes) (suc j) 0)
 
 module _ (lengths : List ℕ) (base : ℕ) (twice : (k : ℕ) → suc k < length lengths → getD lengths (suc k) 0 ≡ 2 * getD lengths k 0) where
   -- A write at level e leaves the levels above it.
@@ -44,7 +45,9 @@ module _ (lengths : List ℕ) (base : ℕ) (twice : (k : ℕ) → suc k < length
       → Levels lengths base (place (suc d) (set x (suc d) v))
   levels-more d v x e l h u j k = go (ℕ-discrete j d)
     where
-      go : Dec (j ≡ d) → Under (getD lengths (base + j) 0) (getD lengths (base + suc j) 0) (getD (set x (suc d) v) j 0) (getD (set x (suc d) v) (suc j) 0)
+      go : Dec (j ≡ d)
+          → Under (getD lengths (base + j) 0) (getD lengths (base + suc j) 0) (getD (set x (suc d) v) j 0)
+          (getD (set x (suc d) v) (suc j) 0)
       go (yes f) =
           let a = getD-set-other x (suc d) d v 0 (omega arith) in
           let b = getD-set-same x (suc d) v 0 (omega arith) in
@@ -60,9 +63,11 @@ module _ (lengths : List ℕ) (base : ℕ) (twice : (k : ℕ) → suc k < length
   levels-advanced zero x e l b h = λ j k. absurd (omega arith)
   levels-advanced (suc d) x e l b h =
       go (decLt (on lengths base d x) (getD lengths (base + suc d) 0))
-      (levels-advanced d (set x (suc d) 0) (length-set x (suc d) 0 ∙ e) (omega arith) (omega arith) (levels-set d (suc d) 0 x (omega arith) (above d x h)))
+      (levels-advanced d (set x (suc d) 0) (length-set x (suc d) 0 ∙ e) (omega arith) (omega arith)
+      (levels-set d (suc d) 0 x (omega arith) (above d x h)))
     where
-      under : on lengths base d x < getD lengths (base + suc d) 0 → Under (getD lengths (base + d) 0) (getD lengths (base + suc d) 0) (getD x d 0) (on lengths base d x)
+      under : on lengths base d x < getD lengths (base + suc d) 0
+          → Under (getD lengths (base + d) 0) (getD lengths (base + suc d) 0) (getD x d 0) (on lengths base d x)
       under k = (k, by (h d (omega arith) .1))
         where
           by : (getD x (suc d) 0 ≡ getD x d 0) ⊎ (getD x (suc d) 0 ≡ getD x d 0 + getD lengths (base + d) 0)
@@ -76,9 +81,11 @@ module _ (lengths : List ℕ) (base : ℕ) (twice : (k : ℕ) → suc k < length
       go (no n) again = rw (advanced-ge lengths base d x (omega arith)) again
 
 -- A place with right levels makes a right cursor.
-stands-right : (lengths : List ℕ) (n base : ℕ) (p : Place) (last : ℕ) → InTables lengths base p → Levels lengths base p → (last ≡ null) ⊎ (last < n)
+stands-right : (lengths : List ℕ) (n base : ℕ) (p : Place) (last : ℕ) → InTables lengths base p → Levels lengths base p
+    → (last ≡ null) ⊎ (last < n)
     → Right lengths n base (p .depth) (p .indexes) last
-stands-right lengths n base p last h l k = record { deep = h .deep; first = first (ℕ-discrete (p .depth) 0) (h .last); level = l; known = k }
+stands-right lengths n base p last h l k =
+    record { deep = h .deep; first = first (ℕ-discrete (p .depth) 0) (h .last); level = l; known = k }
   where
     base-zero : getD lengths (base + 0) 0 ≡ getD lengths base 0
     base-zero = ap (λ (j : ℕ). getD lengths j 0) (add-zero base)
@@ -109,32 +116,40 @@ module _ (s : Set) (fit : Fit s) where
 
     levels-start : Levels (s .lengths) (c .base) (standing c)
     levels-start j l =
-        rw (trimmed-same (c .depth) (c .indexes) j (omega arith) short, trimmed-same (c .depth) (c .indexes) (suc j) (omega arith) short) (right .level j l)
+        rw (trimmed-same (c .depth) (c .indexes) j (omega arith) short, trimmed-same (c .depth) (c .indexes) (suc j) (omega arith) short)
+        (right .level j l)
 
-    levels-after : {p q : Place} → InTables (s .lengths) (c .base) p → Levels (s .lengths) (c .base) p → After s (c .base) p q → Levels (s .lengths) (c .base) q
+    levels-after : {p q : Place} → InTables (s .lengths) (c .base) p → Levels (s .lengths) (c .base) p → After s (c .base) p q
+        → Levels (s .lengths) (c .base) q
     levels-after {p} h l a =
         rw (onward-after s (c .base) a) at
-        (levels-advanced (s .lengths) (c .base) (fit .twice) (p .depth) (p .indexes) (h .eight) (omega (arith, h .deep, h .few)) (h .deep) l)
+        (levels-advanced (s .lengths) (c .base) (fit .twice) (p .depth) (p .indexes) (h .eight)
+        (omega (arith, h .deep, h .few)) (h .deep) l)
 
     levels-comes : {p : Place} → Comes s (c .base) (standing c) p → Levels (s .lengths) (c .base) p
     levels-comes (Comes.start) = levels-start
     levels-comes (Comes.past k w e a) = levels-after (comes-good s (c .base) (standing c) stands k) (levels-comes k) a
     levels-comes (Comes.down {p} k w e l) =
         let h = comes-good s (c .base) (standing c) stands k in
-        levels-more (s .lengths) (c .base) (fit .twice) (p .depth) (deepest p) (p .indexes) (h .eight) (omega (arith, h .few)) (levels-comes k)
+        levels-more (s .lengths) (c .base) (fit .twice) (p .depth) (deepest p) (p .indexes) (h .eight) (omega (arith, h .few))
+        (levels-comes k)
         (omega (arith, w, twice-at (s .lengths) (c .base) (fit .twice) (p .depth) l), inl refl)
 
-    right-after : {b : Bin} {p q : Place} (x : ℕ) → Reads s c b p → After s (c .base) p q → x < slotsOf (s .names) → RightAt (moved-to c q x)
+    right-after : {b : Bin} {p q : Place} (x : ℕ) → Reads s c b p → After s (c .base) p q → x < slotsOf (s .names)
+        → RightAt (moved-to c q x)
     right-after {b} {p} {q} x r a l =
         let k = comes-good s (c .base) (standing c) stands (read-comes c r) in
         let g = rw (onward-after s (c .base) a) at (good-onward s (c .base) p k (r .there)) in
         stands-right (s .lengths) (slotsOf (s .names)) (c .base) q x g (levels-after k (levels-comes (read-comes c r)) a) (inr l)
 
     kept-right : {r : Step} → Steps s c r → RightAt (r .cursor)
-    kept-right (Steps.by-next {x = x} b e n l) = rw (begins-is c b) (stands-right (s .lengths) (slotsOf (s .names)) (c .base) (standing c) x stands levels-start (inr l))
-    kept-right (Steps.by-list {p} {q} {x} r a) = right-after x r a (ranges (slotsOf (s .names)) (headersIn s) (binWord s (c .base + p .depth) (deepest p)) .lists x .0 (r .bin) .3)
+    kept-right (Steps.by-next {x = x} b e n l) =
+        rw (begins-is c b) (stands-right (s .lengths) (slotsOf (s .names)) (c .base) (standing c) x stands levels-start (inr l))
+    kept-right (Steps.by-list {p} {q} {x} r a) =
+        right-after x r a (ranges (slotsOf (s .names)) (headersIn s) (binWord s (c .base + p .depth) (deepest p)) .lists x .0 (r .bin) .3)
     kept-right (Steps.by-tree {p} {q} {h} r m a) = right-after (firstAt s h) r a m
-    kept-right (Steps.by-end b e k d f) = record { deep = omega (arith, right .deep); first = inr (refl, refl); level = λ j l. absurd (omega arith); known = inl refl }
+    kept-right (Steps.by-end b e k d f) =
+        record { deep = omega (arith, right .deep); first = inr (refl, refl); level = λ j l. absurd (omega arith); known = inl refl }
     kept-right (Steps.lost h) = right
 
     next-right : RightAt (nexts s c .cursor)

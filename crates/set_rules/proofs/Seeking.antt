@@ -9,7 +9,8 @@ use lib.Dec.{leb}
 use borrow.Author.Tests.{le-leb, lt-leb, lt-ltb, le-ltb}
 use Rattle.slots.specs.Words.{pick}
 use Rattle.set_rules.specs.Words.{Set, tablesOf, lengthAt, firstAt, Bin, empty, moved, bad, list, tree}
-use Rattle.set_rules.specs.Walk.{Place, deepest, binHere, below, onward, InTables, Sought, ended, lost, taken, entered, sought, turnsIn}
+use Rattle.set_rules.specs.Walk.{Place, deepest, binHere, below, onward, InTables, Sought, ended, lost, taken, entered, sought}
+use Rattle.set_rules.specs.Walk.{turnsIn}
 use Rattle.set_rules.proofs.Turns.{left, left-advanced, left-within, left-down, twice-at, under-some}
 use Rattle.set_rules.proofs.Standing.{Within, within-or-end, stands-advanced, stands-down, left-some, left-all}
 use Rattle.tree_rules.specs.Find.{slotsOf}
@@ -29,7 +30,8 @@ module _ (s : Set) (base : ℕ) where
   sought-end zero p h = refl
   sought-end (suc t) p h = simp (le-leb _ _ h)
 
-  sought-turn : (t : ℕ) (p : Place) → Here p → {b : Bin} → binHere s base p ≡ b → sought (suc t) s base p ≡ entered s base p b (λ q. sought t s base q)
+  sought-turn : (t : ℕ) (p : Place) → Here p → {b : Bin} → binHere s base p ≡ b
+      → sought (suc t) s base p ≡ entered s base p b (λ q. sought t s base q)
   unfolding sought
   sought-turn t p h e = rw (lt-leb _ _ h, e)
 
@@ -107,7 +109,8 @@ module _ (s : Set) (base : ℕ) where
         ap (λ (t : ℕ). sought t s base p) (m .1) ∙ sought-turn (m .0) p w e
         ∙ same-turn p b (λ q. sought (m .0) s base q) seeks
         (enough (m .0) (turnsIn s base) (onward s base p) (good-onward p h w) (omega (arith, i, all, m .1)) (omega (arith, i, all)))
-        (λ l. enough (m .0) (turnsIn s base) (below s base p) (good-below p h w l) (omega (arith, falls-below p h w l, all, m .1)) (omega (arith, falls-below p h w l, all)))
+        (λ l. enough (m .0) (turnsIn s base) (below s base p) (good-below p h w l) (omega (arith, falls-below p h w l, all, m .1))
+        (omega (arith, falls-below p h w l, all)))
 
     pub at-empty : binHere s base p ≡ empty → seeks p ≡ seeks (onward s base p)
     at-empty e = at-turn e
@@ -150,4 +153,5 @@ no-cells s base zero p = refl
 no-cells s base (suc t) p =
     ap (λ (o : Sought). pick (leb (lengthAt s (base + p .depth)) (deepest p)) ended o)
     (bare-turn s base p (binHere s base p) (λ q. sought t (bare s) base q)
-    ∙ same-turn s base p (binHere s base p) (λ q. sought t (bare s) base q) (λ q. sought t s base q) (no-cells s base t (onward s base p)) (λ l. no-cells s base t (below s base p)))
+    ∙ same-turn s base p (binHere s base p) (λ q. sought t (bare s) base q) (λ q. sought t s base q) (no-cells s base t (onward s base p))
+    (λ l. no-cells s base t (below s base p)))

@@ -23,13 +23,15 @@ module _ (lengths : List ℕ) (base : ℕ) where
   pub within-or-end : (p : Place) → InTables lengths base p → (Within p) ⊎ ((p .depth ≡ 0) × (getD lengths (base + p .depth) 0 ≤ deepest p))
   within-or-end p h = go (h .last)
     where
-      go : (Within p) ⊎ ((p .depth ≡ 0) × (deepest p ≡ getD lengths base 0)) → (Within p) ⊎ ((p .depth ≡ 0) × (getD lengths (base + p .depth) 0 ≤ deepest p))
+      go : (Within p) ⊎ ((p .depth ≡ 0) × (deepest p ≡ getD lengths base 0))
+          → (Within p) ⊎ ((p .depth ≡ 0) × (getD lengths (base + p .depth) 0 ≤ deepest p))
       go (inl w) = inl w
       go (inr e) =
           let z : getD lengths (base + p .depth) 0 ≡ getD lengths base 0 = ap (λ (k : ℕ). getD lengths (base + k) 0) (e .0) ∙ base-zero in
           inr (e .0, omega (arith, z))
 
-  stands-first : (x : List ℕ) → InTables lengths base (place 0 x) → getD x 0 0 < getD lengths (base + 0) 0 → InTables lengths base (advanced 0 lengths base x)
+  stands-first : (x : List ℕ) → InTables lengths base (place 0 x) → getD x 0 0 < getD lengths (base + 0) 0
+      → InTables lengths base (advanced 0 lengths base x)
   unfolding advanced
   stands-first x h w =
       record {
@@ -68,7 +70,8 @@ module _ (lengths : List ℕ) (base : ℕ) where
         last = inl (rw (getD-set-other x (suc d) d v 0 (omega arith)) (h .within d (omega arith)));
       }
 
-  stands-plus : (d : ℕ) (x : List ℕ) (v : ℕ) → InTables lengths base (place (suc d) x) → v < getD lengths (base + suc d) 0 → InTables lengths base (place (suc d) (set x (suc d) v))
+  stands-plus : (d : ℕ) (x : List ℕ) (v : ℕ) → InTables lengths base (place (suc d) x) → v < getD lengths (base + suc d) 0
+      → InTables lengths base (place (suc d) (set x (suc d) v))
   stands-plus d x v h l =
       record {
         eight = length-set x (suc d) v ∙ h .eight;
@@ -79,12 +82,14 @@ module _ (lengths : List ℕ) (base : ℕ) where
         last = inl (rw (getD-set-same x (suc d) v 0 (omega (arith, h .eight, h .deep, h .few))) l);
       }
 
-  pub stands-advanced : (d : ℕ) (x : List ℕ) → InTables lengths base (place d x) → getD x d 0 < getD lengths (base + d) 0 → InTables lengths base (advanced d lengths base x)
+  pub stands-advanced : (d : ℕ) (x : List ℕ) → InTables lengths base (place d x) → getD x d 0 < getD lengths (base + d) 0
+      → InTables lengths base (advanced d lengths base x)
   stands-advanced zero x h w = stands-first x h w
   stands-advanced (suc d) x h w = go (decLt (on lengths base d x) (getD lengths (base + suc d) 0)) (λ y k l. stands-advanced d y k l)
     where
       go : Dec (on lengths base d x < getD lengths (base + suc d) 0)
-          → ((y : List ℕ) → InTables lengths base (place d y) → getD y d 0 < getD lengths (base + d) 0 → InTables lengths base (advanced d lengths base y))
+          → ((y : List ℕ) → InTables lengths base (place d y) → getD y d 0 < getD lengths (base + d) 0
+          → InTables lengths base (advanced d lengths base y))
           → InTables lengths base (advanced (suc d) lengths base x)
       go (yes k) again = rw (advanced-lt lengths base d x k) (stands-plus d x (on lengths base d x) h k)
       go (no k) again =
@@ -100,7 +105,8 @@ module _ (lengths : List ℕ) (base : ℕ) where
       go (no n) = h .within j (omega arith)
 
   -- A bin of the table below is such a place.
-  pub stands-down : (p : Place) (v : ℕ) → InTables lengths base p → Within p → base + suc (p .depth) < length lengths → v < getD lengths (base + suc (p .depth)) 0
+  pub stands-down : (p : Place) (v : ℕ) → InTables lengths base p → Within p → base + suc (p .depth) < length lengths
+      → v < getD lengths (base + suc (p .depth)) 0
       → InTables lengths base (place (suc (p .depth)) (set (p .indexes) (suc (p .depth)) v))
   stands-down p v h w l b =
       let d = p .depth in
@@ -116,12 +122,23 @@ module _ (lengths : List ℕ) (base : ℕ) where
 
   -- What is left at a place: something where its bin is there, and never more than there is.
   pub left-some : (p : Place) → InTables lengths base p → Within p → 0 < left lengths base (p .depth) (p .indexes)
-  left-some p h w = omega (arith, left-within lengths base (p .depth) (p .indexes) w, under-some (length lengths - (base + p .depth)) (omega (arith, h .deep)))
+  left-some p h w =
+      omega (
+        arith,
+        left-within lengths base (p .depth) (p .indexes) w,
+        under-some (length lengths - (base + p .depth)) (omega (arith, h .deep)),
+      )
 
-  pub left-all : (p : Place) → InTables lengths base p → left lengths base (p .depth) (p .indexes) ≤ getD lengths base 0 * under (length lengths - base)
+  pub left-all : (p : Place) → InTables lengths base p
+      → left lengths base (p .depth) (p .indexes) ≤ getD lengths base 0 * under (length lengths - base)
   left-all p h = go (h .last)
     where
-      go : (Within p) ⊎ ((p .depth ≡ 0) × (deepest p ≡ getD lengths base 0)) → left lengths base (p .depth) (p .indexes) ≤ getD lengths base 0 * under (length lengths - base)
+      go : (Within p) ⊎ ((p .depth ≡ 0) × (deepest p ≡ getD lengths base 0))
+          → left lengths base (p .depth) (p .indexes) ≤ getD lengths base 0 * under (length lengths - base)
       go (inl w) =
-          omega (arith, left-within lengths base (p .depth) (p .indexes) w, left-most lengths base (h .twice) (p .depth) (p .indexes) (h .deep) (inside p h w))
+          omega (
+            arith,
+            left-within lengths base (p .depth) (p .indexes) w,
+            left-most lengths base (h .twice) (p .depth) (p .indexes) (h .deep) (inside p h w),
+          )
       go (inr e) = rw (e .0) (left-top lengths base (p .indexes))

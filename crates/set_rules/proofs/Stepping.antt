@@ -13,12 +13,14 @@ use Rattle.slots.specs.Words.{null, next, cell}
 use Rattle.set_rules.specs.Words.{Set, tablesOf, lengthAt, firstAt, Fit, Bin, empty, moved, bad, list, tree}
 use Rattle.set_rules.proofs.Fit.{small}
 use Rattle.set_rules.specs.Cursor.{Cursor, Step}
-use Rattle.set_rules.specs.Walk.{Place, place, deepest, binHere, below, advanced, onward, InTables, Sought, at, ended, lost, standing, stepped, stepsOn}
+use Rattle.set_rules.specs.Walk.{Place, place, deepest, binHere, below, advanced, onward, InTables, Sought, at, ended, lost, standing}
+use Rattle.set_rules.specs.Walk.{stepped, stepsOn}
 use Rattle.set_rules.specs.Ways.{Begins, After, Comes, Reads, Strays, Steps}
 use Rattle.set_rules.proofs.Turns.{on, advanced-lt, advanced-ge}
 use Rattle.set_rules.proofs.Standing.{left-some}
 use Rattle.set_rules.proofs.Beginning.{standing-begins, begins-is, read-comes}
-use Rattle.set_rules.proofs.Seeking.{leftAt, seeks, at-end, at-empty, at-bad, at-list, at-moved, at-last, at-tree, at-stray, falls-onward, falls-below, good-onward, good-below}
+use Rattle.set_rules.proofs.Seeking.{leftAt, seeks, at-end, at-empty, at-bad, at-list, at-moved, at-last, at-tree, at-stray}
+use Rattle.set_rules.proofs.Seeking.{falls-onward, falls-below, good-onward, good-below}
 use Rattle.tree_rules.specs.Find.{slotsOf}
 
 module _ (s : Set) (base : ℕ) where
@@ -50,7 +52,8 @@ module _ (s : Set) (base : ℕ) where
 
     pub comes-same : {p : Place} → Comes s base from p → seeks s base from ≡ seeks s base p
     comes-same (Comes.start) = refl
-    comes-same (Comes.past {p} {q} c w e a) = comes-same c ∙ at-empty s base p (comes-good c) w e ∙ ap (λ (r : Place). seeks s base r) (onward-after a)
+    comes-same (Comes.past {p} {q} c w e a) =
+        comes-same c ∙ at-empty s base p (comes-good c) w e ∙ ap (λ (r : Place). seeks s base r) (onward-after a)
     comes-same (Comes.down {p} c w e l) = comes-same c ∙ at-moved s base p (comes-good c) w e l
 
 -- What a step from a cursor comes to.
@@ -64,20 +67,24 @@ module _ (s : Set) (fit : Fit s) (c : Cursor) (good : InTables (s .lengths) (c .
   -- What is said of the loop's end.
   data Ends : Sought → Type 0 where
     list-end : {p q : Place} {x : ℕ} → Reads s c (list x) p → After s (c .base) p q → Ends (at x q)
-    tree-end : {p q : Place} {h : ℕ} → Reads s c (tree h) p → firstAt s h < slotsOf (s .names) → After s (c .base) p q → Ends (at (firstAt s h) q)
+    tree-end : {p q : Place} {h : ℕ} → Reads s c (tree h) p → firstAt s h < slotsOf (s .names) → After s (c .base) p q
+        → Ends (at (firstAt s h) q)
     base-end : {p : Place} → Comes s (c .base) (standing c) p → p .depth ≡ 0 → deepest p ≡ lengthAt s (c .base) → Ends ended
     stray-end : Strays s c → Ends lost
 
   module _ (none : cell (s .cells) (c .last) next ≡ null) where
-    at-base : (p : Place) → Comes s (c .base) (standing c) p → (p .depth ≡ 0) × (deepest p ≡ lengthAt s (c .base)) → Ends (seeks s (c .base) p)
+    at-base : (p : Place) → Comes s (c .base) (standing c) p → (p .depth ≡ 0) × (deepest p ≡ lengthAt s (c .base))
+        → Ends (seeks s (c .base) p)
     at-base p k e =
-        let z : lengthAt s (c .base + p .depth) ≡ lengthAt s (c .base) = ap (λ (j : ℕ). lengthAt s (c .base + j)) (e .0) ∙ ap (λ (j : ℕ). lengthAt s j) (add-zero (c .base)) in
+        let z : lengthAt s (c .base + p .depth) ≡ lengthAt s (c .base) =
+        ap (λ (j : ℕ). lengthAt s (c .base + j)) (e .0) ∙ ap (λ (j : ℕ). lengthAt s j) (add-zero (c .base)) in
         rw (at-end s (c .base) p (omega (arith, z, e .1))) (base-end k (e .0) (e .1))
 
     ends-from : (t : ℕ) (p : Place) → Comes s (c .base) (standing c) p → leftAt s (c .base) p ≤ t → Ends (seeks s (c .base) p)
     ends-from zero p k l = go (comes-good s (c .base) (standing c) good k .last)
       where
-        go : (deepest p < lengthAt s (c .base + p .depth)) ⊎ ((p .depth ≡ 0) × (deepest p ≡ lengthAt s (c .base))) → Ends (seeks s (c .base) p)
+        go : (deepest p < lengthAt s (c .base + p .depth)) ⊎ ((p .depth ≡ 0) × (deepest p ≡ lengthAt s (c .base)))
+            → Ends (seeks s (c .base) p)
         go (inl w) = absurd (omega (arith, left-some (s .lengths) (c .base) p (comes-good s (c .base) (standing c) good k) w))
         go (inr e) = at-base p k e
     ends-from (suc t) p k l = go (comes-good s (c .base) (standing c) good k .last) (λ q j m. ends-from t q j m)
@@ -90,17 +97,26 @@ module _ (s : Set) (fit : Fit s) (c : Cursor) (good : InTables (s .lengths) (c .
             → Ends (seeks s (c .base) p)
         read w empty e again =
             rw (at-empty s (c .base) p h w e)
-            (again (onward s (c .base) p) (Comes.past k w e (after-onward s (c .base) (p .depth) (p .indexes))) (omega (arith, falls-onward s (c .base) p h w)))
-        read w bad e again = rw (at-bad s (c .base) p h w e) (stray-end (Strays.bad-bin (record { from = standing c; begins = begins; no-next = none; comes = k; there = w; bin = e })))
+            (again (onward s (c .base) p) (Comes.past k w e (after-onward s (c .base) (p .depth) (p .indexes)))
+            (omega (arith, falls-onward s (c .base) p h w)))
+        read w bad e again =
+            rw (at-bad s (c .base) p h w e)
+            (stray-end (Strays.bad-bin (record { from = standing c; begins = begins; no-next = none; comes = k; there = w; bin = e })))
         read w (list x) e again =
-            rw (at-list s (c .base) p h w e) (list-end (record { from = standing c; begins = begins; no-next = none; comes = k; there = w; bin = e }) (after-onward s (c .base) (p .depth) (p .indexes)))
+            rw (at-list s (c .base) p h w e)
+            (list-end (record { from = standing c; begins = begins; no-next = none; comes = k; there = w; bin = e })
+            (after-onward s (c .base) (p .depth) (p .indexes)))
         read w moved e again = turn (decLt (c .base + suc (p .depth)) (tablesOf s))
           where
             turn : Dec (c .base + suc (p .depth) < tablesOf s) → Ends (seeks s (c .base) p)
-            turn (yes m) = rw (at-moved s (c .base) p h w e m) (again (below s (c .base) p) (Comes.down k w e m) (omega (arith, falls-below s (c .base) p h w m)))
+            turn (yes m) =
+                rw (at-moved s (c .base) p h w e m)
+                (again (below s (c .base) p) (Comes.down k w e m) (omega (arith, falls-below s (c .base) p h w m)))
             turn (no n) =
                 let m : tablesOf s ≤ c .base + suc (p .depth) = omega arith in
-                rw (at-last s (c .base) p h w e m) (stray-end (Strays.moved-last (record { from = standing c; begins = begins; no-next = none; comes = k; there = w; bin = e }) m))
+                rw (at-last s (c .base) p h w e m)
+                (stray-end (Strays.moved-last
+                (record { from = standing c; begins = begins; no-next = none; comes = k; there = w; bin = e }) m))
         read w (tree a) e again = turn (decLt (firstAt s a) (slotsOf (s .names))) (ℕ-discrete (firstAt s a) null)
           where
             r : Reads s c (tree a) p
@@ -132,20 +148,25 @@ module _ (s : Set) (fit : Fit s) (c : Cursor) (good : InTables (s .lengths) (c .
     where
       go : Dec (cell (s .cells) (c .last) next ≡ null) → Dec (cell (s .cells) (c .last) next < slotsOf (s .names)) → Steps s c (stepsOn s c)
       go (yes e) d = rw (eq-eqb (cell (s .cells) (c .last) next) null e) (ends-steps e (ends-all e))
-      go (no n) (yes l) = rw (ne-eqb (cell (s .cells) (c .last) next) null n, lt-ltb (cell (s .cells) (c .last) next) (slotsOf (s .names)) l) (Steps.by-next begins refl n l)
+      go (no n) (yes l) =
+          rw (ne-eqb (cell (s .cells) (c .last) next) null n, lt-ltb (cell (s .cells) (c .last) next) (slotsOf (s .names)) l)
+          (Steps.by-next begins refl n l)
       go (no n) (no l) =
           let m : slotsOf (s .names) ≤ cell (s .cells) (c .last) next = omega arith in
-          rw (ne-eqb (cell (s .cells) (c .last) next) null n, le-ltb (cell (s .cells) (c .last) next) (slotsOf (s .names)) m) (Steps.lost (Strays.stray-next n m))
+          rw (ne-eqb (cell (s .cells) (c .last) next) null n, le-ltb (cell (s .cells) (c .last) next) (slotsOf (s .names)) m)
+          (Steps.lost (Strays.stray-next n m))
 
   loop-walked : cell (s .cells) (c .last) next ≡ null → {o : Sought} → sound ≡ o → stepsOn s c ≡ stepped s c o
   unfolding stepsOn
   loop-walked e f = rw (eq-eqb (cell (s .cells) (c .last) next) null e, f)
 
-  stray-walked : cell (s .cells) (c .last) next ≢ null → slotsOf (s .names) ≤ cell (s .cells) (c .last) next → stepsOn s c ≡ stepped s c lost
+  stray-walked : cell (s .cells) (c .last) next ≢ null → slotsOf (s .names) ≤ cell (s .cells) (c .last) next
+      → stepsOn s c ≡ stepped s c lost
   unfolding stepsOn
   stray-walked n l = rw (ne-eqb (cell (s .cells) (c .last) next) null n, le-ltb (cell (s .cells) (c .last) next) (slotsOf (s .names)) l)
 
-  link-walked : {x : ℕ} → cell (s .cells) (c .last) next ≡ x → x ≢ null → x < slotsOf (s .names) → stepsOn s c ≡ stepped s c (at x (standing c))
+  link-walked : {x : ℕ} → cell (s .cells) (c .last) next ≡ x → x ≢ null → x < slotsOf (s .names)
+      → stepsOn s c ≡ stepped s c (at x (standing c))
   unfolding stepsOn
   link-walked {x} e n l = rw (e, ne-eqb x null n, lt-ltb x (slotsOf (s .names)) l)
 
@@ -159,18 +180,23 @@ module _ (s : Set) (fit : Fit s) (c : Cursor) (good : InTables (s .lengths) (c .
   strays-lost : Strays s c → stepsOn s c ≡ stepped s c lost
   strays-lost (Strays.stray-next n l) = stray-walked n l
   strays-lost (Strays.bad-bin {p} r) = loop-walked (r .no-next) (reads-same r ∙ at-bad s (c .base) p (reads-good r) (r .there) (r .bin))
-  strays-lost (Strays.moved-last {p} r l) = loop-walked (r .no-next) (reads-same r ∙ at-last s (c .base) p (reads-good r) (r .there) (r .bin) l)
+  strays-lost (Strays.moved-last {p} r l) =
+      loop-walked (r .no-next) (reads-same r ∙ at-last s (c .base) p (reads-good r) (r .there) (r .bin) l)
   strays-lost (Strays.no-first {p} {h} r e) =
       loop-walked (r .no-next) (reads-same r ∙ at-stray s (c .base) p (reads-good r) (r .there) (r .bin) (omega (arith, e, small fit)))
-  strays-lost (Strays.stray-first {p} r n l) = loop-walked (r .no-next) (reads-same r ∙ at-stray s (c .base) p (reads-good r) (r .there) (r .bin) l)
+  strays-lost (Strays.stray-first {p} r n l) =
+      loop-walked (r .no-next) (reads-same r ∙ at-stray s (c .base) p (reads-good r) (r .there) (r .bin) l)
 
   pub walked-steps : {r : Step} → Steps s c r → stepsOn s c ≡ r
   walked-steps (Steps.by-next {x = x} b e n l) = rw (begins-is c b) (link-walked e n l)
   walked-steps (Steps.by-list {p} {q} {x} r a) =
-      loop-walked (r .no-next) (reads-same r ∙ at-list s (c .base) p (reads-good r) (r .there) (r .bin) ∙ ap (at x) (onward-after s (c .base) a))
+      loop-walked (r .no-next)
+      (reads-same r ∙ at-list s (c .base) p (reads-good r) (r .there) (r .bin) ∙ ap (at x) (onward-after s (c .base) a))
   walked-steps (Steps.by-tree {p} {q} {h} r m a) =
-      loop-walked (r .no-next) (reads-same r ∙ at-tree s (c .base) p (reads-good r) (r .there) (r .bin) m ∙ ap (at (firstAt s h)) (onward-after s (c .base) a))
+      loop-walked (r .no-next)
+      (reads-same r ∙ at-tree s (c .base) p (reads-good r) (r .there) (r .bin) m ∙ ap (at (firstAt s h)) (onward-after s (c .base) a))
   walked-steps (Steps.by-end {p = p} b e k d f) =
-      let z : lengthAt s (c .base + p .depth) ≡ lengthAt s (c .base) = ap (λ (j : ℕ). lengthAt s (c .base + j)) d ∙ ap (λ (j : ℕ). lengthAt s j) (add-zero (c .base)) in
+      let z : lengthAt s (c .base + p .depth) ≡ lengthAt s (c .base) =
+      ap (λ (j : ℕ). lengthAt s (c .base + j)) d ∙ ap (λ (j : ℕ). lengthAt s j) (add-zero (c .base)) in
       loop-walked e (comes-same s (c .base) (standing c) good (rw (begins-is c b) at k) ∙ at-end s (c .base) p (omega (arith, z, f)))
   walked-steps (Steps.lost h) = strays-lost h

@@ -52,7 +52,8 @@ module _ (lengths : List ℕ) (base : ℕ) where
     unfolding advanced
     advanced-ge h = simp (le-ltb _ _ h)
 
-    later-lt : on < getD lengths (base + suc d) 0 → later lengths base (suc d) x ≡ later lengths base d x + under (length lengths - (base + suc d))
+    later-lt : on < getD lengths (base + suc d) 0
+        → later lengths base (suc d) x ≡ later lengths base d x + under (length lengths - (base + suc d))
     unfolding later
     later-lt h = simp (lt-ltb _ _ h)
 
@@ -73,9 +74,11 @@ module _ (lengths : List ℕ) (base : ℕ) where
 
   module _ (twice : (k : ℕ) → suc k < length lengths → getD lengths (suc k) 0 ≡ 2 * getD lengths k 0) where
     -- The place after one has the bins that come after it.
-    pub left-advanced : (d : ℕ) (x : List ℕ) → length x ≡ 8 → d < 8 → base + d < length lengths → leftOf (advanced d lengths base x) ≡ later lengths base d x
+    pub left-advanced : (d : ℕ) (x : List ℕ) → length x ≡ 8 → d < 8 → base + d < length lengths
+        → leftOf (advanced d lengths base x) ≡ later lengths base d x
     left-advanced zero x e l h = left-first x e
-    left-advanced (suc d) x e l h = go (decLt (on d x) (getD lengths (base + suc d) 0)) (λ y f. left-advanced d y f (omega arith) (omega arith))
+    left-advanced (suc d) x e l h =
+        go (decLt (on d x) (getD lengths (base + suc d) 0)) (λ y f. left-advanced d y f (omega arith) (omega arith))
       where
         go : Dec (on d x < getD lengths (base + suc d) 0)
             → ((y : List ℕ) → length y ≡ 8 → leftOf (advanced d lengths base y) ≡ later lengths base d y)
@@ -101,7 +104,8 @@ module _ (lengths : List ℕ) (base : ℕ) where
       → left lengths base d x ≡ under (length lengths - (base + d)) + later lengths base d x
   unfolding left later
   left-within zero x h =
-      let z : getD lengths base 0 - getD x 0 0 ≡ suc (getD lengths base 0 - (getD x 0 0 + 1)) = omega (arith, ap (λ (k : ℕ). getD lengths k 0) (add-zero base)) in
+      let z : getD lengths base 0 - getD x 0 0 ≡ suc (getD lengths base 0 - (getD x 0 0 + 1)) =
+      omega (arith, ap (λ (k : ℕ). getD lengths k 0) (add-zero base)) in
       let u = under (length lengths - base) in
       let v : length lengths - (base + 0) ≡ length lengths - base = omega arith in
       rw (z, suc-mul, v) (omega arith)
@@ -118,7 +122,8 @@ module _ (lengths : List ℕ) (base : ℕ) where
     later-most : (d : ℕ) (y : List ℕ) → later lengths base (suc d) y ≤ later lengths base d y + under (length lengths - (base + suc d))
     later-most d y = go (decLt (on d y) (getD lengths (base + suc d) 0))
       where
-        go : Dec (on d y < getD lengths (base + suc d) 0) → later lengths base (suc d) y ≤ later lengths base d y + under (length lengths - (base + suc d))
+        go : Dec (on d y < getD lengths (base + suc d) 0)
+            → later lengths base (suc d) y ≤ later lengths base d y + under (length lengths - (base + suc d))
         go (yes k) = omega (arith, later-lt d y k)
         go (no k) = omega (arith, later-ge d y (omega arith))
 

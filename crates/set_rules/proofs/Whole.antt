@@ -45,7 +45,8 @@ module _ (s : Set) (fit : Fit s) (acc : Accepted s) where
       go (list a) e (HeldIn.listed h) m =
           let g = acc .lists k i a (f .place) e in
           used-hued (s .cells) x black (g .plain x (rw (listed-unique s (small fit) h (g .ends)) at m) .states)
-      go (tree a) e (HeldIn.grown r) m = let d = hangs-stand (slotsOf (s .names)) (s .cells) (r .hangs) m in used-hued (s .cells) x (d .hue) (d .words .hued)
+      go (tree a) e (HeldIn.grown r) m =
+          let d = hangs-stand (slotsOf (s .names)) (s .cells) (r .hangs) m in used-hued (s .cells) x (d .hue) (d .words .hued)
 
   entry-inside : {k i x : ℕ} → EntryOf s k i x → x < slotsOf (s .names)
   entry-inside {k} {i} {x} f = go (f .holds) (f .member)
@@ -89,7 +90,8 @@ module _ (s : Set) (fit : Fit s) (acc : Accepted s) where
           entries = entries;
           once = λ x. omega (arith, all .same x, all .once x);
           all = given-used;
-          count = λ z. exactly-length (slotsOf (s .names)) (all .given) (λ x m. entry-inside (entries x .0 m .entry)) (used (s .cells)) (given-used z);
+          count = λ z. exactly-length (slotsOf (s .names)) (all .given) (λ x m. entry-inside (entries x .0 m .entry)) (used (s .cells))
+              (given-used z);
           agree =
               λ x. (let u = map-claims s fit acc .at t (nameOf (s .names) x hashPart) (nameOf (s .names) x keyPart) x b in
               (λ h. u .1 (entries x .0 h, refl), λ e. entries x .1 (u .0 e .0)));

@@ -12,7 +12,8 @@ use Rattle.tree_rules.specs.Tree.{Tree, slots, times, Rooted, Shaped}
 use Rattle.tree_rules.specs.Chain.{Chain}
 use Rattle.index_rules.specs.Live.{Live}
 use Rattle.index_rules.specs.Sound.{Cleared}
-use Rattle.set_rules.specs.Words.{Set, tablesOf, lengthAt, headersIn, rootAt, firstAt, countAt, Bin, empty, moved, bad, list, tree, binAt, bini}
+use Rattle.set_rules.specs.Words.{Set, tablesOf, lengthAt, headersIn, rootAt, firstAt, countAt, Bin, empty, moved, bad, list, tree}
+use Rattle.set_rules.specs.Words.{binAt, bini}
 use Rattle.tree_rules.specs.Find.{slotsOf}
 
 -- The slots of the set, as a live tree has them.

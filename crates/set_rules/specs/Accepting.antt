@@ -116,7 +116,8 @@ unfoldable pub belowFine : ℕ → Set → ℕ → ℕ → Bool → ℕ → Valu
 belowFine zero s k i may v = some v
 belowFine (suc left) s k i may v =
     then (binAsks s left (suc k) i (belowFine left s (suc k) i) may v (binAt s (suc k) i))
-    (λ w. binAsks s left (suc k) (i + lengthAt s k) (belowFine left s (suc k) (i + lengthAt s k)) may w (binAt s (suc k) (i + lengthAt s k)))
+    (λ w. binAsks s left (suc k) (i + lengthAt s k) (belowFine left s (suc k) (i + lengthAt s k)) may w
+    (binAt s (suc k) (i + lengthAt s k)))
 
 unfoldable pub binFine : ℕ → Set → ℕ → ℕ → Bool → ℕ → Value
 binFine left s k i may v = binAsks s left k i (belowFine left s k i) may v (binAt s k i)
@@ -156,7 +157,9 @@ allHeld s = leaves (slotsOf (s .names)) (tally (slotsOf (s .names)) (used (s .ce
 
 -- The whole check.
 unfoldable pub accepted : Set → Bool
-accepted s = slotsFine (slotsOf (s .names)) (slotsOf (s .names)) (slotted s) and headersFine (slotsOf (s .names)) (headersIn s) (s .heads) (s .bins) and allHeld s
+accepted s =
+    slotsFine (slotsOf (s .names)) (slotsOf (s .names)) (slotted s)
+    and headersFine (slotsOf (s .names)) (headersIn s) (s .heads) (s .bins) and allHeld s
 
 -- "The full check and acceptance give 1, or else yes or no": yes is 1, no is 0.
 unfoldable pub accepts : Set → Answer

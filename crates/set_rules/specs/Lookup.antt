@@ -93,15 +93,19 @@ pub data Astray (s : Set) (t hash key : ℕ) : Type 0 where
   bad-bin : {k : ℕ} → Reaches s t hash k → homeBin s k hash ≡ bad → Astray s t hash key
   moved-last : {k : ℕ} → Reaches s t hash k → homeBin s k hash ≡ moved → tablesOf s ≤ suc k → Astray s t hash key
   in-list : {k p : ℕ} → Reaches s t hash k → homeBin s k hash ≡ list p → ListLost (s .names) (s .cells) p hash key → Astray s t hash key
-  in-tree : {k h : ℕ} → Reaches s t hash k → homeBin s k hash ≡ tree h → Lost (s .names) (s .cells) (rootAt s h) hash key → Astray s t hash key
+  in-tree : {k h : ℕ} → Reaches s t hash k → homeBin s k hash ≡ tree h → Lost (s .names) (s .cells) (rootAt s h) hash key
+      → Astray s t hash key
 
 -- The slot: where the bin that the loop comes to has it.
 pub data Hit (s : Set) (t hash key slot : ℕ) : Type 0 where
-  in-list : {k p : ℕ} → Reaches s t hash k → homeBin s k hash ≡ list p → ListHere (s .names) (s .cells) p hash key slot → Hit s t hash key slot
-  in-tree : {k h : ℕ} → Reaches s t hash k → homeBin s k hash ≡ tree h → Here (s .names) (s .cells) (rootAt s h) hash key slot → Hit s t hash key slot
+  in-list : {k p : ℕ} → Reaches s t hash k → homeBin s k hash ≡ list p → ListHere (s .names) (s .cells) p hash key slot
+      → Hit s t hash key slot
+  in-tree : {k h : ℕ} → Reaches s t hash k → homeBin s k hash ≡ tree h → Here (s .names) (s .cells) (rootAt s h) hash key slot
+      → Hit s t hash key slot
 
 -- Nothing: where that bin is empty, or its list or tree ends.
 pub data Miss (s : Set) (t hash key : ℕ) : Type 0 where
   in-none : {k : ℕ} → Reaches s t hash k → homeBin s k hash ≡ empty → Miss s t hash key
   in-list : {k p : ℕ} → Reaches s t hash k → homeBin s k hash ≡ list p → ListMissed (s .names) (s .cells) p hash key → Miss s t hash key
-  in-tree : {k h : ℕ} → Reaches s t hash k → homeBin s k hash ≡ tree h → Missed (s .names) (s .cells) (rootAt s h) hash key → Miss s t hash key
+  in-tree : {k h : ℕ} → Reaches s t hash k → homeBin s k hash ≡ tree h → Missed (s .names) (s .cells) (rootAt s h) hash key
+      → Miss s t hash key

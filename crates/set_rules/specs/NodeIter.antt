@@ -35,14 +35,18 @@ over s size it = pick (leb size (it .base-index)) true (leb (lengthAt s (it .tab
 
 -- The arm Moved: the next table at the same index, and push_state.
 abbrev pub pushed : Set → Iter → Iter
-pushed s it = iter (suc (it .table)) (it .index) (it .base-index) (record { table = it .table; index = it .index; long = lengthAt s (it .table) } ∷ it .stack)
+pushed s it =
+    iter (suc (it .table)) (it .index) (it .base-index)
+    (record { table = it .table; index = it .index; long = lengthAt s (it .table) } ∷ it .stack)
 
 -- recover_state with the length n of the current table: `index + s.length < n` moves on within the frame, else the frame is popped; with
 -- no frame left `index += base_size`, and from n on comes the next bin of the base table. With no frame at all `next` does the same itself.
 unfoldable pub recovered : List Frame → ℕ → ℕ → ℕ → ℕ → ℕ → Iter
-recovered [] size table index base-index n = pick (leb n (index + size)) (iter table (suc base-index) (suc base-index) []) (iter table (index + size) base-index [])
+recovered [] size table index base-index n =
+    pick (leb n (index + size)) (iter table (suc base-index) (suc base-index) []) (iter table (index + size) base-index [])
 recovered (f ∷ rest) size table index base-index n =
-    pick (ltb (index + f .long) n) (iter table (index + f .long) base-index (f ∷ rest)) (recovered rest size (f .table) (f .index) base-index (f .long))
+    pick (ltb (index + f .long) n) (iter table (index + f .long) base-index (f ∷ rest))
+    (recovered rest size (f .table) (f .index) base-index (f .long))
 
 abbrev pub proceeds : Set → ℕ → Iter → Iter
 proceeds s size it = recovered (it .stack) size (it .table) (it .index) (it .base-index) (lengthAt s (it .table))

@@ -49,7 +49,8 @@ advanced (suc d) lengths base x =
     pick (ltb (further lengths base d x) (getD lengths (base + suc d) 0)) (place (suc d) (set x (suc d) (further lengths base d x)))
     (advanced d lengths base (set x (suc d) 0))
 
--- A place that a step may stand at: its table is there, and each index is below its table's length, or at depth 0 the base index is the end.
+-- A place that a step may stand at: its table is there, and each index is below its table's length,
+-- or at depth 0 the base index is the end.
 pub record InTables (lengths : List ℕ) (base : ℕ) (p : Place) : Type 0 where
   pub eight : length (p .indexes) ≡ 8
   pub few : length lengths ≤ 8
@@ -118,4 +119,5 @@ stepsOn s c =
 -- "walk 1, 11, then 9", and a refusal hands back the same cursor.
 unfoldable pub nexts : Set → Cursor → Step
 nexts s c =
-    pick (fits s) (pick (fineCursor s c) (stepsOn s c) (record { answer = refused 11; cursor = c })) (record { answer = refused 1; cursor = c })
+    pick (fits s) (pick (fineCursor s c) (stepsOn s c) (record { answer = refused 11; cursor = c }))
+    (record { answer = refused 1; cursor = c })

@@ -38,7 +38,8 @@ pub record Lookups (s : Set) (t hash key : ℕ) : Type 0 where
 -- What lookup looks at from a table of a fit set: what the bin has that the loop comes to.
 pub record LookupLooks (s : Set) (t hash key : ℕ) : Type 0 where
   -- a list's slots by next, and a tree's as find_tree_node follows them
-  pub in-list : {k p : ℕ} → Reaches s t hash k → homeBin s k hash ≡ list p → LooksAt (s .names) hash key (ListFollows (s .names) (s .cells) p hash key) (lookups s t hash key)
+  pub in-list : {k p : ℕ} → Reaches s t hash k → homeBin s k hash ≡ list p
+      → LooksAt (s .names) hash key (ListFollows (s .names) (s .cells) p hash key) (lookups s t hash key)
   pub in-tree : {k h : ℕ} → Reaches s t hash k → homeBin s k hash ≡ tree h
       → LooksAt (s .names) hash key (Descends (s .names) (s .cells) (rootAt s h) hash key) (lookups s t hash key)
   -- in any other bin there is nothing to look at
@@ -63,7 +64,8 @@ pub record LooksUp (s : Set) (t hash key : ℕ) : Type 0 where
 pub record Starts (s : Set) (t : ℕ) : Type 0 where
   pub one : (starts s t ≡ record { answer = refused 1; cursor = blank }) ↔ (Fit s → ⊥)
   pub ten : (starts s t ≡ record { answer = refused 10; cursor = blank }) ↔ (Fit s × (tablesOf s ≤ t))
-  pub made : (starts s t ≡ record { answer = given 1; cursor = record { base = t; depth = 0; indexes = lone 0; last = null } }) ↔ (Fit s × (t < tablesOf s))
+  pub made : (starts s t ≡ record { answer = given 1; cursor = record { base = t; depth = 0; indexes = lone 0; last = null } })
+      ↔ (Fit s × (t < tablesOf s))
 
 -- Next on any words and any cursor: "walk 1, 11, then 9", each exactly when, with the same cursor; and else what the rules say of a step.
 pub record Nexts (s : Set) (c : Cursor) : Type 0 where
@@ -86,7 +88,8 @@ pub record Walks (s : Set) (c : Cursor) : Type 0 where
 -- Lookup on an accepted set is the set's map: from table t it answers x exactly if x is an entry of table t or of a later one and has the
 -- pair, so from table 0 exactly if x is an entry, in whatever bin; and no two entries have one pair.
 pub record Map (s : Set) : Type 0 where
-  pub at : (t hash key x : ℕ) → t < tablesOf s → (lookups s t hash key .answer ≡ given x) ↔ (EntryFrom s t x × (pairOf (s .names) x ≡ pair hash key))
+  pub at : (t hash key x : ℕ) → t < tablesOf s
+      → (lookups s t hash key .answer ≡ given x) ↔ (EntryFrom s t x × (pairOf (s .names) x ≡ pair hash key))
   pub apart : (x y : ℕ) → EntryFrom s 0 x → EntryFrom s 0 y → pairOf (s .names) x ≡ pairOf (s .names) y → x ≡ y
 
 -- A whole walk of an accepted set, from the start of table t until Done.
@@ -105,7 +108,8 @@ pub record WholeWalk (s : Set) (t : ℕ) : Type 0 where
   -- from table 0: every slot that is not free, once
   pub all : t ≡ 0 → (x : ℕ) → x < slotsOf (s .names) → used (s .cells) x ≡ times x given-slots
   -- lookup and walk agree: a slot is given exactly if lookup of its own pair answers it
-  pub agree : (x : ℕ) → (1 ≤ times x given-slots) ↔ (lookups s t (nameOf (s .names) x hashPart) (nameOf (s .names) x keyPart) .answer ≡ given x)
+  pub agree : (x : ℕ)
+      → (1 ≤ times x given-slots) ↔ (lookups s t (nameOf (s .names) x hashPart) (nameOf (s .names) x keyPart) .answer ≡ given x)
 
 pub record Walked : Type 0 where
   pub looking : (s : Set) (t hash key : ℕ) → Lookups s t hash key
@@ -114,7 +118,8 @@ pub record Walked : Type 0 where
   pub stepping : (s : Set) (c : Cursor) → Nexts s c
   -- a step is a call of the source's next from the same state, and that call has ended within so many turns
   pub as-source : (s : Set) → Fit s → (c : Cursor) → (BadCursor s c → ⊥)
-      → (enough : ℕ) × ((turns : ℕ) → enough < turns → IsCall s c (nexts s c) (called turns s (lengthAt s (c .base)) (stateOf s c) (c .last)))
+      → (enough : ℕ)
+      × ((turns : ℕ) → enough < turns → IsCall s c (nexts s c) (called turns s (lengthAt s (c .base)) (stateOf s c) (c .last)))
   -- a cursor that start or next made is never bad, on every fit set
   pub made-never-bad : (s : Set) → Fit s → (c : Cursor) → Made s c → BadCursor s c → ⊥
   pub looking-accepted : (s : Set) → Fit s → Accepted s → (t hash key : ℕ) → t < tablesOf s → LooksUp s t hash key

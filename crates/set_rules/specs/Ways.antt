@@ -89,6 +89,10 @@ pub data Steps (s : Set) (c : Cursor) : Step → Type 0 where
   by-tree : {p q : Place} {h : ℕ} → Reads s c (tree h) p → firstAt s h < slotsOf (s .names) → After s (c .base) p q
       → Steps s c (record { answer = given (firstAt s h); cursor = moved-to c q (firstAt s h) })
   -- "Base index equal to the base length, at depth 0, is the end: with no such next it is Done, last slot then null"
-  by-end : {from p : Place} → Begins c from → cell (s .cells) (c .last) next ≡ null → Comes s (c .base) from p → p .depth ≡ 0 → index p ≡ lengthAt s (c .base)
-      → Steps s c (record { answer = nothing; cursor = record { base = c .base; depth = 0; indexes = lengthAt s (c .base) ∷ 0 ∷ 0 ∷ 0 ∷ 0 ∷ 0 ∷ 0 ∷ 0 ∷ []; last = null } })
+  by-end : {from p : Place} → Begins c from → cell (s .cells) (c .last) next ≡ null → Comes s (c .base) from p → p .depth ≡ 0
+      → index p ≡ lengthAt s (c .base)
+      → Steps s c (record {
+        answer = nothing;
+        cursor = record { base = c .base; depth = 0; indexes = lengthAt s (c .base) ∷ 0 ∷ 0 ∷ 0 ∷ 0 ∷ 0 ∷ 0 ∷ 0 ∷ []; last = null };
+      })
   lost : Strays s c → Steps s c (record { answer = refused 9; cursor = c })

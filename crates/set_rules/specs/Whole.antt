@@ -15,7 +15,8 @@ pub data Gives (s : Set) : ℕ → ℕ → List ℕ → Type 0 where
   of-none : {k i : ℕ} → binAt s k i ≡ empty → Gives s k i []
   of-list : {k i a : ℕ} {l : List ℕ} → binAt s k i ≡ list a → Listed (slotsOf (s .names)) (s .cells) a l → Gives s k i l
   of-tree : {k i h : ℕ} {l : List ℕ} → binAt s k i ≡ tree h → Listed (slotsOf (s .names)) (s .cells) (firstAt s h) l → Gives s k i l
-  of-moved : {k i : ℕ} {l m : List ℕ} → binAt s k i ≡ moved → suc k < tablesOf s → Gives s (suc k) i l → Gives s (suc k) (i + lengthAt s k) m
+  of-moved : {k i : ℕ} {l m : List ℕ} → binAt s k i ≡ moved → suc k < tablesOf s → Gives s (suc k) i l
+      → Gives s (suc k) (i + lengthAt s k) m
       → Gives s k i (l ++ m)
 
 -- What the bins of table t give, from bin i on to the end.

@@ -52,7 +52,8 @@ abbrev pub countAt : Set → ℕ → ℕ
 countAt s h = getD (s .heads) (3 * h + 2) null
 
 -- "There are 1 to 8 tables, at most 4,096 slots and 4,096 tree headers. Table 0 has a power of two of bins, each later table twice the
--- one before, the last at most 4,096." Bins are as many as the lengths add up to; a set may have no slot and no header. What is not fit is 1.
+-- one before, the last at most 4,096." Bins are as many as the lengths add up to; a set may have no slot and no header.
+-- What is not fit is 1.
 pub record Fit (s : Set) : Type 0 where
   pub least : 1 ≤ tablesOf s
   pub most : tablesOf s ≤ 8

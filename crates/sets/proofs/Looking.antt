@@ -33,10 +33,12 @@ module _ (s : Set) (hash key k : ℕ) {r : Counted} (i : counted (forwarded (tab
   pub at-bad : bad ≡ homeBin s k hash → withLooks 0 (refused 9) ≡ r
   at-bad e = ap counted (sym (turn s hash key k l e)) ∙ i
 
-  pub at-list : {p : ℕ} → list p ≡ homeBin s k hash → {a : Counted} → a ≡ counted (listed (s .names) (s .cells) (slotsOf (s .names)) p hash key) → a ≡ r
+  pub at-list : {p : ℕ} → list p ≡ homeBin s k hash → {a : Counted}
+      → a ≡ counted (listed (s .names) (s .cells) (slotsOf (s .names)) p hash key) → a ≡ r
   at-list e h = h ∙ ap counted (sym (turn s hash key k l e)) ∙ i
 
-  pub at-tree : {h root : ℕ} → tree h ≡ homeBin s k hash → root ≡ getD (s .heads) (3 * h + 0) null → {a : Counted} → a ≡ counted (found (s .names) (s .cells) root hash key) → a ≡ r
+  pub at-tree : {h root : ℕ} → tree h ≡ homeBin s k hash → root ≡ getD (s .heads) (3 * h + 0) null → {a : Counted}
+      → a ≡ counted (found (s .names) (s .cells) root hash key) → a ≡ r
   at-tree {h} e f g = g ∙ (rw (f, add-zero (3 * h)) (ap counted (sym (turn s hash key k l e)) ∙ i))
 
   pub at-last : moved ≡ homeBin s k hash → tablesOf s ≤ k + 1 → withLooks 0 (refused 9) ≡ r
@@ -55,7 +57,8 @@ module _ (s : Set) (t hash key : ℕ) {b : Bool} (e : b ≡ fits s) where
   unfolding lookups
   unknown f h = simp (← e, f, le-ltb _ _ h)
 
-  pub searched : b ≡ true → t < tablesOf s → {a : Counted} → a ≡ counted (forwarded (tablesOf s - t) s t hash key) → a ≡ counted (lookups s t hash key)
+  pub searched : b ≡ true → t < tablesOf s → {a : Counted} → a ≡ counted (forwarded (tablesOf s - t) s t hash key)
+      → a ≡ counted (lookups s t hash key)
   unfolding lookups
   searched f h i = rw (← e, f, lt-ltb _ _ h) i
 

@@ -21,12 +21,14 @@ levels-none (suc d) lengths base x h = absurd (omega arith)
 
 levels-some : (d : ℕ) (lengths : List ℕ) (base : ℕ) (x : List ℕ) → 0 < d
     → levelsFine d lengths base x
-    ≡ pick (levelFine (getD lengths (base + (d - 1)) 0) (getD lengths (base + d) 0) (getD x (d - 1) 0) (getD x d 0)) (levelsFine (d - 1) lengths base x) false
+    ≡ pick (levelFine (getD lengths (base + (d - 1)) 0) (getD lengths (base + d) 0) (getD x (d - 1) 0) (getD x d 0))
+    (levelsFine (d - 1) lengths base x) false
 unfolding levelsFine
 levels-some zero lengths base x h = absurd (omega arith)
 levels-some (suc d) lengths base x h = rw sub-one
 
-module _ (lengths : List ℕ) (base : ℕ) (x : List ℕ) (d : ℕ) {r : Bool} (inv : levelsFine d lengths base x ≡ r) (more : 0 < d) {lower upper k i : ℕ}
+module _ (lengths : List ℕ) (base : ℕ) (x : List ℕ) (d : ℕ) {r : Bool} (inv : levelsFine d lengths base x ≡ r) (more : 0 < d)
+    {lower upper k i : ℕ}
     (a : lower ≡ getD lengths (base + d) 0)
     (b : k ≡ getD x d 0)
     (c : upper ≡ getD lengths (base + (d - 1)) 0)
@@ -45,7 +47,8 @@ module _ (lengths : List ℕ) (base : ℕ) (x : List ℕ) (d : ℕ) {r : Bool} (
 
 -- The places after one.
 module _ (lengths : List ℕ) (base : ℕ) (x : List ℕ) where
-  pub advanced-none : (d : ℕ) {p : Place} → advanced d lengths base x ≡ p → d ≤ 0 → {first : ℕ} → first ≡ getD x 0 0 → {y : List ℕ} → y ≡ set x 0 (first + 1) → place 0 y ≡ p
+  pub advanced-none : (d : ℕ) {p : Place} → advanced d lengths base x ≡ p → d ≤ 0 → {first : ℕ} → first ≡ getD x 0 0 → {y : List ℕ}
+      → y ≡ set x 0 (first + 1) → place 0 y ≡ p
   unfolding advanced
   advanced-none zero i h e f = rw (f, e) i
   advanced-none (suc d) i h e f = absurd (omega arith)

@@ -45,7 +45,8 @@ module _ (l : List ℕ) where
 
 -- The thirteen powers, 1 and 2 by range.
 pub powers : (x : ℕ)
-    → (x ≡ 4) ⊎ ((x ≡ 8) ⊎ ((x ≡ 16) ⊎ ((x ≡ 32) ⊎ ((x ≡ 64) ⊎ ((x ≡ 128) ⊎ ((x ≡ 256) ⊎ ((x ≡ 512) ⊎ ((x ≡ 1024) ⊎ ((x ≡ 2048) ⊎ (x ≡ 4096))))))))))
+    → (x ≡ 4)
+    ⊎ ((x ≡ 8) ⊎ ((x ≡ 16) ⊎ ((x ≡ 32) ⊎ ((x ≡ 64) ⊎ ((x ≡ 128) ⊎ ((x ≡ 256) ⊎ ((x ≡ 512) ⊎ ((x ≡ 1024) ⊎ ((x ≡ 2048) ⊎ (x ≡ 4096))))))))))
     → true ≡ doubling 13 x 1
 unfolding doubling
 powers x (inl e) = rw e
@@ -69,7 +70,9 @@ low-powers x a b = go (ℕ-discrete x 1)
     go (no n) = let z : x ≡ 2 = omega arith in rw z
 
 pub no-power : (x : ℕ)
-    → ((x ≡ 4) ⊎ ((x ≡ 8) ⊎ ((x ≡ 16) ⊎ ((x ≡ 32) ⊎ ((x ≡ 64) ⊎ ((x ≡ 128) ⊎ ((x ≡ 256) ⊎ ((x ≡ 512) ⊎ ((x ≡ 1024) ⊎ ((x ≡ 2048) ⊎ (x ≡ 4096)))))))))) → ⊥)
+    → ((x ≡ 4)
+    ⊎ ((x ≡ 8) ⊎ ((x ≡ 16) ⊎ ((x ≡ 32) ⊎ ((x ≡ 64) ⊎ ((x ≡ 128) ⊎ ((x ≡ 256) ⊎ ((x ≡ 512) ⊎ ((x ≡ 1024) ⊎ ((x ≡ 2048) ⊎ (x ≡ 4096))))))))))
+    → ⊥)
     → (x ≢ 1) → (x ≢ 2)
     → false ≡ doubling 13 x 1
 unfolding doubling

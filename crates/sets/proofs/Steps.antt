@@ -12,7 +12,8 @@ use Rattle.slots.specs.Words.{null, pick, left, right, next, cell}
 use Rattle.slots.specs.Answers.{Value, none, some}
 use Rattle.tree_rules.specs.Rules.{then}
 use Rattle.set_rules.specs.Words.{Set, fits, tablesOf, lengthAt, Bin, empty, moved, bad, list, tree, binAt}
-use Rattle.set_rules.specs.Accepting.{isHome, samePair, unlike, listSlotFine, listFine, isOwn, chainOwn, treeHome, isBlank, filled, namesHeader}
+use Rattle.set_rules.specs.Accepting.{isHome, samePair, unlike, listSlotFine, listFine, isOwn, chainOwn, treeHome, isBlank, filled}
+use Rattle.set_rules.specs.Accepting.{namesHeader}
 use Rattle.set_rules.specs.Accepting.{treeFine, wellPlaced, ownFine, isMoved, binAsks, binFine, belowFine, tableFine}
 use Rattle.set_rules.proofs.Fit.{fits-fit, length-bound}
 use Rattle.set_rules.proofs.Forest.{row-found}
@@ -22,7 +23,8 @@ use Rattle.sets.specs.Room.{Room}
 pub room-near : {lengths : List ℕ} {left k i : ℕ} → Room lengths left k i → left ≢ 0 → Room lengths (left - 1) (k + 1) i
 room-near r d = record { tables = omega (arith, r .tables); index = omega (arith, r .index); lengths-most = r .lengths-most }
 
-pub room-far : {lengths : List ℕ} {left k i len : ℕ} → Room lengths left k i → left ≢ 0 → len ≡ getD lengths k 0 → Room lengths (left - 1) (k + 1) (i + len)
+pub room-far : {lengths : List ℕ} {left k i len : ℕ} → Room lengths left k i → left ≢ 0 → len ≡ getD lengths k 0
+    → Room lengths (left - 1) (k + 1) (i + len)
 room-far {k = k} r d e =
     record { tables = omega (arith, r .tables); index = omega (arith, r .index, r .lengths-most k); lengths-most = r .lengths-most }
 
@@ -59,12 +61,14 @@ module _ (names cells : List ℕ) (len i x : ℕ) where
   list-spent zero d e = simp (ne-eqb x null d)
   list-spent (suc v) d e = absurd (omega arith)
 
-  pub list-wrong : (v : ℕ) → x ≢ null → v ≢ 0 → {b : Bool} → b ≡ listSlotFine (v - 1) names cells len i x → b ≡ false → none ≡ listFine v names cells len i x
+  pub list-wrong : (v : ℕ) → x ≢ null → v ≢ 0 → {b : Bool} → b ≡ listSlotFine (v - 1) names cells len i x → b ≡ false
+      → none ≡ listFine v names cells len i x
   unfolding listFine
   list-wrong zero d n e f = absurd (n refl)
   list-wrong (suc v) d n e f = let g = rw sub-one at e in rw (ne-eqb x null d, ← g, f)
 
-  pub list-on : (v : ℕ) → x ≢ null → v ≢ 0 → {b : Bool} → b ≡ listSlotFine (v - 1) names cells len i x → b ≡ true → {y : ℕ} → y ≡ cell cells x next
+  pub list-on : (v : ℕ) → x ≢ null → v ≢ 0 → {b : Bool} → b ≡ listSlotFine (v - 1) names cells len i x → b ≡ true → {y : ℕ}
+      → y ≡ cell cells x next
       → listFine (v - 1) names cells len i y ≡ listFine v names cells len i x
   unfolding listFine
   list-on zero d n e f h = absurd (n refl)
@@ -80,7 +84,8 @@ module _ (names cells : List ℕ) (len i x : ℕ) where
   own-spent zero d e = simp (ne-eqb x null d)
   own-spent (suc v) d e = absurd (omega arith)
 
-  pub own-wrong : (v : ℕ) → x ≢ null → v ≢ 0 → {b : Bool} → b ≡ isOwn names cells len i x → b ≡ false → false ≡ chainOwn v names cells len i x
+  pub own-wrong : (v : ℕ) → x ≢ null → v ≢ 0 → {b : Bool} → b ≡ isOwn names cells len i x → b ≡ false
+      → false ≡ chainOwn v names cells len i x
   unfolding chainOwn
   own-wrong zero d n e f = absurd (n refl)
   own-wrong (suc v) d n e f = rw (ne-eqb x null d, ← e, f)
@@ -104,7 +109,8 @@ module _ (names cells : List ℕ) (len i x : ℕ) where
   pub home-on : (depth : ℕ) → x ≢ null → depth ≢ 0
       → treeHome depth names cells len i x
       ≡ pick (isHome names len i x)
-      (pick (treeHome (depth - 1) names cells len i (cell cells x left)) (treeHome (depth - 1) names cells len i (cell cells x right)) false)
+      (pick (treeHome (depth - 1) names cells len i (cell cells x left))
+      (treeHome (depth - 1) names cells len i (cell cells x right)) false)
       false
   unfolding treeHome
   home-on zero d n = absurd (n refl)
@@ -138,7 +144,8 @@ filled-read heads h e f g k l =
 
 module _ (s : Set) where
   -- A tree bin reads the three words of its header.
-  pub own-tree : (len i h v : ℕ) {root first count : ℕ} → root ≡ getD (s .heads) (3 * h + 0) null → first ≡ getD (s .heads) (3 * h + 1) null → count ≡ getD (s .heads) (3 * h + 2) null
+  pub own-tree : (len i h v : ℕ) {root first count : ℕ} → root ≡ getD (s .heads) (3 * h + 0) null → first ≡ getD (s .heads) (3 * h + 1) null
+      → count ≡ getD (s .heads) (3 * h + 2) null
       → {o : Value} → o ≡ treeFine (s .names) (s .cells) len i root first count v → o ≡ ownFine s len i (tree h) v
   unfolding ownFine
   own-tree len i h v e f g k = let z : 3 * h + 0 ≡ 3 * h = omega arith in let y = rw z at e in rw (← y, ← f, ← g) k
@@ -149,20 +156,24 @@ module _ (s : Set) where
   below-none (suc left) k i may v e = absurd (omega arith)
 
   below-on : (left k i : ℕ) (may : Bool) (v : ℕ) → left ≢ 0
-      → belowFine left s k i may v ≡ then (binFine (left - 1) s (k + 1) i may v) (λ w. binFine (left - 1) s (k + 1) (i + lengthAt s k) may w)
+      → belowFine left s k i may v
+      ≡ then (binFine (left - 1) s (k + 1) i may v) (λ w. binFine (left - 1) s (k + 1) (i + lengthAt s k) may w)
   unfolding belowFine binFine
   below-on zero k i may v d = absurd (d refl)
   below-on (suc left) k i may v d = rw (sub-one, add-one)
 
-  pub below-wrong : (left k i : ℕ) (may : Bool) (v : ℕ) → left ≢ 0 → none ≡ binFine (left - 1) s (k + 1) i may v → none ≡ belowFine left s k i may v
+  pub below-wrong : (left k i : ℕ) (may : Bool) (v : ℕ) → left ≢ 0 → none ≡ binFine (left - 1) s (k + 1) i may v
+      → none ≡ belowFine left s k i may v
   below-wrong left k i may v d e = sym (below-on left k i may v d ∙ rw (← e))
 
-  pub below-both : (left k i : ℕ) (may : Bool) (v : ℕ) → left ≢ 0 → {len : ℕ} → len ≡ lengthAt s k → {rest : ℕ} → some rest ≡ binFine (left - 1) s (k + 1) i may v
+  pub below-both : (left k i : ℕ) (may : Bool) (v : ℕ) → left ≢ 0 → {len : ℕ} → len ≡ lengthAt s k → {rest : ℕ}
+      → some rest ≡ binFine (left - 1) s (k + 1) i may v
       → {o : Value} → o ≡ binFine (left - 1) s (k + 1) (i + len) may rest → o ≡ belowFine left s k i may v
   below-both left k i may v d l e f = f ∙ sym (below-on left k i may v d ∙ rw (← e, ← l))
 
   -- The list or tree of a bin reads no table.
-  own-same : (len i : ℕ) (b : Bin) (v : ℕ) → ownFine (record { lengths = []; bins = []; heads = s .heads; names = s .names; cells = s .cells }) len i b v ≡ ownFine s len i b v
+  own-same : (len i : ℕ) (b : Bin) (v : ℕ)
+      → ownFine (record { lengths = []; bins = []; heads = s .heads; names = s .names; cells = s .cells }) len i b v ≡ ownFine s len i b v
   unfolding ownFine
   own-same len i empty v = refl
   own-same len i moved v = refl
@@ -176,11 +187,13 @@ module _ (s : Set) where
     bin-misplaced g = rw (← e, ← f, g)
 
     module _ (g : stands ≡ true) {len : ℕ} (l : len ≡ lengthAt s k) where
-      pub bin-wrong : none ≡ ownFine (record { lengths = []; bins = []; heads = s .heads; names = s .names; cells = s .cells }) len i b v → none ≡ binFine left s k i may v
+      pub bin-wrong : none ≡ ownFine (record { lengths = []; bins = []; heads = s .heads; names = s .names; cells = s .cells }) len i b v
+          → none ≡ binFine left s k i may v
       unfolding binFine binAsks
       bin-wrong o = let p : none ≡ ownFine s len i b v = o ∙ own-same len i b v in rw (← e, ← f, g, ← l, ← p)
 
-      pub bin-on : {rest : ℕ} → some rest ≡ ownFine (record { lengths = []; bins = []; heads = s .heads; names = s .names; cells = s .cells }) len i b v
+      pub bin-on : {rest : ℕ}
+          → some rest ≡ ownFine (record { lengths = []; bins = []; heads = s .heads; names = s .names; cells = s .cells }) len i b v
           → {opened : Bool} → opened ≡ isMoved b → {o : Value} → o ≡ belowFine left s k i opened rest → o ≡ binFine left s k i may v
       unfolding binFine binAsks
       bin-on {rest} o m r = let p : some rest ≡ ownFine s len i b v = o ∙ own-same len i b v in rw (← e, ← f, g, ← l, ← p, ← m) r
@@ -198,7 +211,8 @@ module _ (s : Set) where
   pub table-wrong : (i v : ℕ) → 0 < i → none ≡ binFine (tablesOf s - 1) s 0 (i - 1) true v → none ≡ tableFine i s v
   table-wrong i v h e = sym (table-on i v h ∙ rw (← e))
 
-  pub table-step : (i v : ℕ) → 0 < i → {rest : ℕ} → some rest ≡ binFine (tablesOf s - 1) s 0 (i - 1) true v → tableFine (i - 1) s rest ≡ tableFine i s v
+  pub table-step : (i v : ℕ) → 0 < i → {rest : ℕ} → some rest ≡ binFine (tablesOf s - 1) s 0 (i - 1) true v
+      → tableFine (i - 1) s rest ≡ tableFine i s v
   table-step i v h e = sym (table-on i v h ∙ rw (← e))
 
   module _ (fine : fits s ≡ true) where

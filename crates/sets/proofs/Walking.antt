@@ -14,10 +14,12 @@ use Rattle.slots.specs.Answers.{given, refused}
 use Rattle.set_rules.specs.Words.{Set, tablesOf, lengthAt, headersIn, begins, fits, Bin, empty, moved, bad, list, tree, binOf}
 use Rattle.set_rules.proofs.Fit.{fits-fit}
 use Rattle.set_rules.specs.Cursor.{Cursor, Step, lone, blank, starts, fineCursor}
-use Rattle.set_rules.specs.Walk.{Place, place, trimmed, advanced, InTables, Sought, at, ended, lost, turnsIn, standing, stepped, stepsOn, nexts}
+use Rattle.set_rules.specs.Walk.{Place, place, trimmed, advanced, InTables, Sought, at, ended, lost, turnsIn, standing, stepped, stepsOn}
+use Rattle.set_rules.specs.Walk.{nexts}
 use Rattle.set_rules.proofs.Standing.{inside}
 use Rattle.set_rules.proofs.Cursors.{fine-right, right-stands}
-use Rattle.set_rules.proofs.Seeking.{bare, no-cells, leftAt, seeks, at-end, at-empty, at-bad, at-list, at-moved, at-last, at-tree, at-stray, falls-onward, falls-below, good-onward, good-below}
+use Rattle.set_rules.proofs.Seeking.{bare, no-cells, leftAt, seeks, at-end, at-empty, at-bad, at-list, at-moved, at-last, at-tree, at-stray}
+use Rattle.set_rules.proofs.Seeking.{falls-onward, falls-below, good-onward, good-below}
 use Rattle.tree_rules.specs.Find.{slotsOf}
 
 -- The loop from here comes to what it comes to from the start.
@@ -25,11 +27,13 @@ pub record Going (s : Set) (base : ℕ) (from here : Place) : Type 0 where
   pub good : InTables (s .lengths) base here
   pub same : seeks s base here ≡ seeks s base from
 
-module _ (s : Set) (base d : ℕ) (x : List ℕ) (from : Place) (g : Going s base from (place d x)) {i len : ℕ} (e : i ≡ getD x d 0) (f : len ≡ lengthAt s (base + d)) where
+module _ (s : Set) (base d : ℕ) (x : List ℕ) (from : Place) (g : Going s base from (place d x)) {i len : ℕ} (e : i ≡ getD x d 0)
+    (f : len ≡ lengthAt s (base + d)) where
   pub stops : len ≤ i → ended ≡ seeks s base from
   stops l = sym (at-end s base (place d x) (omega (arith, e, f))) ∙ g .same
 
-  module _ (l : i < len) {b : Bin} (k : b ≡ binOf (slotsOf (s .names)) (headersIn s) (getD (s .bins) (begins (s .lengths) (base + d) + i) 0)) where
+  module _ (l : i < len) {b : Bin}
+      (k : b ≡ binOf (slotsOf (s .names)) (headersIn s) (getD (s .bins) (begins (s .lengths) (base + d) + i) 0)) where
     here : getD x d 0 < lengthAt s (base + d)
     here = omega (arith, e, f)
 
@@ -41,7 +45,11 @@ module _ (s : Set) (base d : ℕ) (x : List ℕ) (from : Place) (g : Going s bas
     bin = rw e at k
 
     pub passes : b ≡ empty → {q : Place} → q ≡ advanced d (s .lengths) base x → Going s base from q
-    passes t h = rw h (record { good = good-onward s base (place d x) (g .good) here; same = sym (at-empty s base (place d x) (g .good) here (sym bin ∙ t)) ∙ g .same })
+    passes t h =
+        rw h (record {
+          good = good-onward s base (place d x) (g .good) here;
+          same = sym (at-empty s base (place d x) (g .good) here (sym bin ∙ t)) ∙ g .same;
+        })
 
     pub passes-less : {q : Place} → q ≡ advanced d (s .lengths) base x → leftAt s base q < leftAt s base (place d x)
     passes-less h = rw h (falls-onward s base (place d x) (g .good) here)
@@ -50,9 +58,13 @@ module _ (s : Set) (base d : ℕ) (x : List ℕ) (from : Place) (g : Going s bas
     descends t m h =
         let z : base + suc d < tablesOf s = omega arith in
         rw (h, e, add-one)
-        (record { good = good-below s base (place d x) (g .good) here z; same = sym (at-moved s base (place d x) (g .good) here (sym bin ∙ t) z) ∙ g .same })
+        (record {
+          good = good-below s base (place d x) (g .good) here z;
+          same = sym (at-moved s base (place d x) (g .good) here (sym bin ∙ t) z) ∙ g .same;
+        })
 
-    pub descends-less : base + d + 1 < tablesOf s → {y : List ℕ} → y ≡ set x (d + 1) i → leftAt s base (place (d + 1) y) < leftAt s base (place d x)
+    pub descends-less : base + d + 1 < tablesOf s → {y : List ℕ} → y ≡ set x (d + 1) i
+        → leftAt s base (place (d + 1) y) < leftAt s base (place d x)
     descends-less m h = rw (h, e, add-one) (falls-below s base (place d x) (g .good) here (omega arith))
 
     pub no-table : b ≡ moved → tablesOf s ≤ base + d + 1 → lost ≡ seeks s base from
@@ -96,7 +108,8 @@ module _ (s : Set) (t : ℕ) {b : Bool} (e : b ≡ fits s) where
   unfolding starts
   start-unknown f l = rw (← e, f, le-ltb _ _ l)
 
-  pub start-made : b ≡ true → t < tablesOf s → record { answer = given 1; cursor = record { base = t; depth = 0; indexes = lone 0; last = null } } ≡ starts s t
+  pub start-made : b ≡ true → t < tablesOf s
+      → record { answer = given 1; cursor = record { base = t; depth = 0; indexes = lone 0; last = null } } ≡ starts s t
   unfolding starts
   start-made f l = rw (← e, f, lt-ltb _ _ l)
 
@@ -111,7 +124,9 @@ module _ (s : Set) (c : Cursor) {b : Bool} (e : b ≡ fits s) where
     next-bad h = rw (← e, f, ← g, h)
 
     pub next-stands : r ≡ true → InTables (s .lengths) (c .base) (standing c)
-    next-stands h = right-stands s (fits-fit s (sym e ∙ f)) c (fine-right (s .lengths) (slotsOf (s .names)) (c .base) (c .depth) (c .indexes) (c .last) (sym g ∙ h))
+    next-stands h =
+        right-stands s (fits-fit s (sym e ∙ f)) c
+        (fine-right (s .lengths) (slotsOf (s .names)) (c .base) (c .depth) (c .indexes) (c .last) (sym g ∙ h))
 
     pub next-walked : r ≡ true → {o : Step} → o ≡ stepsOn s c → o ≡ nexts s c
     unfolding nexts

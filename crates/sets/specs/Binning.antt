@@ -1,4 +1,5 @@
--- Of the words' code beside its contracts: its answers are told apart, `bini` refuses exactly length 0, and each public routine has one outcome.
+-- Of the words' code beside its contracts: its answers are told apart, `bini` refuses exactly length 0,
+-- and each public routine has one outcome.
 use mathlib.Core.Path.{_≡_}
 use mathlib.Core.Logic.{_≢_, _↔_}
 use mathlib.Core.List.{List}

@@ -75,7 +75,9 @@ module _ (w d : ℕ) (l : List ℕ) where
   word-same i f v r h = getD-set-same l (w * i + f) v d (omega (arith, leb-true (w * i + w) (length l) r, ltb-true f w h))
 
   pub word-across : (i f v j g : ℕ) → eqb f g ≡ false → ltb f w ≡ true → ltb g w ≡ true → word w d (store w l i f v) j g ≡ word w d l j g
-  word-across i f v j g e hf hg = getD-set-other l (w * i + f) (w * j + g) v d (apart-fields w j i g f (ltb-true _ _ hg) (ltb-true _ _ hf) (λ z. eqb-false _ _ e (sym z)))
+  word-across i f v j g e hf hg =
+      getD-set-other l (w * i + f) (w * j + g) v d
+      (apart-fields w j i g f (ltb-true _ _ hg) (ltb-true _ _ hf) (λ z. eqb-false _ _ e (sym z)))
 
   pub word-else : (i f v j g : ℕ) → j ≢ i → ltb f w ≡ true → ltb g w ≡ true → word w d (store w l i f v) j g ≡ word w d l j g
   word-else i f v j g n hf hg = getD-set-other l (w * i + f) (w * j + g) v d (apart-slots w j i g f (ltb-true _ _ hg) (ltb-true _ _ hf) n)
@@ -95,7 +97,8 @@ pub cell-same : (l : List ℕ) (i f v : ℕ) → roomy fields l i ≡ true → l
 unfolding cell write
 cell-same l i f v r h = word-same fields null l i f v r h
 
-pub cell-across : (l : List ℕ) (i f v j g : ℕ) → eqb f g ≡ false → ltb f fields ≡ true → ltb g fields ≡ true → cell (write l i f v) j g ≡ cell l j g
+pub cell-across : (l : List ℕ) (i f v j g : ℕ) → eqb f g ≡ false → ltb f fields ≡ true → ltb g fields ≡ true
+    → cell (write l i f v) j g ≡ cell l j g
 unfolding cell write
 cell-across l i f v j g e hf hg = word-across fields null l i f v j g e hf hg
 

@@ -61,7 +61,8 @@ module _ (cells : List ℕ) where
   unfolding risen
   rise-past names d e i h (at-null z) m = sym (rise-null names cells m i e z) ∙ rise-null names cells m i d z
   rise-past names (suc d) zero i h (at-slot n a b) m = absurd (omega arith)
-  rise-past names (suc d) (suc e) i h (at-slot n a b) m = rw (rise-past names d e _ (omega arith) a m, rise-past names d e _ (omega arith) b i)
+  rise-past names (suc d) (suc e) i h (at-slot n a b) m =
+      rw (rise-past names d e _ (omega arith) a m, rise-past names d e _ (omega arith) b i)
 
   calm-past : (d e i : ℕ) → d ≤ e → Low cells d i → allCalm e cells i ≡ allCalm d cells i
   unfolding allCalm
@@ -90,7 +91,8 @@ module _ (cells : List ℕ) where
 
   evened : (depth i b : ℕ) → i ≢ null → levelled (suc depth) cells i ≡ some b → Evened depth i b
   unfolding levelled
-  evened depth i b n e = go (levelled depth cells (cell cells i left)) refl (levelled depth cells (cell cells i right)) refl (rw (ne-eqb i null n) at e)
+  evened depth i b n e =
+      go (levelled depth cells (cell cells i left)) refl (levelled depth cells (cell cells i right)) refl (rw (ne-eqb i null n) at e)
     where
       same : (k m : ℕ) → levelled depth cells (cell cells i left) ≡ some k → levelled depth cells (cell cells i right) ≡ some m
           → (t : Bool) → eqb k m ≡ t → pick t (some (pick (eqb (cell cells i state) 2) k (k + 1))) none ≡ some b → Evened depth i b
@@ -114,7 +116,9 @@ module _ (cells : List ℕ) where
   level-low : (depth i b : ℕ) → levelled depth cells i ≡ some b → Low cells depth i
   unfolding levelled
   level-low zero i b e = null-or i at-null (λ n. refuted (rw (ne-eqb i null n) at e))
-  level-low (suc depth) i b e = null-or i at-null (λ n. (let k = evened depth i b n e in at-slot n (level-low depth _ _ (k .lefts)) (level-low depth _ _ (k .rights))))
+  level-low (suc depth) i b e =
+      null-or i at-null
+      (λ n. (let k = evened depth i b n e in at-slot n (level-low depth _ _ (k .lefts)) (level-low depth _ _ (k .rights))))
 
   -- One level of T5 taken apart.
   three : (a b c : Bool) → pick a (pick b c false) false ≡ true → (a ≡ true) × (b ≡ true) × (c ≡ true)
@@ -171,7 +175,8 @@ module _ (cells : List ℕ) where
   unfolding height
   drawn-low (at-null z) = Low.at-null z
   drawn-low (at-slot {l = l} {r} n x y) =
-      Low.at-slot n (lower _ _ _ (higher-left (height l) (height r)) (drawn-low x)) (lower _ _ _ (higher-right (height l) (height r)) (drawn-low y))
+      Low.at-slot n (lower _ _ _ (higher-left (height l) (height r)) (drawn-low x))
+      (lower _ _ _ (higher-right (height l) (height r)) (drawn-low y))
 
   drawn-colour : {i : ℕ} {t : Tree} → Drawn i t → eqb (cell cells i state) 2 ≡ false → colour t ≡ black
   drawn-colour (at-null z) e = refl
@@ -186,7 +191,8 @@ module _ (cells : List ℕ) where
     where
       go : (t : Bool) → eqb (cell cells i state) 2 ≡ t → isCalm cells i ≡ true → Calm l → Calm r → Calm (node (pick t red black) l i r)
       go true s q a b =
-          let o = black-children (eqb (cell cells (cell cells i left) state) 2) (eqb (cell cells (cell cells i right) state) 2) (rw s at q) in
+          let o =
+          black-children (eqb (cell cells (cell cells i left) state) 2) (eqb (cell cells (cell cells i right) state) 2) (rw s at q) in
           redly (drawn-colour x (o .0)) (drawn-colour y (o .1)) a b
       go false s q a b = darkly a b
 
@@ -202,10 +208,12 @@ module _ (n : ℕ) (cells : List ℕ) where
   pub stepped : (f q i v rest : ℕ) → i ≢ null → reached f n cells q i v ≡ some rest → Stepped q i v rest
   unfolding reached
   stepped zero q i v rest d e = refuted (rw (ne-eqb i null d) at e)
-  stepped (suc f) q i v rest d e = go (ltb i n) (eqb v 0) refl (stands cells q i) (reached f n cells i (cell cells i left) (v - 1)) refl (rw (ne-eqb i null d) at e)
+  stepped (suc f) q i v rest d e =
+      go (ltb i n) (eqb v 0) refl (stands cells q i) (reached f n cells i (cell cells i left) (v - 1)) refl (rw (ne-eqb i null d) at e)
     where
       go : (a b : Bool) → eqb v 0 ≡ b → (c : Bool) → (u : Value) → reached f n cells i (cell cells i left) (v - 1) ≡ u
-          → pick a (pick b none (pick c (then u (λ rest. reached f n cells i (cell cells i right) rest)) none)) none ≡ some rest → Stepped q i v rest
+          → pick a (pick b none (pick c (then u (λ rest. reached f n cells i (cell cells i right) rest)) none)) none ≡ some rest
+          → Stepped q i v rest
       go false b x c u y e = refuted e
       go true true x c u y e = refuted e
       go true false x false u y e = refuted e
@@ -223,7 +231,13 @@ module _ (n : ℕ) (cells : List ℕ) where
   visited f q i v rest (at-null z) r = let x : v ≡ rest = some-is (sym (at-once f q i v z) ∙ r) in omega (arith, x)
   visited f q i v rest (at-slot {l = l} {r = g} d x y) r =
       let t = stepped f q i v rest d r in
-      omega (arith, t .spent, length-node (hue cells i) l i g, visited (t .fuel) i (cell cells i left) (v - 1) (t .between) x (t .lefts), visited (t .fuel) i (cell cells i right) (t .between) rest y (t .rights))
+      omega (
+        arith,
+        t .spent,
+        length-node (hue cells i) l i g,
+        visited (t .fuel) i (cell cells i left) (v - 1) (t .between) x (t .lefts),
+        visited (t .fuel) i (cell cells i right) (t .between) rest y (t .rights),
+      )
 
 module _ (names cells sizes : List ℕ) (root visits : ℕ) (few : visits < 18446744073709551616) where
   abbrev at : ℕ → Judged
@@ -248,7 +262,8 @@ module _ (names cells sizes : List ℕ) (root visits : ℕ) (few : visits < 1844
       go (yes l) = l
       go (no n) = let z : 2 ^ 65 ≤ 2 ^ b = pow-mono {i = 65} (omega arith) in absurd (omega (arith, z, h, few))
 
-  shallow : (depth rest b : ℕ) → reached visits (slotsOf names) cells null root visits ≡ some rest → levelled depth cells root ≡ some b → allCalm depth cells root ≡ true → Low cells 129 root
+  shallow : (depth rest b : ℕ) → reached visits (slotsOf names) cells null root visits ≡ some rest → levelled depth cells root ≡ some b
+      → allCalm depth cells root ≡ true → Low cells 129 root
   shallow depth rest b r e c =
       let t = drawn cells depth root b e in
       let size = visited (slotsOf names) cells visits null root visits rest (t .1) r in
@@ -258,13 +273,16 @@ module _ (names cells sizes : List ℕ) (root visits : ℕ) (few : visits < 1844
 
   deep-enough : (n : ℕ) → 129 ≤ n → at 129 ≡ at n
   deep-enough n h =
-      go (reached visits (slotsOf names) cells null root visits) refl (levelled 129 cells root) refl (levelled n cells root) refl (allCalm n cells root) refl
+      go (reached visits (slotsOf names) cells null root visits) refl (levelled 129 cells root) refl (levelled n cells root) refl
+      (allCalm n cells root) refl
     where
       unlevel : (d : ℕ)
           → breaks
-          ≡ together (reached visits (slotsOf names) cells null root visits) (risen d names cells null root) (allCalm d cells root) none (slotsBelow d cells sizes root)
+          ≡ together (reached visits (slotsOf names) cells null root visits) (risen d names cells null root) (allCalm d cells root) none
+          (slotsBelow d cells sizes root)
       unlevel d =
-          no-level (reached visits (slotsOf names) cells null root visits) (risen d names cells null root) (allCalm d cells root) (slotsBelow d cells sizes root)
+          no-level (reached visits (slotsOf names) cells null root visits) (risen d names cells null root) (allCalm d cells root)
+          (slotsBelow d cells sizes root)
 
       go : (u : Value) → reached visits (slotsOf names) cells null root visits ≡ u → (w : Value) → levelled 129 cells root ≡ w
           → (x : Value) → levelled n cells root ≡ x → (c : Bool) → allCalm n cells root ≡ c → at 129 ≡ at n
@@ -274,7 +292,8 @@ module _ (names cells sizes : List ℕ) (root visits : ℕ) (few : visits < 1844
       go (some rest) p none q (some b) y false z =
           rw (q, z)
           (sym (unlevel 129)
-          ∙ no-calm (reached visits (slotsOf names) cells null root visits) (risen n names cells null root) (levelled n cells root) (slotsBelow n cells sizes root))
+          ∙ no-calm (reached visits (slotsOf names) cells null root visits) (risen n names cells null root) (levelled n cells root)
+          (slotsBelow n cells sizes root))
       go (some rest) p none q (some b) y true z = both-deep 129 n h (shallow n rest b p y z)
 
   pub deepest-enough : (n : ℕ) {depth : ℕ} → depth ≡ deepestOf n → at depth ≡ at n

@@ -10,7 +10,8 @@ use borrow.Author.Tests.{eq-eqb, ne-eqb}
 use Rattle.slots.specs.Words.{null, pick, state, left, right, cell}
 use Rattle.slots.specs.Answers.{Value, none, some}
 use Rattle.tree_rules.specs.Find.{slotsOf}
-use Rattle.tree_rules.specs.Rules.{then, isSome, stands, reached, follows, risen, allCalm, levelled, slotsBelow, rises, coloured, level, allSized, withParts}
+use Rattle.tree_rules.specs.Rules.{then, isSome, stands, reached, follows, risen, allCalm, levelled, slotsBelow, rises, coloured, level}
+use Rattle.tree_rules.specs.Rules.{allSized, withParts}
 use Rattle.tree_rules.specs.Rules.{obeyed, obeyedSized, isCalm}
 use Rattle.tree_rules.specs.Sizes.{hasSize}
 use Rattle.tree_rules.proofs.Sizing.{obeyed-each, sized-both}
@@ -18,15 +19,16 @@ use Rattle.tree_rules.proofs.Visits.{reached-within, reached-fuel, reach-null, 
 use Rattle.tree.specs.Rules.{Judged, obeys, breaks, together, judged, deepestOf}
 use Rattle.tree.proofs.Depth.{no-rise, no-calm, no-level, no-weight, deepest-enough}
 use Rattle.tree.proofs.Weights.{weight-spent}
-use Rattle.tree.proofs.Ruling.{rise-null, rise-zero, rise-on, calm-null, calm-on, level-null, level-on, level-bound, weigh-null, weigh-on}
+use Rattle.tree.proofs.Ruling.{rise-null, rise-zero, rise-on, calm-null, calm-on, level-null, level-on, level-bound, weigh-null}
+use Rattle.tree.proofs.Ruling.{weigh-on}
 
 -- What comes after a part, where it breaks no rule.
 abbrev pub onward : Judged → (ℕ → ℕ → ℕ → Judged) → Judged
 onward (obeys rest last blacks) f = f rest last blacks
 onward breaks f = breaks
 
--- The parts on the left and on the right of a slot, whose own rules hold: follow tells whether it rises from what was read last, has whether
--- its size is a number. The visits that the two parts took tell what they weigh.
+-- The parts on the left and on the right of a slot, whose own rules hold: follow tells whether it rises from what was read last, has
+-- whether its size is a number. The visits that the two parts took tell what they weigh.
 module _ (follow : ℕ → Bool) (red : Bool) (has : ℕ → Bool) (visits : ℕ) where
   abbrev pub joined : ℕ → ℕ → ℕ → ℕ → Judged
   joined a unspent end b = pick (eqb a b) (pick (has (visits - unspent)) (obeys unspent end (pick red a (a + 1))) breaks) breaks
@@ -59,7 +61,8 @@ module _ (follow : ℕ → Bool) (red : Bool) (has : ℕ → Bool) (visits : ℕ
   join : (reach : Value) (rights within : ℕ → Value) → ((k : ℕ) → reach ≡ some k → rights k ≡ within k)
       → (rise rise2 : Value) (calm calm2 : Bool) (level level2 weight weight2 : Value)
       → ((k x : ℕ) → reach ≡ some k → weight ≡ some x → (u y : ℕ) → within k ≡ some u → weight2 ≡ some y → withParts x y ≡ visits - u)
-      → together (then reach rights) (then rise (λ k. pick (follow k) rise2 none)) (pick calm calm2 false) (then level (λ a. evened a level2))
+      → together (then reach rights) (then rise (λ k. pick (follow k) rise2 none)) (pick calm calm2 false)
+      (then level (λ a. evened a level2))
       (then weight (λ x. weighing x weight2))
       ≡ onward (together reach rise calm level weight)
       (λ rest m a. pick (follow m) (onward (together (within rest) rise2 calm2 level2 weight2) (joined a)) breaks)
@@ -96,7 +99,8 @@ module _ (names cells sizes : List ℕ) (q last i depth visits : ℕ) where
   pub walk-deep : i ≢ null → depth ≡ 0 → breaks ≡ judged names cells sizes q last i depth visits
   walk-deep d e =
       rw (← rise-zero names cells last i depth d e)
-      (no-rise (reached visits (slotsOf names) cells q i visits) (allCalm depth cells i) (levelled depth cells i) (slotsBelow depth cells sizes i))
+      (no-rise (reached visits (slotsOf names) cells q i visits) (allCalm depth cells i) (levelled depth cells i)
+      (slotsBelow depth cells sizes i))
 
   module _ (d : i ≢ null) (l : i < slotsOf names) (w : visits ≢ 0) (z : depth ≢ 0) where
     pub walk-wrong : {stand : Bool} → stand ≡ stands cells q i → stand ≡ false → breaks ≡ judged names cells sizes q last i depth visits
@@ -105,7 +109,8 @@ module _ (names cells sizes : List ℕ) (q last i depth visits : ℕ) where
     pub walk-loud : {quiet : Bool} → quiet ≡ isCalm cells i → quiet ≡ false → breaks ≡ judged names cells sizes q last i depth visits
     walk-loud c e =
         rw (calm-on cells i depth d z, ← c, e)
-        (no-calm (reached visits (slotsOf names) cells q i visits) (risen depth names cells last i) (levelled depth cells i) (slotsBelow depth cells sizes i))
+        (no-calm (reached visits (slotsOf names) cells q i visits) (risen depth names cells last i) (levelled depth cells i)
+        (slotsBelow depth cells sizes i))
 
     pub walk-on : {stand quiet : Bool} → stand ≡ stands cells q i → stand ≡ true → quiet ≡ isCalm cells i → quiet ≡ true
         → judged names cells sizes q last i depth visits
@@ -147,17 +152,21 @@ module _ (names cells sizes : List ℕ) (q last i depth visits : ℕ) where
         )))
 
     -- Below the tests of the slot itself: t is the link to its left.
-    module _ {stand quiet : Bool} (s : stand ≡ stands cells q i) (e : stand ≡ true) (c : quiet ≡ isCalm cells i) (f : quiet ≡ true) {t : ℕ} (p : t ≡ cell cells i left) where
-      pub walk-left-breaks : breaks ≡ judged names cells sizes i last t (depth - 1) (visits - 1) → breaks ≡ judged names cells sizes q last i depth visits
+    module _ {stand quiet : Bool} (s : stand ≡ stands cells q i) (e : stand ≡ true) (c : quiet ≡ isCalm cells i) (f : quiet ≡ true) {t : ℕ}
+        (p : t ≡ cell cells i left) where
+      pub walk-left-breaks : breaks ≡ judged names cells sizes i last t (depth - 1) (visits - 1)
+          → breaks ≡ judged names cells sizes q last i depth visits
       walk-left-breaks h = sym (walk-on s e c f ∙ rw (← p, ← h))
 
-      module _ {rest m a : ℕ} (h : obeys rest m a ≡ judged names cells sizes i last t (depth - 1) (visits - 1)) {rising : Bool} (g : rising ≡ follows names m i) where
+      module _ {rest m a : ℕ} (h : obeys rest m a ≡ judged names cells sizes i last t (depth - 1) (visits - 1)) {rising : Bool}
+          (g : rising ≡ follows names m i) where
         pub walk-falls : rising ≡ false → breaks ≡ judged names cells sizes q last i depth visits
         walk-falls k = sym (walk-on s e c f ∙ rw (← p, ← h, ← g, k))
 
         -- r is the link to the right.
         module _ (k : rising ≡ true) {r : ℕ} (o : r ≡ cell cells i right) where
-          pub walk-right-breaks : breaks ≡ judged names cells sizes i i r (depth - 1) rest → breaks ≡ judged names cells sizes q last i depth visits
+          pub walk-right-breaks : breaks ≡ judged names cells sizes i i r (depth - 1) rest
+              → breaks ≡ judged names cells sizes q last i depth visits
           walk-right-breaks y = sym (walk-on s e c f ∙ rw (← p, ← h, ← g, k, ← o, ← y))
 
           module _ {unspent end b : ℕ} (y : obeys unspent end b ≡ judged names cells sizes i i r (depth - 1) rest) where
@@ -179,7 +188,8 @@ module _ (names cells sizes : List ℕ) (q last i depth visits : ℕ) where
 broken : {rest last blacks : ℕ} → obeys rest last blacks ≡ breaks → ⊥
 broken e = let z : _≡_ {A = ℕ} 0 1 = cc in omega arith
 
-parts-of : (reach rise : Value) (calm : Bool) (level weight : Value) {rest last blacks : ℕ} → obeys rest last blacks ≡ together reach rise calm level weight
+parts-of : (reach rise : Value) (calm : Bool) (level weight : Value) {rest last blacks : ℕ}
+    → obeys rest last blacks ≡ together reach rise calm level weight
     → (reach ≡ some rest) × (level ≡ some blacks)
 parts-of none rise calm level weight e = absurd (broken e)
 parts-of (some v) none calm level weight e = absurd (broken e)
@@ -188,10 +198,12 @@ parts-of (some v) (some m) true none weight e = absurd (broken e)
 parts-of (some v) (some m) true (some k) none e = absurd (broken e)
 parts-of (some v) (some m) true (some k) (some x) e = (cc, cc)
 
-module _ (names cells sizes : List ℕ) (q last i depth visits : ℕ) {rest end a : ℕ} (e : obeys rest end a ≡ judged names cells sizes q last i depth visits) where
+module _ (names cells sizes : List ℕ) (q last i depth visits : ℕ) {rest end a : ℕ}
+    (e : obeys rest end a ≡ judged names cells sizes q last i depth visits) where
   parts : (reached visits (slotsOf names) cells q i visits ≡ some rest) × (levelled depth cells i ≡ some a)
   parts =
-      parts-of (reached visits (slotsOf names) cells q i visits) (risen depth names cells last i) (allCalm depth cells i) (levelled depth cells i)
+      parts-of (reached visits (slotsOf names) cells q i visits) (risen depth names cells last i) (allCalm depth cells i)
+      (levelled depth cells i)
       (slotsBelow depth cells sizes i) e
 
   pub walk-blacks : a ≤ depth
@@ -220,7 +232,8 @@ asked (some rest) (some last) true none (some all) = refl
 asked (some rest) (some last) true (some blacks) none = refl
 asked (some rest) (some last) true (some blacks) (some all) = refl
 
-unasked : (weight : Bool) (reach : Value) (rises : Bool) (level : Value) → none ≡ pick weight (then reach (λ rest. pick rises (pick false level none) none)) none
+unasked : (weight : Bool) (reach : Value) (rises : Bool) (level : Value)
+    → none ≡ pick weight (then reach (λ rest. pick rises (pick false level none) none)) none
 unasked false reach rises level = refl
 unasked true none rises level = refl
 unasked true (some rest) true level = refl
@@ -230,9 +243,12 @@ module _ (names cells sizes : List ℕ) (root visits : ℕ) where
   pub red-root : {red : Bool} → red ≡ eqb (cell cells root state) 2 → red ≡ true → none ≡ obeyedSized names cells sizes root visits
   unfolding obeyedSized obeyed coloured
   red-root x e =
-      rw (← x, e) (unasked (allSized (slotsOf names) cells sizes root) (reached visits (slotsOf names) cells null root visits) (rises names cells root) none)
+      rw (← x, e)
+      (unasked (allSized (slotsOf names) cells sizes root) (reached visits (slotsOf names) cells null root visits)
+      (rises names cells root) none)
 
-  pub black-root : {red : Bool} → red ≡ eqb (cell cells root state) 2 → red ≡ false → visits < 18446744073709551616 → {depth : ℕ} → depth ≡ deepestOf (slotsOf names)
+  pub black-root : {red : Bool} → red ≡ eqb (cell cells root state) 2 → red ≡ false → visits < 18446744073709551616 → {depth : ℕ}
+      → depth ≡ deepestOf (slotsOf names)
       → restLeft (judged names cells sizes null null root depth visits) ≡ obeyedSized names cells sizes root visits
   unfolding obeyedSized obeyed rises coloured level allSized
   black-root x e few d =
@@ -249,6 +265,7 @@ pub obeyed-within : (names cells : List ℕ) (root visits : ℕ) {rest : ℕ} �
 obeyed-within names cells root visits {rest} e =
     reached-within (slotsOf names) cells visits null root visits rest (obeyed-each names cells root visits rest (sym e) .reaches)
 
-pub sized-within : (names cells sizes : List ℕ) (root visits : ℕ) {rest : ℕ} → some rest ≡ obeyedSized names cells sizes root visits → rest ≤ visits
+pub sized-within : (names cells sizes : List ℕ) (root visits : ℕ) {rest : ℕ} → some rest ≡ obeyedSized names cells sizes root visits
+    → rest ≤ visits
 sized-within names cells sizes root visits {rest} e =
     obeyed-within names cells root visits (sym (sized-both names cells sizes root visits rest (sym e) .1))

@@ -28,7 +28,8 @@ module _ (names cells : List ℕ) (m i : ℕ) where
 
   pub rise-on : (depth : ℕ) → i ≢ null → depth ≢ 0
       → risen depth names cells m i
-      ≡ then (risen (depth - 1) names cells m (cell cells i left)) (λ k. pick (follows names k i) (risen (depth - 1) names cells i (cell cells i right)) none)
+      ≡ then (risen (depth - 1) names cells m (cell cells i left))
+      (λ k. pick (follows names k i) (risen (depth - 1) names cells i (cell cells i right)) none)
   unfolding risen
   rise-on zero n d = absurd (d refl)
   rise-on (suc depth) n d = rw (ne-eqb i null n, sub-one)
@@ -41,7 +42,8 @@ module _ (cells : List ℕ) (i : ℕ) where
 
   pub calm-on : (depth : ℕ) → i ≢ null → depth ≢ 0
       → allCalm depth cells i
-      ≡ pick (isCalm cells i) (pick (allCalm (depth - 1) cells (cell cells i left)) (allCalm (depth - 1) cells (cell cells i right)) false) false
+      ≡ pick (isCalm cells i)
+      (pick (allCalm (depth - 1) cells (cell cells i left)) (allCalm (depth - 1) cells (cell cells i right)) false) false
   unfolding allCalm
   calm-on zero n d = absurd (d refl)
   calm-on (suc depth) n d = rw (ne-eqb i null n, sub-one)
@@ -53,7 +55,9 @@ module _ (cells : List ℕ) (i : ℕ) where
 
   pub level-on : (depth : ℕ) → i ≢ null → depth ≢ 0
       → levelled depth cells i
-      ≡ then (levelled (depth - 1) cells (cell cells i left)) (λ a. then (levelled (depth - 1) cells (cell cells i right)) (λ b. pick (eqb a b) (some (pick (eqb (cell cells i state) 2) a (a + 1))) none))
+      ≡ then (levelled (depth - 1) cells (cell cells i left))
+      (λ a. then (levelled (depth - 1) cells (cell cells i right))
+      (λ b. pick (eqb a b) (some (pick (eqb (cell cells i state) 2) a (a + 1))) none))
   unfolding levelled
   level-on zero n d = absurd (d refl)
   level-on (suc depth) n d = rw (ne-eqb i null n, sub-one)
@@ -71,7 +75,8 @@ module _ (cells sizes : List ℕ) (i : ℕ) where
   pub weigh-on : (depth : ℕ) → i ≢ null → depth ≢ 0
       → slotsBelow depth cells sizes i
       ≡ then (slotsBelow (depth - 1) cells sizes (cell cells i left))
-      (λ a. then (slotsBelow (depth - 1) cells sizes (cell cells i right)) (λ b. pick (hasSize sizes i (withParts a b)) (some (withParts a b)) none))
+      (λ a. then (slotsBelow (depth - 1) cells sizes (cell cells i right))
+      (λ b. pick (hasSize sizes i (withParts a b)) (some (withParts a b)) none))
   unfolding slotsBelow
   weigh-on zero n d = absurd (d refl)
   weigh-on (suc depth) n d = rw (ne-eqb i null n, sub-one)
@@ -84,14 +89,16 @@ level-bound cells zero i a e = go (eqb i null) e
     go : (b : Bool) → pick b (some 0) none ≡ some a → a ≤ 0
     go true z = omega (arith, some-is z)
     go false z = refuted z
-level-bound cells (suc depth) i a e = go (eqb i null) _ (levelled depth cells (cell cells i right)) e (λ k. level-bound cells depth (cell cells i left) k)
+level-bound cells (suc depth) i a e =
+    go (eqb i null) _ (levelled depth cells (cell cells i right)) e (λ k. level-bound cells depth (cell cells i left) k)
   where
     last : (x y : Bool) (k : ℕ) → k ≤ depth → pick x (some (pick y k (k + 1))) none ≡ some a → a ≤ suc depth
     last true true k h z = omega (arith, some-is z)
     last true false k h z = omega (arith, some-is z)
     last false y k h z = refuted z
 
-    both : (k : ℕ) (v : Value) → k ≤ depth → then v (λ b. pick (eqb k b) (some (pick (eqb (cell cells i state) 2) k (k + 1))) none) ≡ some a → a ≤ suc depth
+    both : (k : ℕ) (v : Value) → k ≤ depth → then v (λ b. pick (eqb k b) (some (pick (eqb (cell cells i state) 2) k (k + 1))) none) ≡ some a
+        → a ≤ suc depth
     both k (some b) h z = last (eqb k b) (eqb (cell cells i state) 2) k h z
     both k none h z = refuted z
 

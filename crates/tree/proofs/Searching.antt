@@ -16,17 +16,20 @@ use Rattle.tree_rules.proofs.Trail.{Runs}
 
 -- A look at a slot of another hash takes the side, at one of the same hash the keys decide.
 module _ (names cells : List ℕ) (p hash key : ℕ) where
-  pub aside : nameOf names p hashPart ≢ hash → on (pick (ltb hash (nameOf names p hashPart)) (cell cells p left) (cell cells p right)) ≡ looked names cells p hash key
+  pub aside : nameOf names p hashPart ≢ hash
+      → on (pick (ltb hash (nameOf names p hashPart)) (cell cells p left) (cell cells p right)) ≡ looked names cells p hash key
   unfolding looked decided
   aside d = go (nameOf names p hashPart) d (ltb hash (nameOf names p hashPart)) refl
     where
       go : (at : ℕ) → at ≢ hash → (b : Bool) → ltb hash at ≡ b
           → on (pick b (cell cells p left) (cell cells p right))
-          ≡ pick b (on (cell cells p left)) (pick (ltb at hash) (on (cell cells p right)) (byKey (nameOf names p keyPart) (cell cells p left) (cell cells p right) key))
+          ≡ pick b (on (cell cells p left))
+          (pick (ltb at hash) (on (cell cells p right)) (byKey (nameOf names p keyPart) (cell cells p left) (cell cells p right) key))
       go at d true e = refl
       go at d false e = rw (lt-ltb at hash (omega (arith, ltb-false hash at e, d)))
 
-  pub alike : nameOf names p hashPart ≡ hash → byKey (nameOf names p keyPart) (cell cells p left) (cell cells p right) key ≡ looked names cells p hash key
+  pub alike : nameOf names p hashPart ≡ hash
+      → byKey (nameOf names p keyPart) (cell cells p left) (cell cells p right) key ≡ looked names cells p hash key
   unfolding looked decided
   alike e = rw (le-ltb hash (nameOf names p hashPart) (omega (arith, e)), le-ltb (nameOf names p hashPart) hash (omega (arith, e)))
 
@@ -45,10 +48,12 @@ begun n s = same-looks (s .answer) (omega arith)
 
 -- A search over n slots that has come to the link p with so many visits left: each visit spent is a look.
 module _ {n : ℕ} {look : ℕ → Look} {run : ℕ → ℕ → Search} (r : Runs n look run) (p : ℕ) where
-  stopped : (visits : ℕ) {c : Counted} → later (n - visits) (run visits p) ≡ c → {a : Answer} → run visits p ≡ ends a → withLooks (n - visits) a ≡ c
+  stopped : (visits : ℕ) {c : Counted} → later (n - visits) (run visits p) ≡ c → {a : Answer} → run visits p ≡ ends a
+      → withLooks (n - visits) a ≡ c
   stopped visits i {a} e = same-looks a (omega arith) ∙ ap (later (n - visits)) (sym e) ∙ i
 
-  turn : (v k : ℕ) {c : Counted} → later k (run (suc v) p) ≡ c → p ≢ null → p < n → (o : Look) → o ≡ look p → later k (lookedThen o p (λ q. run v q)) ≡ c
+  turn : (v k : ℕ) {c : Counted} → later k (run (suc v) p) ≡ c → p ≢ null → p < n → (o : Look) → o ≡ look p
+      → later k (lookedThen o p (λ q. run v q)) ≡ c
   turn v k i d l o e = rw e (ap (later k) (sym (r .at-slot v p d l)) ∙ i)
 
   module _ (visits : ℕ) {c : Counted} (i : later (n - visits) (run visits p) ≡ c) where
@@ -77,7 +82,8 @@ module _ {n : ℕ} {look : ℕ → Look} {run : ℕ → ℕ → Search} (r : Run
         go false x e = e ∙ wanting (eqb-false p null x) v
 
   module _ (d : p ≢ null) (l : p < n) where
-    pub met : (visits : ℕ) {c : Counted} → later (n - visits) (run visits p) ≡ c → visits ≢ 0 → visits ≤ n → here ≡ look p → withLooks (n - (visits - 1)) (given p) ≡ c
+    pub met : (visits : ℕ) {c : Counted} → later (n - visits) (run visits p) ≡ c → visits ≢ 0 → visits ≤ n → here ≡ look p
+        → withLooks (n - (visits - 1)) (given p) ≡ c
     met zero i v m e = absurd (v refl)
     met (suc k) i v m e = same-looks (given p) (omega arith) ∙ turn k (n - suc k) i d l here e
 

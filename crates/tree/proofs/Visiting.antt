@@ -12,7 +12,8 @@ use Rattle.tree_rules.specs.Check.{linksIn, firstFailing, Walk, passed, failed,
 use Rattle.tree_rules.proofs.Walking.{walk-null, walk-outside, walk-spent, walk-loose, walk-fails, walk-on, walked-fuel, walked-within}
 
 -- A visit whose tests pass goes on with the left subtree.
-left-first : (names cells : List ℕ) (i v : ℕ) → i ≢ null → i < slotsOf names → v ≢ 0 → linksIn (slotsOf names) cells i ≡ true → firstFailing names cells i ≡ 0
+left-first : (names cells : List ℕ) (i v : ℕ) → i ≢ null → i < slotsOf names → v ≢ 0 → linksIn (slotsOf names) cells i ≡ true
+    → firstFailing names cells i ≡ 0
     → {t : ℕ} → t ≡ cell cells i left → {o : Walk} → o ≡ walked (v - 1) names cells t (v - 1)
     → walked v names cells i v ≡ onward o (λ rest. walked (v - 1) names cells (cell cells i right) rest)
 left-first names cells i zero n l w q f p a = absurd (w refl)
@@ -44,15 +45,18 @@ module _ (names cells : List ℕ) (i v : ℕ) where
           → walked v names cells i v ≡ onward o (λ rest. walked (v - 1) names cells (cell cells i right) rest)
       lefts z p a = left-first names cells i v n l w (sym q ∙ y) (sym f ∙ z) p a
 
-      pub left-fails : test ≡ 0 → {t u j : ℕ} → t ≡ cell cells i left → failed u j ≡ walked (v - 1) names cells t (v - 1) → failed u j ≡ walked v names cells i v
+      pub left-fails : test ≡ 0 → {t u j : ℕ} → t ≡ cell cells i left → failed u j ≡ walked (v - 1) names cells t (v - 1)
+          → failed u j ≡ walked v names cells i v
       left-fails z p a = sym (lefts z p a)
 
-      pub left-strays : test ≡ 0 → {t : ℕ} → t ≡ cell cells i left → strayed ≡ walked (v - 1) names cells t (v - 1) → strayed ≡ walked v names cells i v
+      pub left-strays : test ≡ 0 → {t : ℕ} → t ≡ cell cells i left → strayed ≡ walked (v - 1) names cells t (v - 1)
+          → strayed ≡ walked v names cells i v
       left-strays z p a = sym (lefts z p a)
 
       pub both : test ≡ 0 → {t r rest : ℕ} {o : Walk} → t ≡ cell cells i left → passed rest ≡ walked (v - 1) names cells t (v - 1)
           → r ≡ cell cells i right → o ≡ walked rest names cells r rest → o ≡ walked v names cells i v
       both z {t} {r} {rest} p a b c =
           c ∙ ap (λ (j : ℕ). walked rest names cells j rest) b
-          ∙ walked-fuel names cells rest (v - 1) (cell cells i right) rest (omega arith) (walked-within names cells (v - 1) t (v - 1) rest (omega arith) (sym a))
+          ∙ walked-fuel names cells rest (v - 1) (cell cells i right) rest (omega arith)
+          (walked-within names cells (v - 1) t (v - 1) rest (omega arith) (sym a))
           ∙ sym (lefts z p a)

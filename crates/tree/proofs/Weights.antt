@@ -15,13 +15,15 @@ use Rattle.tree.proofs.Depth.{null-or, Stepped, stepped, at-once}
 use Rattle.tree.proofs.Ruling.{weigh-null, weigh-zero, weigh-on}
 
 module _ (n : ℕ) (cells sizes : List ℕ) where
-  none-spent : (depth f q i v rest w : ℕ) → i ≡ null → reached f n cells q i v ≡ some rest → slotsBelow depth cells sizes i ≡ some w → w + rest ≡ v
+  none-spent : (depth f q i v rest w : ℕ) → i ≡ null → reached f n cells q i v ≡ some rest
+      → slotsBelow depth cells sizes i ≡ some w → w + rest ≡ v
   none-spent depth f q i v rest w z r e =
       let a : 0 ≡ w = some-is (weigh-null cells sizes i depth z ∙ e) in
       let b : v ≡ rest = some-is (sym (at-once n cells f q i v z) ∙ r) in
       omega (arith, a, b)
 
-  pub weight-spent : (depth f q i v rest w : ℕ) → reached f n cells q i v ≡ some rest → slotsBelow depth cells sizes i ≡ some w → w + rest ≡ v
+  pub weight-spent : (depth f q i v rest w : ℕ) → reached f n cells q i v ≡ some rest
+      → slotsBelow depth cells sizes i ≡ some w → w + rest ≡ v
   unfolding withParts
   weight-spent zero f q i v rest w r e =
       null-or cells i (λ z. none-spent 0 f q i v rest w z r e) (λ d. refuted (weigh-zero cells sizes i d ∙ e))
@@ -31,7 +33,8 @@ module _ (n : ℕ) (cells sizes : List ℕ) where
       (counted-parts sizes i _ _ w (rw sub-one at (sym (weigh-on cells sizes i (suc depth) d (omega arith)) ∙ e)))
       (weight-spent depth) (weight-spent depth))
     where
-      go : (s : Stepped n cells q i v rest) (p : Counted sizes i w (slotsBelow depth cells sizes (cell cells i left)) (slotsBelow depth cells sizes (cell cells i right)))
+      go : (s : Stepped n cells q i v rest) (p : Counted sizes i w (slotsBelow depth cells sizes (cell cells i left))
+          (slotsBelow depth cells sizes (cell cells i right)))
           → ((g q j x y z : ℕ) → reached g n cells q j x ≡ some y → slotsBelow depth cells sizes j ≡ some z → z + y ≡ x)
           → ((g q j x y z : ℕ) → reached g n cells q j x ≡ some y → slotsBelow depth cells sizes j ≡ some z → z + y ≡ x)
           → w + rest ≡ v

@@ -23,7 +23,8 @@ pub record Claims : Type 0 where
   -- find_tree_node's promise allows one answer
   pub counted-one-to-one : (a b : CountedCode) → countedOf a ≡ countedOf b → a ≡ b
   pub count-one : (looks : ℕ) (a : Answer) → OneAnswer (λ r. countedOf r ≡ withLooks looks a)
-  pub find-tree-node-one : (names cells : List ℕ) (root hash key : ℕ) → OneAnswer (λ r. searchedOf r ≡ counted (found names cells root hash key))
+  pub find-tree-node-one : (names cells : List ℕ) (root hash key : ℕ)
+      → OneAnswer (λ r. searchedOf r ≡ counted (found names cells root hash key))
   -- so for the source's check
   pub checked-one-to-one : (a b : Checked) → checkedOf a ≡ checkedOf b → a ≡ b
   pub check-invariants-one : (names cells : List ℕ) (root : ℕ) → OneAnswer (λ r. checkedOf r ≡ checked names cells root)

@@ -22,7 +22,8 @@ abbrev pub sizeOf : Size → Value
 sizeOf (Slots m) = some m
 sizeOf Broken = none
 
--- T3 to T6 and T8 of what hangs from a link: the visits left, the slot read last and the black slots of every way down; or that one is broken.
+-- T3 to T6 and T8 of what hangs from a link: the visits left, the slot read last and the black slots of every way down;
+-- or that one is broken.
 pub data Judged : Type 0 where
   obeys : ℕ → ℕ → ℕ → Judged
   breaks : Judged
@@ -44,7 +45,8 @@ together reach rise calm level weight =
 -- What hangs from the link i under q, where `last` was read last: each rule by its own model, at most so deep and with so many visits.
 abbrev pub judged : List ℕ → List ℕ → List ℕ → ℕ → ℕ → ℕ → ℕ → ℕ → Judged
 judged names cells sizes q last i depth visits =
-    together (reached visits (slotsOf names) cells q i visits) (risen depth names cells last i) (allCalm depth cells i) (levelled depth cells i)
+    together (reached visits (slotsOf names) cells q i visits) (risen depth names cells last i) (allCalm depth cells i)
+    (levelled depth cells i)
     (slotsBelow depth cells sizes i)
 
 -- So deep the walk over n slots may go.

@@ -43,17 +43,24 @@ module _ (n : ℕ) (cells : List ℕ) where
       go : (a : Bool) → eqb i null ≡ a → pick a (some 0) none ≡ some rest → Found q i 0 rest
       go true p e = let z : 0 ≡ rest = cc in record { visited = []; chain = ended (eqb-true i null p); spent = omega arith }
       go false p e = refuted e
-  chain-found (suc v) q i rest e = go (eqb i null) refl (ltb i n) refl (eqb (cell cells i prev) q) refl e (λ h. chain-found v i (cell cells i next) rest h)
+  chain-found (suc v) q i rest e =
+      go (eqb i null) refl (ltb i n) refl (eqb (cell cells i prev) q) refl e (λ h. chain-found v i (cell cells i next) rest h)
     where
       go : (a : Bool) → eqb i null ≡ a → (b : Bool) → ltb i n ≡ b → (c : Bool) → eqb (cell cells i prev) q ≡ c
           → pick a (some (suc v)) (pick b (pick c (chained v n cells i (cell cells i next)) none) none) ≡ some rest
           → (chained v n cells i (cell cells i next) ≡ some rest → Found i (cell cells i next) v rest)
           → Found q i (suc v) rest
-      go true p b x c y e again = let z : suc v ≡ rest = cc in record { visited = []; chain = ended (eqb-true i null p); spent = omega arith }
+      go true p b x c y e again =
+          let z : suc v ≡ rest = cc in record { visited = []; chain = ended (eqb-true i null p); spent = omega arith }
       go false p false x c y e again = refuted e
       go false p true x false y e again = refuted e
       go false p true x true y e again =
-          let h = again e in record { visited = i ∷ h .visited; chain = linked (ltb-true i n x) (eqb-true (cell cells i prev) q y) (h .chain); spent = omega (arith, h .spent) }
+          let h = again e in
+          record {
+            visited = i ∷ h .visited;
+            chain = linked (ltb-true i n x) (eqb-true (cell cells i prev) q y) (h .chain);
+            spent = omega (arith, h .spent);
+          }
 
   module _ (small : n ≤ null) where
     chain-under : {q i d k : ℕ} {l : List ℕ} → Chain n cells q i l → Rank cells prev q d → 1 ≤ times k l → Under cells prev d i k
@@ -73,7 +80,8 @@ module _ (n : ℕ) (cells : List ℕ) where
         go r (no e) z o = omega (arith, times-else k i l e)
         go r (yes e) (yes z) o = rw e (omega (arith, times-head i l, ap (λ (j : ℕ). times j l) e))
         go r (yes e) (no z) o =
-            let y : 1 ≤ times k l = omega arith in let s : Rank cells prev k (suc d) = rw e r in absurd (omega (arith, under-deep (chain-under c r y) s))
+            let y : 1 ≤ times k l = omega arith in
+            let s : Rank cells prev k (suc d) = rw e r in absurd (omega (arith, under-deep (chain-under c r y) s))
 
     chain-passes : (v : ℕ) {q i : ℕ} {l : List ℕ} → Chain n cells q i l → length l ≤ v → chained v n cells q i ≡ some (v - length l)
     unfolding chained
@@ -81,7 +89,8 @@ module _ (n : ℕ) (cells : List ℕ) where
     chain-passes (suc v) (ended {i = i} e) h = rw (eq-eqb i null e) (ap some (omega arith))
     chain-passes zero (linked b p c) h = absurd (omega arith)
     chain-passes (suc v) {q} (linked {i = i} b p c) h =
-        rw (ne-eqb i null (omega arith), lt-ltb i n b, eq-eqb (cell cells i prev) q p, chain-passes v c (omega arith)) (ap some (omega arith))
+        rw (ne-eqb i null (omega arith), lt-ltb i n b, eq-eqb (cell cells i prev) q p, chain-passes v c (omega arith))
+        (ap some (omega arith))
 
     pub chain-unique : {p q i : ℕ} {l m : List ℕ} → Chain n cells p i l → Chain n cells q i m → l ≡ m
     chain-unique (ended e) (ended f) = refl
@@ -90,7 +99,8 @@ module _ (n : ℕ) (cells : List ℕ) where
     chain-unique (linked {i = i} b p c) (linked b′ p′ c′) = ap (λ (l : List ℕ). i ∷ l) (chain-unique c c′)
 
     module _ (first : ℕ) where
-      pub chained-chain : (rest : ℕ) → chained n n cells null first ≡ some rest → (l : List ℕ) × Chain n cells null first l × (length l + rest ≡ n)
+      pub chained-chain : (rest : ℕ) → chained n n cells null first ≡ some rest
+          → (l : List ℕ) × Chain n cells null first l × (length l + rest ≡ n)
       chained-chain rest e = let h = chain-found n null first rest e in (h .visited, h .chain, h .spent)
 
       pub chain-once : {l : List ℕ} → Chain n cells null first l → (k : ℕ) → times k l ≤ 1

@@ -13,7 +13,8 @@ use Rattle.slots.specs.Words.{null, pick, parent, left, right, prev, next, cell
 use Rattle.slots.specs.Answers.{Answer, some, none, nothing, refused}
 use Rattle.slots.proofs.Laws.{some-is}
 use Rattle.tree_rules.specs.Find.{slotsOf}
-use Rattle.tree_rules.specs.Check.{pointsBack, isChild, leftHash, rightHash, notAllRed, test, firstFrom, firstFailing, Walk, passed, failed, strayed, walked, walkAnswer, checked, Back, Child, LeftHash, RightHash, NotAllRed, Walks}
+use Rattle.tree_rules.specs.Check.{pointsBack, isChild, leftHash, rightHash, notAllRed, test, firstFrom, firstFailing, Walk, passed}
+use Rattle.tree_rules.specs.Check.{failed, strayed, walked, walkAnswer, checked, Back, Child, LeftHash, RightHash, NotAllRed, Walks}
 use Rattle.tree_rules.specs.Claims.{Tests, Checks}
 use Rattle.tree_rules.proofs.Walking.{walks, walks-only}
 
@@ -55,7 +56,10 @@ reds-yes true false false true true h = absurd (h refl refl refl refl refl)
 module _ (names cells : List ℕ) (i : ℕ) where
   back : (f g : ℕ) → (pointsBack cells i f g ≡ true) ↔ Back names cells i f g
   unfolding pointsBack
-  back f g = (λ e. unless-null (cell cells i f) _ (eqb-true (cell cells (cell cells i f) g) i) e, λ h. null-or (cell cells i f) _ (λ n. eq-eqb (cell cells (cell cells i f) g) i (h n)))
+  back f g = (
+    λ e. unless-null (cell cells i f) _ (eqb-true (cell cells (cell cells i f) g) i) e,
+    λ h. null-or (cell cells i f) _ (λ n. eq-eqb (cell cells (cell cells i f) g) i (h n)),
+  )
 
   child : (isChild cells i ≡ true) ↔ Child names cells i
   unfolding isChild
@@ -82,8 +86,10 @@ module _ (names cells : List ℕ) (i : ℕ) where
 
   children-red : (notAllRed cells i ≡ true) ↔ NotAllRed names cells i
   unfolding notAllRed
-  children-red =
-      (λ e a n m b c. reds-not _ _ _ _ _ e (eq-eqb _ _ a) (ne-eqb _ _ n) (ne-eqb _ _ m) (eq-eqb _ _ b) (eq-eqb _ _ c), λ h. reds-yes _ _ _ _ _ (λ a n m b c. h (eqb-true _ _ a) (eqb-false _ _ n) (eqb-false _ _ m) (eqb-true _ _ b) (eqb-true _ _ c)))
+  children-red = (
+    λ e a n m b c. reds-not _ _ _ _ _ e (eq-eqb _ _ a) (ne-eqb _ _ n) (ne-eqb _ _ m) (eq-eqb _ _ b) (eq-eqb _ _ c),
+    λ h. reds-yes _ _ _ _ _ (λ a n m b c. h (eqb-true _ _ a) (eqb-false _ _ n) (eqb-false _ _ m) (eqb-true _ _ b) (eqb-true _ _ c)),
+  )
 
   -- The first of k tests from t on.
   first-is : (k t m : ℕ) → 1 ≤ t → m ≢ 0 → firstFrom k names cells t i ≡ m
@@ -93,7 +99,8 @@ module _ (names cells : List ℕ) (i : ℕ) where
   first-is (suc k) t m l d e = go (test names cells t i) refl e (λ q. first-is k (suc t) m (omega arith) d q)
     where
       go : (b : Bool) → test names cells t i ≡ b → pick b (firstFrom k names cells (suc t) i) t ≡ m
-          → (firstFrom k names cells (suc t) i ≡ m → (test names cells m i ≡ false) × ((u : ℕ) → suc t ≤ u → u < m → test names cells u i ≡ true))
+          → (firstFrom k names cells (suc t) i ≡ m
+          → (test names cells m i ≡ false) × ((u : ℕ) → suc t ≤ u → u < m → test names cells u i ≡ true))
           → (test names cells m i ≡ false) × ((u : ℕ) → t ≤ u → u < m → test names cells u i ≡ true)
       go false q p again = (rw (← p) q, λ u a b. absurd (omega arith))
       go true q p again = let h = again p in (h .0, λ u a b. at u a (ℕ-discrete u t) (λ c. h .1 u c b))
@@ -105,7 +112,8 @@ module _ (names cells : List ℕ) (i : ℕ) where
   first-none : (k t : ℕ) → 1 ≤ t → firstFrom k names cells t i ≡ 0 → (u : ℕ) → t ≤ u → u < t + k → test names cells u i ≡ true
   unfolding firstFrom
   first-none zero t l e u a b = absurd (omega arith)
-  first-none (suc k) t l e u a b = go (test names cells t i) refl e (ℕ-discrete u t) (λ q c. first-none k (suc t) (omega arith) q u c (omega arith))
+  first-none (suc k) t l e u a b =
+      go (test names cells t i) refl e (ℕ-discrete u t) (λ q c. first-none k (suc t) (omega arith) q u c (omega arith))
     where
       go : (b : Bool) → test names cells t i ≡ b → pick b (firstFrom k names cells (suc t) i) t ≡ 0 → Dec (u ≡ t)
           → (firstFrom k names cells (suc t) i ≡ 0 → suc t ≤ u → test names cells u i ≡ true) → test names cells u i ≡ true
@@ -113,12 +121,15 @@ module _ (names cells : List ℕ) (i : ℕ) where
       go true q p (yes z) again = rw z q
       go true q p (no z) again = again p (omega arith)
 
-  is-first : (k t m : ℕ) → t ≤ m → m < t + k → test names cells m i ≡ false → ((u : ℕ) → t ≤ u → u < m → test names cells u i ≡ true) → firstFrom k names cells t i ≡ m
+  is-first : (k t m : ℕ) → t ≤ m → m < t + k → test names cells m i ≡ false → ((u : ℕ) → t ≤ u → u < m → test names cells u i ≡ true)
+      → firstFrom k names cells t i ≡ m
   unfolding firstFrom
   is-first zero t m a b e h = absurd (omega arith)
-  is-first (suc k) t m a b e h = go (ℕ-discrete t m) (λ d. is-first k (suc t) m (omega arith) (omega arith) e (λ u c w. h u (omega arith) w))
+  is-first (suc k) t m a b e h =
+      go (ℕ-discrete t m) (λ d. is-first k (suc t) m (omega arith) (omega arith) e (λ u c w. h u (omega arith) w))
     where
-      go : Dec (t ≡ m) → (t ≢ m → firstFrom k names cells (suc t) i ≡ m) → pick (test names cells t i) (firstFrom k names cells (suc t) i) t ≡ m
+      go : Dec (t ≡ m) → (t ≢ m → firstFrom k names cells (suc t) i ≡ m)
+          → pick (test names cells t i) (firstFrom k names cells (suc t) i) t ≡ m
       go (yes z) again = let q : test names cells t i ≡ false = rw z e in rw q z
       go (no z) again = rw (h t (omega arith) (omega arith)) (again z)
 

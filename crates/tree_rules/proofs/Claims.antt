@@ -37,7 +37,8 @@ search-claims names cells root hash key =
       looks = tree-looks names cells hash key root;
     }
 
-rule-claims : (names cells : List ℕ) (few : slotsOf names ≤ null) (ends : length cells ≤ 7 * null) (root : ℕ) → Rules names cells few ends root
+rule-claims : (names cells : List ℕ) (few : slotsOf names ≤ null) (ends : length cells ≤ 7 * null) (root : ℕ)
+    → Rules names cells few ends root
 rule-claims names cells few ends root =
     record {
       spent = λ v rest. obeyed-spent names cells few ends root v rest;
@@ -72,7 +73,8 @@ looks-squared names cells root hash key {t} r c l = le-trans (pow-mono (found-mo
 shallow-claims : (names cells : List ℕ) (root hash key : ℕ) (t : Tree) → Shallow names cells root hash key t
 shallow-claims names cells root hash key t = record { height-most = not-deep t; looks-most = found-most names cells root hash key }
 
-weigh-claims : (names cells sizes : List ℕ) (few : slotsOf names ≤ null) (ends : length cells ≤ 7 * null) (long : length sizes ≡ slotsOf names) (root : ℕ)
+weigh-claims : (names cells sizes : List ℕ) (few : slotsOf names ≤ null) (ends : length cells ≤ 7 * null)
+    (long : length sizes ≡ slotsOf names) (root : ℕ)
     → Weighs names cells sizes few ends long root
 weigh-claims names cells sizes few ends long root =
     record {
@@ -80,10 +82,12 @@ weigh-claims names cells sizes few ends long root =
       parts = sized-parts sizes;
       size = tree-size names cells sizes few ends long root;
       kth = λ {t} h z k l.
-          ap (λ (i : ℕ). kthFrom (slotsOf names) cells sizes i k) (h .from) ∙ kth-slot cells sizes small (slotsOf names) k (h .hangs) (slot-sizes h z) (rooted-most (slotsOf names) cells few root h) l;
+          ap (λ (i : ℕ). kthFrom (slotsOf names) cells sizes i k) (h .from)
+          ∙ kth-slot cells sizes small (slotsOf names) k (h .hangs) (slot-sizes h z) (rooted-most (slotsOf names) cells few root h) l;
       rank = λ {t} h z up k l. (let x = getD (slots t) k null in
           ap (λ (i : ℕ). rankFrom (slotsOf names) names cells sizes i (nameOf names x hashPart) (nameOf names x keyPart) 0) (h .from)
-          ∙ rank-of names cells sizes small (slotsOf names) k 0 few (h .hangs) (slot-sizes h z) up (rooted-most (slotsOf names) cells few root h) l
+          ∙ rank-of names cells sizes small (slotsOf names) k 0 few (h .hangs) (slot-sizes h z) up
+          (rooted-most (slotsOf names) cells few root h) l
           (omega (arith, rooted-most (slotsOf names) cells few root h)) ∙ ap some (omega arith));
     }
   where

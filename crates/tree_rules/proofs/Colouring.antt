@@ -25,7 +25,8 @@ not-red red e = absurd (false≢true (sym e))
 -- T5's tests on the tree itself.
 calms : Tree → Bool
 calms leaf = true
-calms (node c l i r) = pick (pick (isRed c) (pick (isRed (colour l)) false (pick (isRed (colour r)) false true)) true) (pick (calms l) (calms r) false) false
+calms (node c l i r) =
+    pick (pick (isRed c) (pick (isRed (colour l)) false (pick (isRed (colour r)) false true)) true) (pick (calms l) (calms r) false) false
 
 neither : (a b : Bool) → pick a false (pick b false true) ≡ true → (a ≡ false) × (b ≡ false)
 neither true b e = absurd (false≢true e)

@@ -47,7 +47,8 @@ times-cases {A} k i l h first rest = go (ℕ-discrete k i)
     go (yes e) = first e
     go (no d) = rest (omega (arith, times-else k i l d))
 
-pub times-around : {A : Type 0} (k : ℕ) (a : List ℕ) (i : ℕ) (b : List ℕ) → 1 ≤ times k (a ++ (i ∷ b)) → (1 ≤ times k a → A) → (k ≡ i → A) → (1 ≤ times k b → A) → A
+pub times-around : {A : Type 0} (k : ℕ) (a : List ℕ) (i : ℕ) (b : List ℕ) → 1 ≤ times k (a ++ (i ∷ b)) → (1 ≤ times k a → A) → (k ≡ i → A)
+    → (1 ≤ times k b → A) → A
 times-around {A} k a i b h before at after = go (decLe 1 (times k a))
   where
     go : Dec (1 ≤ times k a) → A
@@ -93,7 +94,8 @@ tally-ones (suc n) f h = omega (arith, h n, tally-ones n f h)
 tally-tight : (n : ℕ) (f g : ℕ → ℕ) → ((k : ℕ) → k < n → f k ≤ g k) → tally n f ≡ tally n g → (k : ℕ) → k < n → f k ≡ g k
 unfolding tally
 tally-tight zero f g h e k l = absurd (omega arith)
-tally-tight (suc n) f g h e k l = go (ℕ-discrete k n) (λ d. tally-tight n f g (λ j b. h j (omega arith)) (omega (arith, below, h n (omega arith))) k (omega arith))
+tally-tight (suc n) f g h e k l =
+    go (ℕ-discrete k n) (λ d. tally-tight n f g (λ j b. h j (omega arith)) (omega (arith, below, h n (omega arith))) k (omega arith))
   where
     below : tally n f ≤ tally n g
     below = tally-most n f g (λ j b. h j (omega arith))
@@ -106,7 +108,8 @@ pub tally-times : (n : ℕ) (l : List ℕ) → ((k : ℕ) → 1 ≤ times k l �
 unfolding times
 tally-times n [] h = tally-zero n (λ k. 0) (λ k b. refl)
 tally-times n (i ∷ l) h =
-    tally-add n (λ k. hit k i) (λ k. times k l) ∙ omega (arith, tally-hit n i (h i (omega (arith, hit-same {k = i} refl))), tally-times n l (λ k b. h k (omega arith)))
+    tally-add n (λ k. hit k i) (λ k. times k l)
+    ∙ omega (arith, tally-hit n i (h i (omega (arith, hit-same {k = i} refl))), tally-times n l (λ k b. h k (omega arith)))
 
 module _ (n : ℕ) (l : List ℕ) (inside : (k : ℕ) → 1 ≤ times k l → k < n) where
   -- No more slots than there are, each once.
@@ -114,7 +117,8 @@ module _ (n : ℕ) (l : List ℕ) (inside : (k : ℕ) → 1 ≤ times k l → k 
   length-most once = omega (arith, tally-times n l inside, tally-ones n (λ k. times k l) once)
 
   -- Marked slots, each member one of them, and as many: the members are the marked slots.
-  pub exactly : (u : ℕ → ℕ) → ((k : ℕ) → times k l ≤ 1) → ((k : ℕ) → 1 ≤ times k l → u k ≡ 1) → length l ≡ tally n u → (k : ℕ) → k < n → u k ≡ times k l
+  pub exactly : (u : ℕ → ℕ) → ((k : ℕ) → times k l ≤ 1) → ((k : ℕ) → 1 ≤ times k l → u k ≡ 1) → length l ≡ tally n u → (k : ℕ) → k < n
+      → u k ≡ times k l
   exactly u once marked e k b = sym (tally-tight n (λ j. times j l) u least (tally-times n l inside ∙ e) k b)
     where
       least : (j : ℕ) → j < n → times j l ≤ u j

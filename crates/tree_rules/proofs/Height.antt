@@ -16,7 +16,8 @@ use Rattle.slots.specs.Words.{null, pick, left, right, cell, Colour, black, red
 use Rattle.slots.specs.Answers.{some, nothing as nothing-there, refused}
 use Rattle.slots.proofs.Laws.{some-is}
 use Rattle.tree_rules.specs.Find.{Look, here, on, decided, looked, ends, lookedThen, slotsOf, searched}
-use Rattle.tree_rules.specs.Tree.{Tree, leaf, node, top, colour, slots, Hangs, Calm, nothing, darkly, redly, Coloured, blacks, Level, higher, height}
+use Rattle.tree_rules.specs.Tree.{Tree, leaf, node, top, colour, slots, Hangs, Calm, nothing, darkly, redly, Coloured, blacks, Level}
+use Rattle.tree_rules.specs.Tree.{higher, height}
 use Rattle.tree_rules.specs.Claims.{Looks}
 use Rattle.tree_rules.proofs.Deciding.{look-claims}
 use Rattle.tree_rules.proofs.Reaching.{length-node}
@@ -94,7 +95,8 @@ onward at own l r hash key = go (decLt hash at) (decLt at hash) (ℕ-discrete ow
     c : Looks at own l r hash key
     c = look-claims at own l r hash key
 
-    go : Dec (hash < at) → Dec (at < hash) → Dec (own ≡ key) → Dec (l ≡ null) → Dec (r ≡ null) → Dec (key < own) → Onward l r (decided at own l r hash key)
+    go : Dec (hash < at) → Dec (at < hash) → Dec (own ≡ key) → Dec (l ≡ null) → Dec (r ≡ null) → Dec (key < own)
+        → Onward l r (decided at own l r hash key)
     go (yes h) b k x y d = rw (c .greater h) leftward
     go (no a) (yes h) k x y d = rw (c .less h) rightward
     go (no a) (no b) (yes k) x y d = rw (c .equal (omega arith) k) stays
@@ -130,7 +132,8 @@ module _ (n : ℕ) (names cells : List ℕ) (hash key : ℕ) where
   unfolding looked
   looked-on i = onward _ _ _ _ hash key
 
-  pub looks-most : (visits : ℕ) {q : ℕ} {t : Tree} → Hangs n cells q t → length (searched names cells visits (top t) hash key .looks) ≤ height t
+  pub looks-most : (visits : ℕ) {q : ℕ} {t : Tree} → Hangs n cells q t
+      → length (searched names cells visits (top t) hash key .looks) ≤ height t
   unfolding searched height
   looks-most zero {t = t} h = omega (arith, none-left (top t))
   looks-most (suc visits) Hangs.none = omega arith
@@ -139,8 +142,11 @@ module _ (n : ℕ) (names cells : List ℕ) (hash key : ℕ) where
       (looks-most visits a) (looks-most visits b)
     where
       go : (u v : Bool) (o : Look) → Onward (top l) (top r) o
-          → length (searched names cells visits (top l) hash key .looks) ≤ height l → length (searched names cells visits (top r) hash key .looks) ≤ height r
-          → length (pick u (ends nothing-there) (pick v (ends (refused 9)) (lookedThen o i (λ p. searched names cells visits p hash key))) .looks) ≤ suc (higher (height l) (height r))
+          → length (searched names cells visits (top l) hash key .looks) ≤ height l
+          → length (searched names cells visits (top r) hash key .looks) ≤ height r
+          → length (pick u (ends nothing-there)
+          (pick v (ends (refused 9)) (lookedThen o i (λ p. searched names cells visits p hash key))) .looks)
+          ≤ suc (higher (height l) (height r))
       go true v o k x y = omega arith
       go false true o k x y = omega arith
       go false false o stays x y = omega arith

@@ -36,8 +36,10 @@ levels (node c l i r) = joined (blacks c) (levels l) (levels r)
 levels-meets : {t : Tree} {k : ℕ} (m : ℕ) → levels t ≡ some m → Meets t k → k ≡ m
 unfolding levels
 levels-meets m e end = cc
-levels-meets m e (leftward {c = c} {l} {i} {r} w) = let h = joined-parts (blacks c) (levels l) (levels r) m e in omega (arith, levels-meets (h .0) (h .1) w, h .3)
-levels-meets m e (rightward {c = c} {l} {i} {r} w) = let h = joined-parts (blacks c) (levels l) (levels r) m e in omega (arith, levels-meets (h .0) (h .2) w, h .3)
+levels-meets m e (leftward {c = c} {l} {i} {r} w) =
+    let h = joined-parts (blacks c) (levels l) (levels r) m e in omega (arith, levels-meets (h .0) (h .1) w, h .3)
+levels-meets m e (rightward {c = c} {l} {i} {r} w) =
+    let h = joined-parts (blacks c) (levels l) (levels r) m e in omega (arith, levels-meets (h .0) (h .2) w, h .3)
 
 way : (t : Tree) → (k : ℕ) × Meets t k
 way leaf = (0, end)
@@ -54,7 +56,13 @@ level-levels (node c l i r) h =
     go x y =
         let v = way l in
         let w = way r in
-        let e : x .0 ≡ y .0 = omega (arith, levels-meets (x .0) (x .1) (v .1), levels-meets (y .0) (y .1) (w .1), h (blacks c + v .0) (blacks c + w .0) (leftward (v .1)) (rightward (w .1))) in
+        let e : x .0 ≡ y .0 =
+        omega (
+          arith,
+          levels-meets (x .0) (x .1) (v .1),
+          levels-meets (y .0) (y .1) (w .1),
+          h (blacks c + v .0) (blacks c + w .0) (leftward (v .1)) (rightward (w .1)),
+        ) in
         (blacks c + x .0, rw (x .1, y .1, eq-eqb (x .0) (y .0) e))
 
 module _ (n : ℕ) (cells : List ℕ) (small : n ≤ null) where
@@ -64,14 +72,22 @@ module _ (n : ℕ) (cells : List ℕ) (small : n ≤ null) where
   walk-levels (suc depth) Hangs.none h = refl
   walk-levels zero (Hangs.some {c = c} {l} {i} {r} w a b) h = absurd (omega (arith, length-node c l i r))
   walk-levels (suc depth) (Hangs.some {c = c} {l} {i} {r} w a b) h =
-      rw (ne-eqb i null (omega arith), w .lefts, w .rights, w .hued, walk-levels depth a (omega (arith, length-node c l i r)), walk-levels depth b (omega (arith, length-node c l i r)))
+      rw (
+        ne-eqb i null (omega arith),
+        w .lefts,
+        w .rights,
+        w .hued,
+        walk-levels depth a (omega (arith, length-node c l i r)),
+        walk-levels depth b (omega (arith, length-node c l i r)),
+      )
       (go c (levels l) (levels r))
     where
       own : (c : Colour) (a : ℕ) → pick (eqb (code c) 2) a (a + 1) ≡ blacks c + a
       own black a = omega arith
       own red a = omega arith
 
-      go : (c : Colour) (x y : Value) → then x (λ a. then y (λ b. pick (eqb a b) (some (pick (eqb (code c) 2) a (a + 1))) none)) ≡ joined (blacks c) x y
+      go : (c : Colour) (x y : Value)
+          → then x (λ a. then y (λ b. pick (eqb a b) (some (pick (eqb (code c) 2) a (a + 1))) none)) ≡ joined (blacks c) x y
       go c none y = refl
       go c (some a) none = refl
       go c (some a) (some b) = rw (own c a)

@@ -22,7 +22,8 @@ module _ (at own l r hash key : ℕ) where
   here-is : decided at own l r hash key ≡ here → (at ≡ hash) × (own ≡ key)
   here-is e = go (decLt hash at) (decLt at hash) (ℕ-discrete own key) (ℕ-discrete l null) (ℕ-discrete r null) (decLt key own)
     where
-      go : Dec (hash < at) → Dec (at < hash) → Dec (own ≡ key) → Dec (l ≡ null) → Dec (r ≡ null) → Dec (key < own) → (at ≡ hash) × (own ≡ key)
+      go : Dec (hash < at) → Dec (at < hash) → Dec (own ≡ key) → Dec (l ≡ null) → Dec (r ≡ null) → Dec (key < own)
+          → (at ≡ hash) × (own ≡ key)
       go (yes h) b k x y d = absurd (here-on (sym e ∙ clause .greater h))
       go (no a) (yes h) k x y d = absurd (here-on (sym e ∙ clause .less h))
       go (no a) (no b) (yes k) x y d = (omega arith, k)
@@ -34,7 +35,9 @@ module _ (at own l r hash key : ℕ) where
 module _ (names cells : List ℕ) (hash key : ℕ) where
   is : (p : ℕ) → looked names cells p hash key ≡ here → pairOf names p ≡ pair hash key
   unfolding looked
-  is p e = let h = here-is (nameOf names p hashPart) (nameOf names p keyPart) (cell cells p left) (cell cells p right) hash key e in λ i. pair (h .0 i) (h .1 i)
+  is p e =
+      let h = here-is (nameOf names p hashPart) (nameOf names p keyPart) (cell cells p left) (cell cells p right) hash key e in
+      λ i. pair (h .0 i) (h .1 i)
 
   is-not : (p q : ℕ) → looked names cells p hash key ≡ on q → pairOf names p ≢ pair hash key
   unfolding looked

@@ -12,15 +12,18 @@ unfolding times
 below-at k Below.last z = absurd (omega arith)
 below-at {names} {p = p} k (Below.before {i} {l} h b) z = times-cases k i l z (λ e. rw e h) (λ y. below-at k b y)
 
-pub rising-after : {names : List ℕ} (a : List ℕ) (i : ℕ) (b : List ℕ) (k : ℕ) → Rising names (a ++ (i ∷ b)) → 1 ≤ times k b → Less (pairOf names i) (pairOf names k)
+pub rising-after : {names : List ℕ} (a : List ℕ) (i : ℕ) (b : List ℕ) (k : ℕ) → Rising names (a ++ (i ∷ b)) → 1 ≤ times k b
+    → Less (pairOf names i) (pairOf names k)
 rising-after [] i b k (rise h r) z = below-at k h z
 rising-after (x ∷ a) i b k (rise h r) z = rising-after a i b k r z
 
-pub rising-before : {names : List ℕ} (a : List ℕ) (i : ℕ) (b : List ℕ) (k : ℕ) → Rising names (a ++ (i ∷ b)) → 1 ≤ times k a → Less (pairOf names k) (pairOf names i)
+pub rising-before : {names : List ℕ} (a : List ℕ) (i : ℕ) (b : List ℕ) (k : ℕ) → Rising names (a ++ (i ∷ b)) → 1 ≤ times k a
+    → Less (pairOf names k) (pairOf names i)
 unfolding times
 rising-before [] i b k r z = absurd (omega arith)
 rising-before {names} (x ∷ a) i b k (rise h r) z =
-    times-cases k x a z (λ e. rw e (below-at i h (omega (arith, times-append i a (i ∷ b), times-head i b)))) (λ y. rising-before a i b k r y)
+    times-cases k x a z (λ e. rw e (below-at i h (omega (arith, times-append i a (i ∷ b), times-head i b))))
+    (λ y. rising-before a i b k r y)
 
 below-front : {names : List ℕ} {p : Pair} (a b : List ℕ) → Below names p (a ++ b) → Below names p a
 below-front [] b h = Below.last

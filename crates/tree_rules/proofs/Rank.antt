@@ -44,7 +44,11 @@ under-self {d = d} r = let z : 0 + suc d ≡ suc d = omega arith in record { ste
 pub under-above : {cells : List ℕ} {f d x y k : ℕ} → cell cells y f ≡ x → Under cells f (suc d) y k → Under cells f d x k
 under-above {cells} {f} {d} {x} {y} {k} e h =
     let z : suc (h .steps) + suc d ≡ h .steps + suc (suc d) = omega arith in
-    record { steps = suc (h .steps); leads = climb-on cells f (h .steps) k ∙ ap (λ (j : ℕ). cell cells j f) (h .leads) ∙ e; ranked = rw z (h .ranked) }
+    record {
+      steps = suc (h .steps);
+      leads = climb-on cells f (h .steps) k ∙ ap (λ (j : ℕ). cell cells j f) (h .leads) ∙ e;
+      ranked = rw z (h .ranked);
+    }
 
 -- No slot stands under two as near to null.
 pub under-one : {cells : List ℕ} {f d x y k : ℕ} → Under cells f d x k → Under cells f d y k → x ≡ y

@@ -67,20 +67,23 @@ stood cells q i e =
     hued true p e = eqb-true _ _ p
     hued false p e = eqb-true _ _ e
 
-    two : (a : Bool) → eqb (cell cells i left) null ≡ a → pick a true (pick (eqb (cell cells i left) (cell cells i right)) false true) ≡ true
+    two : (a : Bool) → eqb (cell cells i left) null ≡ a
+        → pick a true (pick (eqb (cell cells i left) (cell cells i right)) false true) ≡ true
         → cell cells i left ≡ cell cells i right → cell cells i left ≡ null
     two true p e z = eqb-true _ _ p
     two false p e z = absurd (false≢true (rw (eq-eqb _ _ z) at e))
 
 stood-stands : (cells : List ℕ) (q i : ℕ) → Stood cells q i → stands cells q i ≡ true
 unfolding stands
-stood-stands cells q i h = rw (eq-eqb (cell cells i parent) q (h .above), hued (h .hue) (h .hued)) (two (ℕ-discrete (cell cells i left) null))
+stood-stands cells q i h =
+    rw (eq-eqb (cell cells i parent) q (h .above), hued (h .hue) (h .hued)) (two (ℕ-discrete (cell cells i left) null))
   where
     hued : (c : Colour) → cell cells i state ≡ code c → pick (eqb (cell cells i state) 1) true (eqb (cell cells i state) 2) ≡ true
     hued black e = rw e
     hued red e = rw e
 
-    two : Dec (cell cells i left ≡ null) → pick (eqb (cell cells i left) null) true (pick (eqb (cell cells i left) (cell cells i right)) false true) ≡ true
+    two : Dec (cell cells i left ≡ null)
+        → pick (eqb (cell cells i left) null) true (pick (eqb (cell cells i left) (cell cells i right)) false true) ≡ true
     two (yes e) = simp (eq-eqb (cell cells i left) null e)
     two (no d) = simp (ne-eqb (cell cells i left) null d, ne-eqb (cell cells i left) (cell cells i right) (λ e. d (h .two e)))
 
@@ -119,7 +122,8 @@ module _ (n : ℕ) (cells : List ℕ) where
     cell-rank : {q d i l r : ℕ} {c : Colour} → Cell n cells q c l i r → Rank cells parent q d → Rank cells parent i (suc d)
     cell-rank w r = rank-up (solid small (w .inside)) (w .above) r
 
-    hangs-under : {q d k : ℕ} {t : Tree} → Hangs n cells q t → Rank cells parent q d → 1 ≤ times k (slots t) → Under cells parent d (top t) k
+    hangs-under : {q d k : ℕ} {t : Tree} → Hangs n cells q t → Rank cells parent q d → 1 ≤ times k (slots t)
+        → Under cells parent d (top t) k
     unfolding slots times
     hangs-under Hangs.none rk h = absurd (omega arith)
     hangs-under {k = k} (Hangs.some {l = l} {i} {r} w a b) rk h =
@@ -128,8 +132,10 @@ module _ (n : ℕ) (cells : List ℕ) where
         (λ e. rw e (under-self (cell-rank w rk)))
         (λ y. under-above (top-cell k b y .1) (hangs-under b (cell-rank w rk) y))
 
-    once-node : {q d : ℕ} {c : Colour} {l : Tree} {i : ℕ} {r : Tree} → Cell n cells q c (top l) i (top r) → Hangs n cells i l → Hangs n cells i r → Rank cells parent q d
-        → (top l ≡ top r → top l ≡ null) → ((k : ℕ) → times k (slots l) ≤ 1) → ((k : ℕ) → times k (slots r) ≤ 1) → (k : ℕ) → times k (slots (node c l i r)) ≤ 1
+    once-node : {q d : ℕ} {c : Colour} {l : Tree} {i : ℕ} {r : Tree} → Cell n cells q c (top l) i (top r) → Hangs n cells i l
+        → Hangs n cells i r → Rank cells parent q d
+        → (top l ≡ top r → top l ≡ null) → ((k : ℕ) → times k (slots l) ≤ 1) → ((k : ℕ) → times k (slots r) ≤ 1) → (k : ℕ)
+        → times k (slots (node c l i r)) ≤ 1
     once-node {d = d} {c} {l} {i} {r} w a b rk two ol or k = go (decLe 1 (times k (slots l))) (decLe 1 (times k (slots r))) (ℕ-discrete k i)
       where
         at : k ≡ i → Rank cells parent k (suc d)
@@ -139,7 +145,8 @@ module _ (n : ℕ) (cells : List ℕ) where
         rest e = rw e (times-head i (slots r))
 
         go : Dec (1 ≤ times k (slots l)) → Dec (1 ≤ times k (slots r)) → Dec (k ≡ i) → times k (slots (node c l i r)) ≤ 1
-        go (yes y) (yes z) e = absurd (solid small (top-cell k a y .0) (two (under-one (hangs-under a (cell-rank w rk) y) (hangs-under b (cell-rank w rk) z))))
+        go (yes y) (yes z) e =
+            absurd (solid small (top-cell k a y .0) (two (under-one (hangs-under a (cell-rank w rk) y) (hangs-under b (cell-rank w rk) z))))
         go (yes y) (no z) (yes e) = absurd (omega (arith, under-deep (hangs-under a (cell-rank w rk) y) (at e)))
         go (no y) (yes z) (yes e) = absurd (omega (arith, under-deep (hangs-under b (cell-rank w rk) z) (at e)))
         go (yes y) (no z) (no e) = omega (arith, times-node k c l i r, times-else k i (slots r) e, ol k)
@@ -159,9 +166,11 @@ module _ (n : ℕ) (cells : List ℕ) where
     unfolding slots times
     empty e f = record { tree = leaf; from = e; hangs = Hangs.none; once = λ k. omega arith; spent = omega arith }
 
-    grown : {q d i v m rest : ℕ} → Rank cells parent q d → i < n → v ≢ 0 → Stood cells q i → Reach i (cell cells i left) (v - 1) m → Reach i (cell cells i right) m rest → Reach q i v rest
+    grown : {q d i v m rest : ℕ} → Rank cells parent q d → i < n → v ≢ 0 → Stood cells q i → Reach i (cell cells i left) (v - 1) m
+        → Reach i (cell cells i right) m rest → Reach q i v rest
     grown {q} {d} {i} rk b w h x y =
-        let c : Cell n cells q (h .hue) (top (x .tree)) i (top (y .tree)) = record { inside = b; above = h .above; lefts = x .from; rights = y .from; hued = h .hued } in
+        let c : Cell n cells q (h .hue) (top (x .tree)) i (top (y .tree)) =
+        record { inside = b; above = h .above; lefts = x .from; rights = y .from; hued = h .hued } in
         record {
           tree = node (h .hue) (x .tree) i (y .tree);
           from = refl;
@@ -178,12 +187,14 @@ module _ (n : ℕ) (cells : List ℕ) where
         go true p e = empty (eqb-true i null p) (cc)
         go false p e = refuted e
     reach (suc fuel) q i v rest d rk e =
-        go (eqb i null) refl (ltb i n) refl (eqb v 0) refl (stands cells q i) refl (reached fuel n cells i (cell cells i left) (v - 1)) refl e
+        go (eqb i null) refl (ltb i n) refl (eqb v 0) refl (stands cells q i) refl
+        (reached fuel n cells i (cell cells i left) (v - 1)) refl e
         (λ j w m r h. reach fuel i j w m (suc d) r h)
       where
         go : (a : Bool) → eqb i null ≡ a → (b : Bool) → ltb i n ≡ b → (c : Bool) → eqb v 0 ≡ c → (f : Bool) → stands cells q i ≡ f
             → (o : Value) → reached fuel n cells i (cell cells i left) (v - 1) ≡ o
-            → pick a (some v) (pick b (pick c none (pick f (then o (λ m. reached fuel n cells i (cell cells i right) m)) none)) none) ≡ some rest
+            → pick a (some v) (pick b (pick c none (pick f (then o (λ m. reached fuel n cells i (cell cells i right) m)) none)) none)
+            ≡ some rest
             → ((j w m : ℕ) → Rank cells parent i (suc d) → reached fuel n cells i j w ≡ some m → Reach i j w m)
             → Reach q i v rest
         go true p b x c y f s o t e again = empty (eqb-true i null p) (cc)
@@ -198,19 +209,22 @@ module _ (n : ℕ) (cells : List ℕ) where
 
     -- One visit that passes.
     visit : (fuel q i v : ℕ) → i < n → v ≢ 0 → Stood cells q i
-        → reached (suc fuel) n cells q i v ≡ then (reached fuel n cells i (cell cells i left) (v - 1)) (λ rest. reached fuel n cells i (cell cells i right) rest)
+        → reached (suc fuel) n cells q i v
+        ≡ then (reached fuel n cells i (cell cells i left) (v - 1)) (λ rest. reached fuel n cells i (cell cells i right) rest)
     unfolding reached
     visit fuel q i v b w h = rw (ne-eqb i null (solid small b), lt-ltb i n b, ne-eqb v 0 w, stood-stands cells q i h)
 
     -- Two children that are one would stand twice.
-    two-tops : {l r : Tree} {i : ℕ} → Hangs n cells i l → Hangs n cells i r → times (top l) (slots l) + times (top l) (slots r) ≤ 1 → top l ≡ top r → top l ≡ null
+    two-tops : {l r : Tree} {i : ℕ} → Hangs n cells i l → Hangs n cells i r → times (top l) (slots l) + times (top l) (slots r) ≤ 1
+        → top l ≡ top r → top l ≡ null
     two-tops {l} {r} a b once e = go (ℕ-discrete (top l) null)
       where
         go : Dec (top l ≡ null) → top l ≡ null
         go (yes z) = z
         go (no d) = absurd (omega (arith, once, top-in a d, top-in b (λ z. d (e ∙ z)), ap (λ (k : ℕ). times k (slots r)) e))
 
-    reaches : (fuel v : ℕ) {q : ℕ} {t : Tree} → Hangs n cells q t → ((k : ℕ) → times k (slots t) ≤ 1) → length (slots t) ≤ fuel → length (slots t) ≤ v
+    reaches : (fuel v : ℕ) {q : ℕ} {t : Tree} → Hangs n cells q t → ((k : ℕ) → times k (slots t) ≤ 1) → length (slots t) ≤ fuel
+        → length (slots t) ≤ v
         → reached fuel n cells q (top t) v ≡ some (v - length (slots t))
     unfolding slots reached
     reaches zero v Hangs.none o f g = ap some (omega arith)
@@ -218,9 +232,21 @@ module _ (n : ℕ) (cells : List ℕ) where
     reaches zero v (Hangs.some {c = c} {l} {i} {r} w a b) o f g = absurd (omega (arith, length-node c l i r))
     reaches (suc fuel) v {q} (Hangs.some {c = c} {l} {i} {r} w a b) o f g =
         visit fuel q i v (w .inside) (omega (arith, length-node c l i r))
-        (record { above = w .above; hue = c; hued = w .hued; two = λ e. w .lefts ∙ two-tops a b (omega (arith, both (top l))) (sym (w .lefts) ∙ e ∙ w .rights) })
-        ∙ rw (w .lefts, reaches fuel (v - 1) a (λ k. omega (arith, both k)) (omega (arith, length-node c l i r)) (omega (arith, length-node c l i r)))
-        (rw (w .rights, reaches fuel (v - 1 - length (slots l)) b (λ k. omega (arith, both k)) (omega (arith, length-node c l i r)) (omega (arith, length-node c l i r)))
+        (record {
+          above = w .above;
+          hue = c;
+          hued = w .hued;
+          two = λ e. w .lefts ∙ two-tops a b (omega (arith, both (top l))) (sym (w .lefts) ∙ e ∙ w .rights);
+        })
+        ∙ rw (
+          w .lefts,
+          reaches fuel (v - 1) a (λ k. omega (arith, both k)) (omega (arith, length-node c l i r)) (omega (arith, length-node c l i r)),
+        )
+        (rw (
+          w .rights,
+          reaches fuel (v - 1 - length (slots l)) b (λ k. omega (arith, both k)) (omega (arith, length-node c l i r))
+              (omega (arith, length-node c l i r)),
+        )
         (ap some (omega (arith, length-node c l i r))))
       where
         both : (k : ℕ) → times k (slots l) + times k (slots r) ≤ 1
@@ -238,13 +264,18 @@ module _ (n : ℕ) (cells : List ℕ) where
 
     module _ (root : ℕ) where
       -- With v visits at hand.
-      pub reached-tree : (v rest : ℕ) → reached v n cells null root v ≡ some rest → (t : Tree) × Rooted n cells root t × (length (slots t) + rest ≡ v)
-      reached-tree v rest e = let h = reach v null root v rest 0 (home refl) e in (h .tree, record { from = h .from; hangs = h .hangs; once = h .once }, h .spent)
+      pub reached-tree : (v rest : ℕ) → reached v n cells null root v ≡ some rest
+          → (t : Tree) × Rooted n cells root t × (length (slots t) + rest ≡ v)
+      reached-tree v rest e =
+          let h = reach v null root v rest 0 (home refl) e in
+          (h .tree, record { from = h .from; hangs = h .hangs; once = h .once }, h .spent)
 
-      pub tree-reached : (v : ℕ) {t : Tree} → Rooted n cells root t → length (slots t) ≤ v → reached v n cells null root v ≡ some (v - length (slots t))
+      pub tree-reached : (v : ℕ) {t : Tree} → Rooted n cells root t → length (slots t) ≤ v
+          → reached v n cells null root v ≡ some (v - length (slots t))
       tree-reached v h l = rw (h .from) (reaches v v (h .hangs) (h .once) l l)
 
-      pub reached-rooted : (rest : ℕ) → reached n n cells null root n ≡ some rest → (t : Tree) × Rooted n cells root t × (length (slots t) + rest ≡ n)
+      pub reached-rooted : (rest : ℕ) → reached n n cells null root n ≡ some rest
+          → (t : Tree) × Rooted n cells root t × (length (slots t) + rest ≡ n)
       reached-rooted rest e = reached-tree n rest e
 
       pub rooted-most : {t : Tree} → Rooted n cells root t → length (slots t) ≤ n

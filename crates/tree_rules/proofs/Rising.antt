@@ -49,7 +49,9 @@ module _ (names : List ℕ) where
   less-follows m i (inl e) = simp (eq-eqb m null e)
   less-follows m i (inr h) = go (eqb m null)
     where
-      go : (x : Bool) → pick x true (before (nameOf names m hashPart) (nameOf names m keyPart) (nameOf names i hashPart) (nameOf names i keyPart)) ≡ true
+      go : (x : Bool)
+          → pick x true (before (nameOf names m hashPart) (nameOf names m keyPart) (nameOf names i hashPart) (nameOf names i keyPart))
+          ≡ true
       go true = refl
       go false = before-less _ _ _ _ .1 h
 
@@ -63,7 +65,8 @@ module _ (names : List ℕ) where
   read-risen m [] solid e = record { under = λ d. last; rising = empty }
   read-risen m (i ∷ l) solid e = go (follows names m i) refl e (λ h. read-risen i l (λ k y. solid k (omega (arith, times-rest k i l))) h)
     where
-      go : (x : Bool) → follows names m i ≡ x → isSome (pick x (read names i l) none) ≡ true → (isSome (read names i l) ≡ true → Risen i l) → Risen m (i ∷ l)
+      go : (x : Bool) → follows names m i ≡ x → isSome (pick x (read names i l) none) ≡ true → (isSome (read names i l) ≡ true → Risen i l)
+          → Risen m (i ∷ l)
       go true f e again =
           let h = again e in
           let b : Below names (pairOf names i) l = h .under (solid i (omega (arith, times-head i l))) in
@@ -81,19 +84,29 @@ module _ (names : List ℕ) where
 
   -- The walk over a tree reads its slots in order.
   module _ (n : ℕ) (cells : List ℕ) (small : n ≤ null) where
-    walk-reads : (depth m : ℕ) {q : ℕ} {t : Tree} → Hangs n cells q t → length (slots t) ≤ depth → risen depth names cells m (top t) ≡ read names m (slots t)
+    walk-reads : (depth m : ℕ) {q : ℕ} {t : Tree} → Hangs n cells q t → length (slots t) ≤ depth
+        → risen depth names cells m (top t) ≡ read names m (slots t)
     unfolding risen slots read
     walk-reads zero m Hangs.none h = refl
     walk-reads (suc depth) m Hangs.none h = refl
     walk-reads zero m (Hangs.some {c = c} {l} {i} {r} w a b) h = absurd (omega (arith, length-node c l i r))
     walk-reads (suc depth) m (Hangs.some {c = c} {l} {i} {r} w a b) h =
-        rw (ne-eqb i null (omega arith), w .lefts, w .rights, walk-reads depth m a (omega (arith, length-node c l i r)), walk-reads depth i b (omega (arith, length-node c l i r)))
+        rw (
+          ne-eqb i null (omega arith),
+          w .lefts,
+          w .rights,
+          walk-reads depth m a (omega (arith, length-node c l i r)),
+          walk-reads depth i b (omega (arith, length-node c l i r)),
+        )
         (sym (read-append names m (slots l) (i ∷ slots r)))
 
   module _ (cells : List ℕ) (small : slotsOf names ≤ null) (root : ℕ) {t : Tree} (tree : Rooted (slotsOf names) cells root t) where
     rises-read : rises names cells root ≡ isSome (read names null (slots t))
     unfolding rises
-    rises-read = rw (tree .from) (ap isSome (walk-reads (slotsOf names) cells small (slotsOf names) null (tree .hangs) (rooted-most (slotsOf names) cells small root tree)))
+    rises-read =
+        rw (tree .from)
+        (ap isSome
+        (walk-reads (slotsOf names) cells small (slotsOf names) null (tree .hangs) (rooted-most (slotsOf names) cells small root tree)))
 
     pub rises-rising : (rises names cells root ≡ true) ↔ Rising names (slots t)
     rises-rising = (

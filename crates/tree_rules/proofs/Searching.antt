@@ -24,6 +24,7 @@ module _ (names cells : List ℕ) (hash key : ℕ) where
   visits-spent p n = simp (ne-eqb _ _ n)
 
   pub at-slot : (visits p : ℕ) → p ≢ null → p < slotsOf names
-      → searched names cells (suc visits) p hash key ≡ lookedThen (looked names cells p hash key) p (λ q. searched names cells visits q hash key)
+      → searched names cells (suc visits) p hash key
+      ≡ lookedThen (looked names cells p hash key) p (λ q. searched names cells visits q hash key)
   unfolding searched
   at-slot visits p n h = simp (ne-eqb _ _ n, lt-leb _ _ h)

@@ -30,10 +30,13 @@ pub record Obeyed (names cells : List ℕ) (root v rest : ℕ) : Type 0 where
 module _ (names cells : List ℕ) (root v rest : ℕ) where
   pub obeyed-each : obeyed names cells root v ≡ some rest → Obeyed names cells root v rest
   unfolding obeyed
-  obeyed-each e = go (reached v (slotsOf names) cells null root v) refl (rises names cells root) refl (coloured (slotsOf names) cells root) refl (level (slotsOf names) cells root) refl e
+  obeyed-each e =
+      go (reached v (slotsOf names) cells null root v) refl (rises names cells root) refl (coloured (slotsOf names) cells root) refl
+      (level (slotsOf names) cells root) refl e
     where
       go : (o : Value) → reached v (slotsOf names) cells null root v ≡ o
-          → (a : Bool) → rises names cells root ≡ a → (b : Bool) → coloured (slotsOf names) cells root ≡ b → (c : Bool) → level (slotsOf names) cells root ≡ c
+          → (a : Bool) → rises names cells root ≡ a → (b : Bool) → coloured (slotsOf names) cells root ≡ b → (c : Bool)
+          → level (slotsOf names) cells root ≡ c
           → then o (λ rest. pick a (pick b (pick c (some rest) none) none) none) ≡ some rest
           → Obeyed names cells root v rest
       go none p a x b y c z e = refuted e

@@ -102,7 +102,8 @@ module _ {n : ℕ} {look : ℕ → Look} {run : ℕ → ℕ → Search} (r : Run
   -- A slot looked at is the first of the looks from there.
   head-look : (v p : ℕ) → p ≢ null → p < n → (o : Look) → look p ≡ o → Starts p (run (suc v) p .looks)
   head-look v p d l here o = record { rest = []; is = looks (r .at-slot v p d l ∙ ap (λ (o : Look). lookedThen o p (λ q. run v q)) o) }
-  head-look v p d l (on q) o = record { rest = run v q .looks; is = looks (r .at-slot v p d l ∙ ap (λ (o : Look). lookedThen o p (λ q. run v q)) o) }
+  head-look v p d l (on q) o =
+      record { rest = run v q .looks; is = looks (r .at-slot v p d l ∙ ap (λ (o : Look). lookedThen o p (λ q. run v q)) o) }
 
   -- The links followed from a root.
   pub data Trail (root : ℕ) : ℕ → ℕ → Type 0 where
@@ -113,7 +114,8 @@ module _ {n : ℕ} {look : ℕ → Look} {run : ℕ → ℕ → Search} (r : Run
     -- Where the search from a link followed ends, and how many looks later.
     data Stops (j v p : ℕ) : Type 0 where
       missed : run v p .answer ≡ nothing → Trail root (j + length (run v p .looks)) null → Stops j v p
-      hit : {x : ℕ} → run v p .answer ≡ given x → (k : ℕ) → length (run v p .looks) ≡ suc k → getD (run v p .looks) k null ≡ x → look x ≡ here → Stops j v p
+      hit : {x : ℕ} → run v p .answer ≡ given x → (k : ℕ) → length (run v p .looks) ≡ suc k → getD (run v p .looks) k null ≡ x
+          → look x ≡ here → Stops j v p
       lost : run v p .answer ≡ refused 9 → (link : ℕ) → Trail root (j + length (run v p .looks)) link → link ≢ null
           → (n ≤ link) ⊎ (n ≤ j + length (run v p .looks)) → Stops j v p
 
@@ -121,7 +123,8 @@ module _ {n : ℕ} {look : ℕ → Look} {run : ℕ → ℕ → Search} (r : Run
     further {j} {v} {p} {q} e (missed a t) =
         let z : j + length (run (suc v) p .looks) ≡ suc j + length (run v q .looks) = omega (arith, ap length (looks e)) in
         missed (answers e ∙ a) (rw z t)
-    further {j} {v} {p} {q} e (hit a k m x h) = hit (answers e ∙ a) (suc k) (ap length (looks e) ∙ omega (arith, m)) (ap (λ (l : List ℕ). getD l (suc k) null) (looks e) ∙ x) h
+    further {j} {v} {p} {q} e (hit a k m x h) =
+        hit (answers e ∙ a) (suc k) (ap length (looks e) ∙ omega (arith, m)) (ap (λ (l : List ℕ). getD l (suc k) null) (looks e) ∙ x) h
     further {j} {v} {p} {q} e (lost a link t d o) =
         let z : j + length (run (suc v) p .looks) ≡ suc j + length (run v q .looks) = omega (arith, ap length (looks e)) in
         lost (answers e ∙ a) link (rw z t) d (rw z o)
@@ -148,7 +151,8 @@ module _ {n : ℕ} {look : ℕ → Look} {run : ℕ → ℕ → Search} (r : Run
     shown (met {v} {p} d l o e) j t k h =
         spread (λ i x. Trail root i x × (x ≢ null) × (x < n)) j p [] _ (looks e) (t, d, l) (λ i w. absurd (omega arith)) k h
     shown (onward {v} {p} {q} d l o e g) j t k h =
-        spread (λ i x. Trail root i x × (x ≢ null) × (x < n)) j p (run v q .looks) _ (looks e) (t, d, l) (shown g (suc j) (step t d l o)) k h
+        spread (λ i x. Trail root i x × (x ≢ null) × (x < n)) j p (run v q .looks) _ (looks e) (t, d, l)
+        (shown g (suc j) (step t d l o)) k h
 
     -- One link is followed after k visits, and the link before a link followed is a slot without the pair.
     one : {k p q : ℕ} → Trail root k p → Trail root k q → p ≡ q
@@ -211,7 +215,8 @@ module _ {n : ℕ} {look : ℕ → Look} {run : ℕ → ℕ → Search} (r : Run
   later (ended z e) x h = absurd (omega (arith, ap (times x) (looks e)))
   later (astray d o e) x h = absurd (omega (arith, ap (times x) (looks e)))
   later (met {v} {p} d l o e) x h =
-      times-cases x p [] (omega (arith, ap (times x) (looks e))) (λ z. rw z (record { visits = suc v; fewer = omega arith; shorter = omega arith; same = refl })) (λ k. absurd (omega arith))
+      times-cases x p [] (omega (arith, ap (times x) (looks e)))
+      (λ z. rw z (record { visits = suc v; fewer = omega arith; shorter = omega arith; same = refl })) (λ k. absurd (omega arith))
   later (onward {v} {p} {q} d l o e g) x h =
       times-cases x p (run v q .looks) (omega (arith, ap (times x) (looks e)))
       (λ z. rw z (record { visits = suc v; fewer = omega arith; shorter = omega arith; same = refl }))
@@ -242,14 +247,17 @@ module _ {n : ℕ} {look : ℕ → Look} {run : ℕ → ℕ → Search} (r : Run
           let m = more (goes (t .visits) p) (λ z. within (sym (t .same) ∙ z)) (suc v) (omega (arith, t .fewer)) in
           omega (arith, t .shorter, ap length (looks e), ap length (looks m))
 
-      go : Dec (x ≡ p) → Dec (0 < times p (run v q .looks)) → (run v q .answer ≢ refused 9 → times x (run v q .looks) ≤ 1) → times x (run (suc v) p .looks) ≤ 1
+      go : Dec (x ≡ p) → Dec (0 < times p (run v q .looks)) → (run v q .answer ≢ refused 9 → times x (run v q .looks) ≤ 1)
+          → times x (run (suc v) p .looks) ≤ 1
       go (yes z) (yes h) rest = absurd (round h)
-      go (yes z) (no h) rest = omega (arith, ap (times x) (looks e), ap (λ (y : ℕ). times y (p ∷ run v q .looks)) z, times-head p (run v q .looks))
+      go (yes z) (no h) rest =
+          omega (arith, ap (times x) (looks e), ap (λ (y : ℕ). times y (p ∷ run v q .looks)) z, times-head p (run v q .looks))
       go (no z) h rest = omega (arith, ap (times x) (looks e), times-else x p (run v q .looks) z, rest within)
 
 -- The looks of the whole search, of any pair that a look is at exactly where it says here.
 module _ (names : List ℕ) (hash key : ℕ) {look : ℕ → Look} {run : ℕ → ℕ → Search} (r : Runs (slotsOf names) look run)
-    (is : (p : ℕ) → look p ≡ here → pairOf names p ≡ pair hash key) (is-not : (p q : ℕ) → look p ≡ on q → pairOf names p ≢ pair hash key) (root : ℕ) where
+    (is : (p : ℕ) → look p ≡ here → pairOf names p ≡ pair hash key) (is-not : (p q : ℕ) → look p ≡ on q → pairOf names p ≢ pair hash key)
+    (root : ℕ) where
   abbrev whole : Search
   whole = run (slotsOf names) root
 
@@ -292,7 +300,8 @@ module _ (names : List ℕ) (hash key : ℕ) {look : ℕ → Look} {run : ℕ �
             → pairOf names (getD (whole .looks) k null) ≢ pair hash key
         others n k h s = go (decLt (suc k) (length (whole .looks))) s
           where
-            go : Dec (suc k < length (whole .looks)) → Stops r root 0 (slotsOf names) root → pairOf names (getD (whole .looks) k null) ≢ pair hash key
+            go : Dec (suc k < length (whole .looks)) → Stops r root 0 (slotsOf names) root
+                → pairOf names (getD (whole .looks) k null) ≢ pair hash key
             go (yes l) s = passed k _ h (look-followed (suc k) l .0)
             go (no l) (Stops.missed a t) = let z : 0 + length (whole .looks) ≡ suc k = omega arith in passed k null h (rw z at t)
             go (no l) (Stops.hit {x} a i m y u) = absurd (n x a)
@@ -304,7 +313,8 @@ module _ (names : List ℕ) (hash key : ℕ) {look : ℕ → Look} {run : ℕ �
         misses e (Stops.lost a link t d o) = absurd (omega (arith, number (sym a ∙ e)))
 
         loses : whole .answer ≡ refused 9 → Stops r root 0 (slotsOf names) root
-            → (link : ℕ) × F (length (whole .looks)) link × (link ≢ null) × ((slotsOf names ≤ link) ⊎ (slotsOf names ≤ length (whole .looks)))
+            → (link : ℕ) × F (length (whole .looks)) link × (link ≢ null)
+            × ((slotsOf names ≤ link) ⊎ (slotsOf names ≤ length (whole .looks)))
         loses e (Stops.missed a t) = absurd (omega (arith, number (sym a ∙ e)))
         loses e (Stops.hit a k m x h) = absurd (omega (arith, number (sym a ∙ e)))
         loses e (Stops.lost a link t d o) = (link, to _ link (rw zero-add at t), d, rw zero-add at o)

@@ -37,12 +37,14 @@ module _ (n : ℕ) (cells : List ℕ) where
   unfolding reached
   reached-within zero q i v m e = within-null (eqb i null) v m e
   reached-within (suc fuel) q i v m e =
-      within-gate v m (eqb i null) (ltb i n) (eqb v 0) (stands cells q i) (reached fuel n cells i (cell cells i left) (v - 1)) (λ rest. reached fuel n cells i (cell cells i right) rest)
+      within-gate v m (eqb i null) (ltb i n) (eqb v 0) (stands cells q i) (reached fuel n cells i (cell cells i left) (v - 1))
+      (λ rest. reached fuel n cells i (cell cells i right) rest)
       (λ k h. reached-within fuel i (cell cells i left) (v - 1) k h)
       (λ k h. reached-within fuel i (cell cells i right) k m h)
       e
 
-  fuel-gate : (v : ℕ) (a b s c : Bool) (t u : Value) (f g : ℕ → Value) → (s ≡ false → t ≡ u) → ((k : ℕ) → s ≡ false → t ≡ some k → f k ≡ g k)
+  fuel-gate : (v : ℕ) (a b s c : Bool) (t u : Value) (f g : ℕ → Value) → (s ≡ false → t ≡ u)
+      → ((k : ℕ) → s ≡ false → t ≡ some k → f k ≡ g k)
       → gate v a b s c (then t f) ≡ gate v a b s c (then u g)
   fuel-gate v true b s c t u f g first second = refl
   fuel-gate v false false s c t u f g first second = refl
@@ -100,12 +102,14 @@ module _ (n : ℕ) (cells : List ℕ) where
           go (suc k) z = rw (ne-eqb i null d, lt-ltb i n l, ne-eqb (suc k) 0 z, ← s, e)
 
       pub reach-on : stand ≡ true
-          → reached v n cells q i v ≡ then (reached (v - 1) n cells i (cell cells i left) (v - 1)) (λ rest. reached (v - 1) n cells i (cell cells i right) rest)
+          → reached v n cells q i v
+          ≡ then (reached (v - 1) n cells i (cell cells i left) (v - 1)) (λ rest. reached (v - 1) n cells i (cell cells i right) rest)
       unfolding reached
       reach-on e = go v w
         where
           go : (k : ℕ) → k ≢ 0
-              → reached k n cells q i k ≡ then (reached (k - 1) n cells i (cell cells i left) (k - 1)) (λ rest. reached (k - 1) n cells i (cell cells i right) rest)
+              → reached k n cells q i k
+              ≡ then (reached (k - 1) n cells i (cell cells i left) (k - 1)) (λ rest. reached (k - 1) n cells i (cell cells i right) rest)
           go zero z = absurd (z refl)
           go (suc k) z = rw (ne-eqb i null d, lt-ltb i n l, ne-eqb (suc k) 0 z, ← s, e, sub-one)
 
@@ -138,7 +142,8 @@ module _ (n : ℕ) (cells : List ℕ) (q i : ℕ) where
   chain-on (suc v) d l w e f g = rw (ne-eqb i null d, lt-ltb i n l, eq-eqb (cell cells i prev) q (sym e ∙ f), sub-one, g)
 
 -- A chain never hands back more visits than it was given.
-within-link : (v m : ℕ) (a b c : Bool) (t : Value) → (t ≡ some m → m ≤ v) → pick a (some (suc v)) (pick b (pick c t none) none) ≡ some m → m ≤ suc v
+within-link : (v m : ℕ) (a b c : Bool) (t : Value) → (t ≡ some m → m ≤ v)
+    → pick a (some (suc v)) (pick b (pick c t none) none) ≡ some m → m ≤ suc v
 within-link v m true b c t h e = omega (arith, some-is e)
 within-link v m false false c t h e = refuted e
 within-link v m false true false t h e = refuted e

@@ -1,4 +1,5 @@
--- The walk of the source's check: what one visit comes to, and that the model is the walk in the rules' words, whatever the fuel past the visits.
+-- The walk of the source's check: what one visit comes to, and that the model is the walk in the rules' words,
+-- whatever the fuel past the visits.
 use mathlib.Core.Path.{_≡_, refl, ap, sym, _∙_}
 use mathlib.Core.Logic.{_≢_, inl, inr}
 use mathlib.Core.Bool.{Bool, true, false, false≢true}
@@ -10,7 +11,8 @@ use lib.Dec.{eqb, leb, ltb}
 use borrow.Author.Tests.{eq-eqb, ne-eqb, le-leb, lt-leb, lt-ltb, ltb-true, eqb-true}
 use Rattle.slots.specs.Words.{null, pick, parent, left, right, prev, next, cell}
 use Rattle.tree_rules.specs.Find.{slotsOf}
-use Rattle.tree_rules.specs.Check.{inRange, linksIn, firstFailing, Walk, passed, failed, strayed, onward, walked, Named, LinksNamed, Walks, absent, outside, spent, loose, fails, leftStops, both}
+use Rattle.tree_rules.specs.Check.{inRange, linksIn, firstFailing, Walk, passed, failed, strayed, onward, walked, Named, LinksNamed}
+use Rattle.tree_rules.specs.Check.{Walks, absent, outside, spent, loose, fails, leftStops, both}
 
 -- A link in range is null or names a slot.
 pub named : (n l : ℕ) → inRange n l ≡ true → Named n l
@@ -97,7 +99,8 @@ module _ (names cells : List ℕ) where
     walk-fails fuel e f = rw (ne-eqb i null n, lt-leb (slotsOf names) i l, ne-eqb v 0 w, e, ne-eqb (firstFailing names cells i) 0 f)
 
     pub walk-on : (fuel : ℕ) → linksIn (slotsOf names) cells i ≡ true → firstFailing names cells i ≡ 0
-        → walked (suc fuel) names cells i v ≡ onward (walked fuel names cells (cell cells i left) (v - 1)) (λ rest. walked fuel names cells (cell cells i right) rest)
+        → walked (suc fuel) names cells i v
+        ≡ onward (walked fuel names cells (cell cells i left) (v - 1)) (λ rest. walked fuel names cells (cell cells i right) rest)
     unfolding walked
     walk-on fuel e f = rw (ne-eqb i null n, lt-leb (slotsOf names) i l, ne-eqb v 0 w, e, eq-eqb (firstFailing names cells i) 0 f)
 
@@ -112,7 +115,8 @@ module _ (names cells : List ℕ) where
   within (both {m = k} n l w h f a b) m p = omega (arith, within a k refl, within b m p)
 
   -- A visit whose tests pass, by what the left subtree comes to.
-  visit : (fuel i v : ℕ) → v ≤ suc fuel → i ≢ null → i < slotsOf names → v ≢ 0 → linksIn (slotsOf names) cells i ≡ true → firstFailing names cells i ≡ 0
+  visit : (fuel i v : ℕ) → v ≤ suc fuel → i ≢ null → i < slotsOf names → v ≢ 0 → linksIn (slotsOf names) cells i ≡ true
+      → firstFailing names cells i ≡ 0
       → (o : Walk) → walked fuel names cells (cell cells i left) (v - 1) ≡ o → Walks names cells (cell cells i left) (v - 1) o
       → ((m : ℕ) → m ≤ fuel → Walks names cells (cell cells i right) m (walked fuel names cells (cell cells i right) m))
       → Walks names cells i v (walked (suc fuel) names cells i v)
@@ -131,10 +135,12 @@ module _ (names cells : List ℕ) where
       go (yes e) = rw (walk-null 0 i v e) (absent e)
       go (no n) = let z : v ≡ 0 = omega arith in rw (walk-spent 0 i v n z) (spent n z)
   walks (suc fuel) i v le =
-      go (ℕ-discrete i null) (decLt i (slotsOf names)) (ℕ-discrete v 0) (linksIn (slotsOf names) cells i) refl (ℕ-discrete (firstFailing names cells i) 0)
+      go (ℕ-discrete i null) (decLt i (slotsOf names)) (ℕ-discrete v 0) (linksIn (slotsOf names) cells i) refl
+      (ℕ-discrete (firstFailing names cells i) 0)
       (λ w. walks fuel (cell cells i left) (v - 1) (omega arith)) (λ m h. walks fuel (cell cells i right) m h)
     where
-      go : Dec (i ≡ null) → Dec (i < slotsOf names) → Dec (v ≡ 0) → (b : Bool) → linksIn (slotsOf names) cells i ≡ b → Dec (firstFailing names cells i ≡ 0)
+      go : Dec (i ≡ null) → Dec (i < slotsOf names) → Dec (v ≡ 0) → (b : Bool) → linksIn (slotsOf names) cells i ≡ b
+          → Dec (firstFailing names cells i ≡ 0)
           → (v ≢ 0 → Walks names cells (cell cells i left) (v - 1) (walked fuel names cells (cell cells i left) (v - 1)))
           → ((m : ℕ) → m ≤ fuel → Walks names cells (cell cells i right) m (walked fuel names cells (cell cells i right) m))
           → Walks names cells i v (walked (suc fuel) names cells i v)
@@ -157,9 +163,11 @@ module _ (names cells : List ℕ) where
   walks-only (leftStops n l w h f a d) zero le = absurd (w (omega arith))
   walks-only (leftStops {o = passed m} n l w h f a d) (suc fuel) le = absurd (d m refl)
   walks-only (leftStops {i = i} {o = failed t j} n l w h f a d) (suc fuel) le =
-      walk-on n l w fuel (links-in _ _ _ h) f ∙ ap (λ (o : Walk). onward o (λ rest. walked fuel names cells (cell cells i right) rest)) (walks-only a fuel (omega arith))
+      walk-on n l w fuel (links-in _ _ _ h) f
+      ∙ ap (λ (o : Walk). onward o (λ rest. walked fuel names cells (cell cells i right) rest)) (walks-only a fuel (omega arith))
   walks-only (leftStops {i = i} {o = strayed} n l w h f a d) (suc fuel) le =
-      walk-on n l w fuel (links-in _ _ _ h) f ∙ ap (λ (o : Walk). onward o (λ rest. walked fuel names cells (cell cells i right) rest)) (walks-only a fuel (omega arith))
+      walk-on n l w fuel (links-in _ _ _ h) f
+      ∙ ap (λ (o : Walk). onward o (λ rest. walked fuel names cells (cell cells i right) rest)) (walks-only a fuel (omega arith))
   walks-only (both n l w h f a b) zero le = absurd (w (omega arith))
   walks-only (both {i = i} {m = m} n l w h f a b) (suc fuel) le =
       walk-on n l w fuel (links-in _ _ _ h) f

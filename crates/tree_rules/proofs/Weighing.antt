@@ -1,5 +1,5 @@
--- T8: the walk's number is that of the slots below a link, so a slot passes exactly where that is stored for it. A slot of the tree has what
--- its subtree says, and every other slot 0.
+-- T8: the walk's number is that of the slots below a link, so a slot passes exactly where that is stored for it. A slot of the tree has
+-- what its subtree says, and every other slot 0.
 use mathlib.Core.Path.{_≡_, refl, ap, _∙_, sym}
 use mathlib.Core.Logic.{_↔_}
 use mathlib.Core.Bool.{Bool, true, false, false≢true}
@@ -31,7 +31,8 @@ only-none k i v e = go (ℕ-discrete k i)
     go (yes q) = absurd (omega (arith, hit-same {k = k} {i = i} q))
     go (no d) = pick-ne v 0 d
 
-times-node : (k : ℕ) (c : Colour) (l : Tree) (i : ℕ) (r : Tree) → times k (slots (node c l i r)) ≡ hit k i + times k (slots l) + times k (slots r)
+times-node : (k : ℕ) (c : Colour) (l : Tree) (i : ℕ) (r : Tree)
+    → times k (slots (node c l i r)) ≡ hit k i + times k (slots l) + times k (slots r)
 unfolding slots times
 times-node k c l i r = omega (arith, times-append k (slots l) (i ∷ slots r))
 
@@ -49,15 +50,24 @@ module _ (c : Colour) (l : Tree) (i : ℕ) (r : Tree) (k : ℕ) (o : times k (sl
   at-top e =
       let m = times-node k c l i r in
       let f : only k i (length (slots (node c l i r))) ≡ length (slots (node c l i r)) = rw e (only-same i _) in
-      omega (arith, hit-same {k = k} {i = i} e, sizeIn-none k l (omega (arith, hit-same {k = k} {i = i} e)), sizeIn-none k r (omega (arith, hit-same {k = k} {i = i} e)))
+      omega (
+        arith,
+        hit-same {k = k} {i = i} e,
+        sizeIn-none k l (omega (arith, hit-same {k = k} {i = i} e)),
+        sizeIn-none k r (omega (arith, hit-same {k = k} {i = i} e)),
+      )
 
   at-left : 1 ≤ times k (slots l) → sizeIn k (node c l i r) ≡ sizeIn k l
   unfolding sizeIn
-  at-left h = let m = times-node k c l i r in omega (arith, only-none k i (length (slots (node c l i r))) (omega arith), sizeIn-none k r (omega arith))
+  at-left h =
+      let m = times-node k c l i r in
+      omega (arith, only-none k i (length (slots (node c l i r))) (omega arith), sizeIn-none k r (omega arith))
 
   at-right : 1 ≤ times k (slots r) → sizeIn k (node c l i r) ≡ sizeIn k r
   unfolding sizeIn
-  at-right h = let m = times-node k c l i r in omega (arith, only-none k i (length (slots (node c l i r))) (omega arith), sizeIn-none k l (omega arith))
+  at-right h =
+      let m = times-node k c l i r in
+      omega (arith, only-none k i (length (slots (node c l i r))) (omega arith), sizeIn-none k l (omega arith))
 
 -- Slot by slot down the tree: each has the number of its subtree.
 pub data Each (sizes : List ℕ) : Tree → Type 0 where
@@ -101,7 +111,8 @@ module _ {sizes : List ℕ} where
       (λ k h. f k (omega (arith, times-node k c l i r)) ∙ at-right c l i r k (o k) h))
 
 -- T8 whole is T8 of the tree's slots, and 0 in every other.
-pub sized-parts : (sizes : List ℕ) (t : Tree) → SizedBy sizes t ↔ (SizedSlots sizes t × ((k : ℕ) → times k (slots t) ≡ 0 → sizeWord sizes k ≡ 0))
+pub sized-parts : (sizes : List ℕ) (t : Tree)
+    → SizedBy sizes t ↔ (SizedSlots sizes t × ((k : ℕ) → times k (slots t) ≡ 0 → sizeWord sizes k ≡ 0))
 sized-parts sizes t = (λ z. (λ k h. z k, λ k e. z k ∙ sizeIn-none k t e), λ p k. go (p .0) (p .1) k (decLe 1 (times k (slots t))))
   where
     go : SizedSlots sizes t → ((k : ℕ) → times k (slots t) ≡ 0 → sizeWord sizes k ≡ 0) → (k : ℕ) → Dec (1 ≤ times k (slots t))
@@ -126,7 +137,8 @@ counted-parts sizes i none y m e = refuted e
 counted-parts sizes i (some a) none m e = refuted e
 counted-parts sizes i (some a) (some b) m e = go (hasSize sizes i (withParts a b)) refl e
   where
-    go : (t : Bool) → hasSize sizes i (withParts a b) ≡ t → pick t (some (withParts a b)) none ≡ some m → Counted sizes i m (some a) (some b)
+    go : (t : Bool) → hasSize sizes i (withParts a b) ≡ t → pick t (some (withParts a b)) none ≡ some m
+        → Counted sizes i m (some a) (some b)
     go false p e = refuted e
     go true p e =
         let z : withParts a b ≡ m = some-is e in
@@ -138,7 +150,8 @@ weights sizes leaf = some 0
 weights sizes (node c l i r) = counted sizes i (weights sizes l) (weights sizes r)
 
 module _ (n : ℕ) (cells sizes : List ℕ) (small : n ≤ null) (long : length sizes ≡ n) where
-  walk-weights : (depth : ℕ) {q : ℕ} {t : Tree} → Hangs n cells q t → length (slots t) ≤ depth → slotsBelow depth cells sizes (top t) ≡ weights sizes t
+  walk-weights : (depth : ℕ) {q : ℕ} {t : Tree} → Hangs n cells q t → length (slots t) ≤ depth
+      → slotsBelow depth cells sizes (top t) ≡ weights sizes t
   unfolding slotsBelow slots weights
   walk-weights zero Hangs.none h = refl
   walk-weights (suc depth) Hangs.none h = refl
@@ -218,7 +231,9 @@ module _ (cells : List ℕ) where
           → pick t (some 0) (then u (λ k. then v (λ m. pick (eqb k m) (some (pick (eqb (cell cells i state) 2) k (k + 1))) none))) ≡ some b
           → ((k : ℕ) → u ≡ some k → (w : ℕ) × (slotsBelow depth cells [] (cell cells i left) ≡ some w))
           → ((k : ℕ) → v ≡ some k → (w : ℕ) × (slotsBelow depth cells [] (cell cells i right) ≡ some w))
-          → (w : ℕ) × (pick t (some 0) (counted [] i (slotsBelow depth cells [] (cell cells i left)) (slotsBelow depth cells [] (cell cells i right))) ≡ some w)
+          → (w : ℕ)
+          × (pick t (some 0) (counted [] i (slotsBelow depth cells [] (cell cells i left)) (slotsBelow depth cells [] (cell cells i right)))
+          ≡ some w)
       go true u v e f g = (0, refl)
       go false none v e f g = refuted e
       go false (some k) none e f g = refuted e

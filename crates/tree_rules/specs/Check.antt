@@ -38,7 +38,8 @@ unfoldable pub notAllRed : List ℕ → ℕ → Bool
 notAllRed cells i =
     let l = cell cells i left in
     let r = cell cells i right in
-    pick (redSlot cells i) (pick (eqb l null) true (pick (eqb r null) true (pick (redSlot cells l) (pick (redSlot cells r) false true) true))) true
+    pick (redSlot cells i)
+    (pick (eqb l null) true (pick (eqb r null) true (pick (redSlot cells l) (pick (redSlot cells r) false true) true))) true
 
 -- "Its eight tests are numbered in source order: prev, next, parent, left's parent, left's hash, right's parent, right's hash,
 -- both children red."
@@ -150,7 +151,8 @@ pub data Walks (names cells : List ℕ) : ℕ → ℕ → Walk → Type 0 where
   fails : {i v : ℕ} → i ≢ null → i < slotsOf names → v ≢ 0 → LinksNamed (slotsOf names) cells i → firstFailing names cells i ≢ 0
       → Walks names cells i v (failed (firstFailing names cells i) i)
   -- the left subtree whole, then the right
-  leftStops : {i v : ℕ} {o : Walk} → i ≢ null → i < slotsOf names → v ≢ 0 → LinksNamed (slotsOf names) cells i → firstFailing names cells i ≡ 0
+  leftStops : {i v : ℕ} {o : Walk} → i ≢ null → i < slotsOf names → v ≢ 0 → LinksNamed (slotsOf names) cells i
+      → firstFailing names cells i ≡ 0
       → Walks names cells (cell cells i left) (v - 1) o → ((m : ℕ) → o ≢ passed m) → Walks names cells i v o
   both : {i v m : ℕ} {o : Walk} → i ≢ null → i < slotsOf names → v ≢ 0 → LinksNamed (slotsOf names) cells i → firstFailing names cells i ≡ 0
       → Walks names cells (cell cells i left) (v - 1) (passed m) → Walks names cells (cell cells i right) m o → Walks names cells i v o

@@ -9,7 +9,8 @@ use Rattle.slots.specs.Words.{null, parent, left, right, prev, next, nameOf, ha
 use Rattle.slots.specs.Answers.{some, given, nothing, refused}
 use Rattle.tree_rules.specs.Find.{here, on, decided, slotsOf, found, Follows, Lost, Here, Missed}
 use Rattle.tree_rules.specs.Looks.{LooksAt}
-use Rattle.tree_rules.specs.Check.{test, firstFailing, passed, failed, strayed, checked, Back, Child, LeftHash, RightHash, NotAllRed, Walks}
+use Rattle.tree_rules.specs.Check.{test, firstFailing, passed, failed, strayed, checked, Back, Child, LeftHash, RightHash, NotAllRed}
+use Rattle.tree_rules.specs.Check.{Walks}
 use Rattle.tree_rules.specs.Tree.{Tree, slots, times, Rooted, Rising, Coloured, Level, Shaped, height}
 use Rattle.tree_rules.specs.Rules.{reached, rises, coloured, level, allSized, obeyed, obeyedSized, treeSize}
 use Rattle.tree_rules.specs.Chain.{Chain, chained}
@@ -63,7 +64,8 @@ pub record Tests (names cells : List ℕ) (i : ℕ) : Type 0 where
 -- The source's check on any words, from any root: each answer exactly where the walk in the rules' words comes to it.
 pub record Checks (names cells : List ℕ) (root : ℕ) : Type 0 where
   pub passes : (checked names cells root ≡ nothing) ↔ ((v : ℕ) × Walks names cells root (slotsOf names) (passed v))
-  pub fails : (t i : ℕ) → (checked names cells root ≡ record { number = 100 + t; value = some i }) ↔ Walks names cells root (slotsOf names) (failed t i)
+  pub fails : (t i : ℕ)
+      → (checked names cells root ≡ record { number = 100 + t; value = some i }) ↔ Walks names cells root (slotsOf names) (failed t i)
   pub nine : (checked names cells root ≡ refused 9) ↔ Walks names cells root (slotsOf names) strayed
 
 -- The rules of one tree, on words in which slot null has no word: T3 to T6 are obeyed exactly of a tree that has all four.
@@ -94,7 +96,8 @@ pub record Shallow (names cells : List ℕ) (root hash key : ℕ) (t : Tree) : T
   pub looks-most : Rooted (slotsOf names) cells root t → length (found names cells root hash key .looks) ≤ height t
 
 -- The stored sizes of a tree, one word a slot.
-pub record Weighs (names cells sizes : List ℕ) (few : slotsOf names ≤ null) (ends : length cells ≤ 7 * null) (long : length sizes ≡ slotsOf names)
+pub record Weighs (names cells sizes : List ℕ) (few : slotsOf names ≤ null) (ends : length cells ≤ 7 * null)
+    (long : length sizes ≡ slotsOf names)
     (root : ℕ) : Type 0 where
   -- T8 of the slots of a tree, by its own test: one compare a slot finds it out
   pub eight : {t : Tree} → Rooted (slotsOf names) cells root t → (allSized (slotsOf names) cells sizes root ≡ true) ↔ SizedSlots sizes t
@@ -106,7 +109,8 @@ pub record Weighs (names cells sizes : List ℕ) (few : slotsOf names ≤ null) 
   pub kth : {t : Tree} → Rooted (slotsOf names) cells root t → SizedBy sizes t → (k : ℕ) → k < length (slots t)
       → kthFrom (slotsOf names) cells sizes root k ≡ getD (slots t) k null
   pub rank : {t : Tree} → Rooted (slotsOf names) cells root t → SizedBy sizes t → Rising names (slots t) → (k : ℕ) → k < length (slots t)
-      → rankFrom (slotsOf names) names cells sizes root (nameOf names (getD (slots t) k null) hashPart) (nameOf names (getD (slots t) k null) keyPart) 0
+      → rankFrom (slotsOf names) names cells sizes root (nameOf names (getD (slots t) k null) hashPart)
+      (nameOf names (getD (slots t) k null) keyPart) 0
       ≡ some k
 
 pub record Claims : Type 0 where
@@ -114,10 +118,12 @@ pub record Claims : Type 0 where
   pub finds : (names cells : List ℕ) (root hash key : ℕ) → Finds names cells root hash key
   pub tests : (names cells : List ℕ) (i : ℕ) → Tests names cells i
   pub checks : (names cells : List ℕ) (root : ℕ) → Checks names cells root
-  pub rules : (names cells : List ℕ) (few : slotsOf names ≤ null) (ends : length cells ≤ 7 * null) (root : ℕ) → Rules names cells few ends root
+  pub rules : (names cells : List ℕ) (few : slotsOf names ≤ null) (ends : length cells ≤ 7 * null) (root : ℕ)
+      → Rules names cells few ends root
   pub chains : (n : ℕ) (cells : List ℕ) (few : n ≤ null) (first : ℕ) → Chains n cells few first
   pub shallow : (names cells : List ℕ) (root hash key : ℕ) (t : Tree) → Shallow names cells root hash key t
-  pub weighs : (names cells sizes : List ℕ) (few : slotsOf names ≤ null) (ends : length cells ≤ 7 * null) (long : length sizes ≡ slotsOf names) (root : ℕ)
+  pub weighs : (names cells sizes : List ℕ) (few : slotsOf names ≤ null) (ends : length cells ≤ 7 * null)
+      (long : length sizes ≡ slotsOf names) (root : ℕ)
       → Weighs names cells sizes few ends long root
   -- a frozen set "carries no sizes": where none is stored, T8 asks nothing, on any words
   pub unsized : (names cells : List ℕ) (root v : ℕ) → obeyedSized names cells [] root v ≡ obeyed names cells root v

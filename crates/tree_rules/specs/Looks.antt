@@ -18,14 +18,16 @@ pub record LooksAt (names : List ℕ) (hash key : ℕ) (follows : ℕ → ℕ �
   -- it is a slot
   pub inside : (k : ℕ) → k < length (s .looks) → (getD (s .looks) k null ≢ null) × (getD (s .looks) k null < slotsOf names)
   -- every slot followed while visits are left is looked at
-  pub every : {k p : ℕ} → follows k p → p ≢ null → p < slotsOf names → k < slotsOf names → (k < length (s .looks)) × (getD (s .looks) k null ≡ p)
+  pub every : {k p : ℕ} → follows k p → p ≢ null → p < slotsOf names → k < slotsOf names
+      → (k < length (s .looks)) × (getD (s .looks) k null ≡ p)
   -- no look but the last is at the pair
   pub before-last : (k : ℕ) → suc k < length (s .looks) → pairOf names (getD (s .looks) k null) ≢ pair hash key
   -- on a hit the last look is at the slot answered, which has the pair
   pub hit : (slot : ℕ) → s .answer ≡ given slot
       → (k : ℕ) × (length (s .looks) ≡ suc k) × (getD (s .looks) k null ≡ slot) × (pairOf names slot ≡ pair hash key)
   -- with any other answer no look is at the pair
-  pub no-hit : ((slot : ℕ) → s .answer ≢ given slot) → (k : ℕ) → k < length (s .looks) → pairOf names (getD (s .looks) k null) ≢ pair hash key
+  pub no-hit : ((slot : ℕ) → s .answer ≢ given slot) → (k : ℕ) → k < length (s .looks)
+      → pairOf names (getD (s .looks) k null) ≢ pair hash key
   -- on Nothing as many looks as were visited before the null link
   pub miss : s .answer ≡ nothing → follows (length (s .looks)) null
   -- on 9 as many as were visited before the search was lost

@@ -43,7 +43,8 @@ pub record Cell (n : ℕ) (cells : List ℕ) (q : ℕ) (c : Colour) (l i r : ℕ
 -- The words hold the tree under the parent q: "each child points back".
 pub data Hangs (n : ℕ) (cells : List ℕ) : ℕ → Tree → Type 0 where
   none : {q : ℕ} → Hangs n cells q leaf
-  some : {q : ℕ} {c : Colour} {l : Tree} {i : ℕ} {r : Tree} → Cell n cells q c (top l) i (top r) → Hangs n cells i l → Hangs n cells i r → Hangs n cells q (node c l i r)
+  some : {q : ℕ} {c : Colour} {l : Tree} {i : ℕ} {r : Tree} → Cell n cells q c (top l) i (top r) → Hangs n cells i l → Hangs n cells i r
+      → Hangs n cells q (node c l i r)
 
 -- T3 of one tree: "the root's parent is null, each child points back, and the slots reached from the root are .., each once."
 pub record Rooted (n : ℕ) (cells : List ℕ) (root : ℕ) (t : Tree) : Type 0 where

@@ -85,12 +85,14 @@ stood-yes expected from (b ∷ part) rest e = go (decLt from (length expected)) 
         absurd (omega arith)
 
 -- No: up to the first byte that does not stand there.
-no-parts : (expected : List ℕ) (from : ℕ) (part : List ℕ) → agreed expected from part .same ≡ false → Parts expected from part (agreed expected from part .at)
+no-parts : (expected : List ℕ) (from : ℕ) (part : List ℕ) → agreed expected from part .same ≡ false
+    → Parts expected from part (agreed expected from part .at)
 unfolding agreed
 no-parts expected from [] e = absurd (false≢true (sym e))
 no-parts expected from (b ∷ part) e = go (stands expected from b) (no-parts expected (suc from) part)
   where
-    go : Stands expected from b ⊎ Other expected from b → (agreed expected (suc from) part .same ≡ false → Parts expected (suc from) part (agreed expected (suc from) part .at))
+    go : Stands expected from b ⊎ Other expected from b
+        → (agreed expected (suc from) part .same ≡ false → Parts expected (suc from) part (agreed expected (suc from) part .at))
         → Parts expected from (b ∷ part) (agreed expected from (b ∷ part) .at)
     go (inl s) again =
         let rest = again (rw (yes-test expected from b s) at e) in
@@ -126,7 +128,8 @@ agreed-more expected from [] b e = refl
 agreed-more expected from (x ∷ a) b e = go (stands expected from x) (agreed-more expected (suc from) a b)
   where
     go : Stands expected from x ⊎ Other expected from x
-        → (agreed expected (suc from) a .same ≡ true → agreed expected (suc from) (a ++ b) ≡ agreed expected (agreed expected (suc from) a .at) b)
+        → (agreed expected (suc from) a .same ≡ true
+        → agreed expected (suc from) (a ++ b) ≡ agreed expected (agreed expected (suc from) a .at) b)
         → agreed expected from (x ∷ (a ++ b)) ≡ agreed expected (agreed expected from (x ∷ a) .at) b
     go (inl s) again = rw (yes-test expected from x s) (again (rw (yes-test expected from x s) at e))
     go (inr o) again = absurd (false≢true (rw (no-test expected from x o) at e))

@@ -68,13 +68,16 @@ module _ (a b : Index) where
       let h = yes-same (a .live .head) (b .live .head) (v .0) in
       let s = yes-same (a .live .sizes) (b .live .sizes) (w .0) in
       let l = yes-same (a .lines) (b .lines) (w .1) in
-      let all : lent (a .live .names) (a .live .cells) (a .live .head) (a .live .sizes) (a .lines) ≡ lent (b .live .names) (b .live .cells) (b .live .head) (b .live .sizes) (b .lines) =
+      let all : lent (a .live .names) (a .live .cells) (a .live .head) (a .live .sizes) (a .lines)
+      ≡ lent (b .live .names) (b .live .cells) (b .live .head) (b .live .sizes) (b .lines) =
       rw (n, c, h, s, l) in
       all
 
 index-self : (a : Index) → sameIndex a a ≡ true
 unfolding sameIndex
-index-self a = rw (same-self (a .live .names), same-self (a .live .cells), same-self (a .live .head), same-self (a .live .sizes)) (same-self (a .lines))
+index-self a =
+    rw (same-self (a .live .names), same-self (a .live .cells), same-self (a .live .head), same-self (a .live .sizes))
+    (same-self (a .lines))
 
 pub same-indexes : (a b : Index) → (sameIndex a b ≡ true) ↔ (a ≡ b)
 same-indexes a b = (yes-index a b, λ e. ap (sameIndex a) (sym e) ∙ index-self a)

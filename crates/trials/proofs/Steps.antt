@@ -24,12 +24,14 @@ module _ (expected : List ℕ) (at : ℕ) (part : List ℕ) (i : ℕ) where
   unfolding agreed
   agreed-over h = rw (past part i h)
 
-  pub agreed-short : i < length part → length expected ≤ at → _≡_ {A = Met} (record { same = false; at = at }) (agreed expected at (drop i part))
+  pub agreed-short : i < length part → length expected ≤ at
+      → _≡_ {A = Met} (record { same = false; at = at }) (agreed expected at (drop i part))
   unfolding agreed
   agreed-short h e = rw (from part i h, le-ltb _ _ e)
 
   module _ (h : i < length part) (e : at < length expected) where
-    pub agreed-other : getD expected at 0 ≢ getD part i 0 → _≡_ {A = Met} (record { same = false; at = at }) (agreed expected at (drop i part))
+    pub agreed-other : getD expected at 0 ≢ getD part i 0
+        → _≡_ {A = Met} (record { same = false; at = at }) (agreed expected at (drop i part))
     unfolding agreed
     agreed-other n = rw (from part i h, lt-ltb _ _ e, ne-eqb _ _ n)
 
@@ -52,7 +54,8 @@ module _ (cut : ℕ) (expected rest : List ℕ) (said : ℕ) (d : Desk) {f : Fed
     unfolding plays
     plays-stuck s t = rw (← e, ← g, ne-eqb (length rest) 0 (omega arith), s, le-ltb 0 (f .taken) (omega arith))
 
-    plays-on : m .same ≡ true → 0 < f .taken → plays n cut expected (drop (f .taken) rest) (m .at) (cleared f) ≡ plays (suc n) cut expected rest said d
+    plays-on : m .same ≡ true → 0 < f .taken
+        → plays n cut expected (drop (f .taken) rest) (m .at) (cleared f) ≡ plays (suc n) cut expected rest said d
     unfolding plays
     plays-on s t = rw (← e, ← g, ne-eqb (length rest) 0 (omega arith), s, lt-ltb 0 (f .taken) t)
 
@@ -70,11 +73,13 @@ left-start cut expected input ix out e = record {
   same = ap (λ (l : Line). plays (length input) cut expected input 0 (deskOf l ix out)) e;
 }
 
-module _ (cut : ℕ) (expected input : List ℕ) (at said : ℕ) (d : Desk) {all : Played} {f : Fed} {m : Met} (left : Left cut expected input at said d all) where
+module _ (cut : ℕ) (expected input : List ℕ) (at said : ℕ) (d : Desk) {all : Played} {f : Fed} {m : Met}
+    (left : Left cut expected input at said d all) where
   pub left-over : length input ≤ at → f ≡ finishes d → m ≡ metBy expected said f → playedBy m f ≡ all
   left-over h e g = plays-over cut expected (drop at input) said d (left .calls) (simp length-drop (omega arith)) e g ∙ left .same
 
-  module _ (h : at < length input) (e : f ≡ feeds (take cut (take (length input - at) (drop at input))) d) (g : m ≡ metBy expected said f) where
+  module _ (h : at < length input) (e : f ≡ feeds (take cut (take (length input - at) (drop at input))) d)
+      (g : m ≡ metBy expected said f) where
     some : 0 < length (drop at input)
     some = simp length-drop (omega arith)
 
@@ -92,14 +97,16 @@ module _ (cut : ℕ) (expected input : List ℕ) (at said : ℕ) (d : Desk) {all
     pub left-stuck : m .same ≡ true → f .taken ≡ 0 → playedBy (record { same = false; at = m .at }) f ≡ all
     left-stuck s t = go (left .calls) (left .enough) (left .same)
       where
-        go : (n : ℕ) → length input ≤ at + n → plays n cut expected (drop at input) said d ≡ all → playedBy (record { same = false; at = m .at }) f ≡ all
+        go : (n : ℕ) → length input ≤ at + n → plays n cut expected (drop at input) said d ≡ all
+            → playedBy (record { same = false; at = m .at }) f ≡ all
         go zero k p = absurd (omega arith)
         go (suc n) k p = plays-stuck cut expected (drop at input) said d n some piece g s t ∙ p
 
     pub left-on : m .same ≡ true → 0 < f .taken → Left cut expected input (at + f .taken) (m .at) (cleared f) all
     left-on s t = go (left .calls) (left .enough) (left .same)
       where
-        go : (n : ℕ) → length input ≤ at + n → plays n cut expected (drop at input) said d ≡ all → Left cut expected input (at + f .taken) (m .at) (cleared f) all
+        go : (n : ℕ) → length input ≤ at + n → plays n cut expected (drop at input) said d ≡ all
+            → Left cut expected input (at + f .taken) (m .at) (cleared f) all
         go zero k p = absurd (omega arith)
         go (suc n) k p = record {
           calls = n;

@@ -14,7 +14,8 @@ use Rattle.index_rules.specs.Index.{Index}
 use Rattle.script_rules.specs.Text.{newline}
 use Rattle.script_rules.specs.Commands.{spoken}
 use Rattle.script_rules.specs.Answers.{Said, carriedOut}
-use Rattle.script_rules.specs.Feeding.{Line, blank, heldOf, noted, Paper, typedOne, typed, longest, Desk, answered, fedByte, Fed, fed, roomLeft, feeding, feeds, finishes, Heard, prefixed, heard, deskOf, printed}
+use Rattle.script_rules.specs.Feeding.{Line, blank, heldOf, noted, Paper, typedOne, typed, longest, Desk, answered, fedByte, Fed, fed}
+use Rattle.script_rules.specs.Feeding.{roomLeft, feeding, feeds, finishes, Heard, prefixed, heard, deskOf, printed}
 use Rattle.script_rules.proofs.Feeding.{ends-none, ends-line}
 use Rattle.script_rules.proofs.Room.{answer-short, typed-whole}
 use Rattle.script_rules.proofs.Cutting.{call-heard, taken-most, taken-some}
@@ -40,7 +41,9 @@ byte-long : (d : Desk) (b : ℕ) → length (fedByte d b .paper .bytes) ≡ leng
 unfolding fedByte answered
 byte-long d b = go (eqb b newline)
   where
-    go : (t : Bool) → length (pick t (answered d) (record { line = noted (d .line) b; index = d .index; paper = d .paper }) .paper .bytes) ≡ length (d .paper .bytes)
+    go : (t : Bool)
+        → length (pick t (answered d) (record { line = noted (d .line) b; index = d .index; paper = d .paper }) .paper .bytes)
+        ≡ length (d .paper .bytes)
     go true = typed-long (d .paper) _
     go false = refl
 
@@ -58,7 +61,8 @@ fed-long : (chunk : List ℕ) (d : Desk) → length (feeds chunk d .desk .paper 
 unfolding feeds
 fed-long chunk d = go (ltb (length (d .paper .bytes)) longest)
   where
-    go : (t : Bool) → length (pick t (record { number = 1; desk = d; taken = 0 }) (feeding chunk 0 d) .desk .paper .bytes) ≡ length (d .paper .bytes)
+    go : (t : Bool)
+        → length (pick t (record { number = 1; desk = d; taken = 0 }) (feeding chunk 0 d) .desk .paper .bytes) ≡ length (d .paper .bytes)
     go true = refl
     go false = feeding-long chunk 0 d
 
@@ -67,13 +71,15 @@ record Alike (f g : Fed) : Type 0 where
   text : printed f ≡ printed g
   index : f .desk .index ≡ g .desk .index
 
-ended-alike : (line : Line) (ix : Index) (a b : List ℕ) → longest ≤ length a → longest ≤ length b → Alike (finishes (deskOf line ix a)) (finishes (deskOf line ix b))
+ended-alike : (line : Line) (ix : Index) (a b : List ℕ) → longest ≤ length a → longest ≤ length b
+    → Alike (finishes (deskOf line ix a)) (finishes (deskOf line ix b))
 ended-alike line ix a b r s = go (ℕ-discrete (line .count) 0)
   where
     said : Said
     said = carriedOut ix (spoken (heldOf line))
 
-    whole : (l : List ℕ) → longest ≤ length l → let p = typed (record { bytes = l; at = 0 }) (said .text) in take (p .at) (p .bytes) ≡ said .text
+    whole : (l : List ℕ) → longest ≤ length l
+        → let p = typed (record { bytes = l; at = 0 }) (said .text) in take (p .at) (p .bytes) ≡ said .text
     whole l h = typed-whole (record { bytes = l; at = 0 }) (said .text) (omega (arith, answer-short ix (spoken (heldOf line)))) .behind
 
     go : Dec (line .count ≡ 0) → Alike (finishes (deskOf line ix a)) (finishes (deskOf line ix b))
@@ -127,7 +133,8 @@ module _ (expected last : List ℕ) (room : longest ≤ length last) where
     unfolding plays
     step again = go (agreed expected said (printed f) .same) refl
       where
-        go : (t : Bool) → agreed expected said (printed f) .same ≡ t → Whole expected said line ix rest last (plays (suc n) cut expected rest said (deskOf line ix buffer))
+        go : (t : Bool) → agreed expected said (printed f) .same ≡ t
+            → Whole expected said line ix rest last (plays (suc n) cut expected rest said (deskOf line ix buffer))
         go true s =
             rw (← e, ne-eqb (length rest) 0 (omega arith), s, lt-ltb 0 (f .taken) taken) (record {
               met = again .met ∙ sym (agreed-more expected said (printed f) _ s) ∙ ap (agreed expected said) printed-first;
@@ -152,10 +159,12 @@ module _ (expected last : List ℕ) (room : longest ≤ length last) where
   whole (suc n) cut said line ix rest buffer some r h =
       let f = feeds (take cut rest) (deskOf line ix buffer) in
       go (decLt 0 (length rest))
-      (whole n cut (agreed expected said (printed f) .at) (f .desk .line) (f .desk .index) (drop (f .taken) rest) (f .desk .paper .bytes) some
+      (whole n cut (agreed expected said (printed f) .at) (f .desk .line) (f .desk .index) (drop (f .taken) rest)
+      (f .desk .paper .bytes) some
       (omega (arith, fed-long (take cut rest) (deskOf line ix buffer))))
     where
-      go : let f = feeds (take cut rest) (deskOf line ix buffer) in let said' = agreed expected said (printed f) .at in Dec (0 < length rest)
+      go : let f = feeds (take cut rest) (deskOf line ix buffer) in
+          let said' = agreed expected said (printed f) .at in Dec (0 < length rest)
           → (length (drop (f .taken) rest) ≤ n → Whole expected said' (f .desk .line) (f .desk .index) (drop (f .taken) rest) last
           (plays n cut expected (drop (f .taken) rest) said' (cleared f)))
           → Whole expected said line ix rest last (plays (suc n) cut expected rest said (deskOf line ix buffer))
@@ -169,7 +178,8 @@ no-rest : (a b rest : List ℕ) → a ≡ b ++ rest → length b ≡ length a �
 no-rest a b [] e h = e ∙ append-nil b
 no-rest a b (x ∷ l) e h = absurd (omega (arith, simp length-append at (ap length e)))
 
-pub played-whole : (cut : ℕ) (expected input : List ℕ) (ix : Index) (out : List ℕ) → 1 ≤ cut → longest ≤ length out → Plays cut expected input ix out
+pub played-whole : (cut : ℕ) (expected input : List ℕ) (ix : Index) (out : List ℕ) → 1 ≤ cut → longest ≤ length out
+    → Plays cut expected input ix out
 played-whole cut expected input ix out some r =
     record {
       same = (λ h. to (h .0) (h .1), from);
@@ -183,7 +193,8 @@ played-whole cut expected input ix out some r =
     known : Agrees expected 0 (allPrinted ix input out)
     known = agrees expected 0 (allPrinted ix input out)
 
-    to : playing cut expected input ix out .met .same ≡ true → playing cut expected input ix out .met .at ≡ length expected → expected ≡ allPrinted ix input out
+    to : playing cut expected input ix out .met .same ≡ true → playing cut expected input ix out .met .at ≡ length expected
+        → expected ≡ allPrinted ix input out
     to s t =
         let m = all .met in
         let y : agreed expected 0 (allPrinted ix input out) .same ≡ true = sym (ap (λ (x : Met). x .same) m) ∙ s in
@@ -192,7 +203,8 @@ played-whole cut expected input ix out some r =
         let h = known .same .0 y in
         no-rest expected (allPrinted ix input out) (h .0) (h .1) (omega arith)
 
-    from : expected ≡ allPrinted ix input out → (playing cut expected input ix out .met .same ≡ true) × (playing cut expected input ix out .met .at ≡ length expected)
+    from : expected ≡ allPrinted ix input out
+        → (playing cut expected input ix out .met .same ≡ true) × (playing cut expected input ix out .met .at ≡ length expected)
     from e =
         let y = known .same .1 ([], e ∙ sym (append-nil _)) in
         (ap (λ (x : Met). x .same) (all .met) ∙ y, ap (λ (x : Met). x .at) (all .met) ∙ known .come y ∙ omega (arith, ap length e))

@@ -14,7 +14,8 @@ use Rattle.index_rules.specs.Index.{Index, FitIndex}
 use Rattle.index_rules.specs.Contents.{Entry, entry, contents}
 use Rattle.index_rules.specs.Calls.{Places}
 use Rattle.upload_rules.specs.Upload as U
-use Rattle.upload_rules.specs.Upload.{Bytes, another, little, pairBytes, headerBytes, sectionBytes, sectionsBytes, entriesAt, entriesOf}
+use Rattle.upload_rules.specs.Upload.{Bytes, another, little, pairBytes, headerBytes, sectionBytes, sectionsBytes, entriesAt}
+use Rattle.upload_rules.specs.Upload.{entriesOf}
 use Rattle.upload_rules.specs.Parts.{UploadPart, between, within, partEntries, Partial, whole, kind, low, entries, Enters}
 use Rattle.upload_rules.proofs.Endian.{numberOf, little-length, number-little}
 use Rattle.upload_rules.proofs.Differing.{differ-front, differ-next}
@@ -33,7 +34,8 @@ can-front ix h es fs c =
 entries-at-append : (from : ℕ) (l k : List Pair) → (j : ℕ) × (entriesAt from (l ++ k) ≡ entriesAt from l ++ entriesAt j k)
 unfolding entriesAt
 entries-at-append from [] k = (from, refl)
-entries-at-append from (p ∷ l) k = let a = entries-at-append (from + length (pairBytes p)) l k in (a .0, ap (λ (x : List Entry). entry (p .hash) (p .key) from ∷ x) (a .1))
+entries-at-append from (p ∷ l) k =
+    let a = entries-at-append (from + length (pairBytes p)) l k in (a .0, ap (λ (x : List Entry). entry (p .hash) (p .key) from ∷ x) (a .1))
 
 entries-of-append : (k from : ℕ) (ss ts : List (List Pair)) → (fs : List Entry) × (entriesOf k from (ss ++ ts) ≡ entriesOf k from ss ++ fs)
 unfolding entriesOf
@@ -48,9 +50,11 @@ pub pair-back : (p q : Pair) → p .hash < 2 ^ 64 → p .key < 2 ^ 64 → q .has
 unfolding pairBytes
 pair-back p q a b c d e =
     let hash : (r : Pair) → r .hash < 2 ^ 64 → numberOf (take 8 (little 8 (r .hash) ++ little 8 (r .key))) ≡ r .hash =
-    λ r s. ap numberOf (take-at (little 8 (r .hash)) (little 8 (r .key)) 8 (little-length 8 (r .hash))) ∙ number-little 8 (r .hash) (omega arith) in
+    λ r s. ap numberOf (take-at (little 8 (r .hash)) (little 8 (r .key)) 8 (little-length 8 (r .hash)))
+    ∙ number-little 8 (r .hash) (omega arith) in
     let key : (r : Pair) → r .key < 2 ^ 64 → numberOf (drop 8 (little 8 (r .hash) ++ little 8 (r .key))) ≡ r .key =
-    λ r s. ap numberOf (drop-at (little 8 (r .hash)) (little 8 (r .key)) 8 (little-length 8 (r .hash))) ∙ number-little 8 (r .key) (omega arith) in
+    λ r s. ap numberOf (drop-at (little 8 (r .hash)) (little 8 (r .key)) 8 (little-length 8 (r .hash)))
+    ∙ number-little 8 (r .key) (omega arith) in
     let h : p .hash ≡ q .hash = sym (hash p a) ∙ ap (λ (l : List ℕ). numberOf (take 8 l)) e ∙ hash q c in
     let k : p .key ≡ q .key = sym (key p b) ∙ ap (λ (l : List ℕ). numberOf (drop 8 l)) e ∙ key q d in
     λ i. pair (h i) (k i)
@@ -105,15 +109,19 @@ module _ (ix : Index) (fits : FitIndex ix) (h : Sound (ix .live)) (words : Place
   Can es = Enters ix h es
 
   -- The entries of a part that came before are a front.
-  can-within : (ss : List (List Pair)) (c : ℕ) (l k : List Pair) (held : List ℕ) → Can (partEntries (within ss c (l ++ k) held)) → Can (partEntries (within ss c l []))
+  can-within : (ss : List (List Pair)) (c : ℕ) (l k : List Pair) (held : List ℕ) → Can (partEntries (within ss c (l ++ k) held))
+      → Can (partEntries (within ss c l []))
   unfolding partEntries
   can-within ss c l k held w =
       let from = length (sectionsBytes 1 ss) + length (headerBytes (suc (length ss)) c) in
       let a = entries-at-append from l k in
       can-front ix h (entriesOf 1 0 ss ++ entriesAt from l) (entriesAt (a .0) k)
-      (subst Can (ap (λ (x : List Entry). entriesOf 1 0 ss ++ x) (a .1) ∙ sym (append-assoc (entriesOf 1 0 ss) (entriesAt from l) (entriesAt (a .0) k))) w)
+      (subst Can
+      (ap (λ (x : List Entry). entriesOf 1 0 ss ++ x) (a .1)
+      ∙ sym (append-assoc (entriesOf 1 0 ss) (entriesAt from l) (entriesAt (a .0) k))) w)
 
-  can-whole : (ss : List (List Pair)) (c : ℕ) (l : List Pair) (held : List ℕ) → Can (partEntries (within ss c l held)) → Can (partEntries (between ss))
+  can-whole : (ss : List (List Pair)) (c : ℕ) (l : List Pair) (held : List ℕ) → Can (partEntries (within ss c l held))
+      → Can (partEntries (between ss))
   unfolding partEntries
   can-whole ss c l held w = can-front ix h (entriesOf 1 0 ss) _ w
 
@@ -122,14 +130,16 @@ module _ (ix : Index) (fits : FitIndex ix) (h : Sound (ix .live)) (words : Place
   can-between ss ts w = let a = entries-of-append 1 0 ss ts in can-front ix h (entriesOf 1 0 ss) (a .0) (subst Can (a .1) w)
 
   module _ {ss : List (List Pair)} (four : length ss < 4) {c : ℕ} (wide : c < 2 ^ 16) (sections : U.Sections ss) where
-    pub at-held : {ps : List Pair} (held l : List ℕ) → length held + length l ≤ 15 → Came (within ss c ps held) → Came (within ss c ps (held ++ l))
+    pub at-held : {ps : List Pair} (held l : List ℕ) → length held + length l ≤ 15 → Came (within ss c ps held)
+        → Came (within ss c ps (held ++ l))
     at-held {ps} held [] n a = subst (λ (x : List ℕ). Came (within ss c ps x)) (sym (append-nil held)) a
     at-held {ps} held (b ∷ l) n a =
         let o = length-one held b in
         subst (λ (x : List ℕ). Came (within ss c ps x)) (append-assoc held (b ∷ []) l)
         (at-held (held ++ (b ∷ [])) l (omega arith) (at-entry ix fits h words four b (omega arith) a))
 
-    module _ (ps : List Pair) (p : Pair) (a : p .hash < 2 ^ 64) (b : p .key < 2 ^ 64) (can : Can (partEntries (within ss c (ps ++ (p ∷ [])) []))) (before : Came (within ss c ps [])) where
+    module _ (ps : List Pair) (p : Pair) (a : p .hash < 2 ^ 64) (b : p .key < 2 ^ 64)
+        (can : Can (partEntries (within ss c (ps ++ (p ∷ [])) []))) (before : Came (within ss c ps [])) where
       sp : Spelt p
       sp = spelt p a b
 
@@ -139,27 +149,34 @@ module _ (ix : Index) (fits : FitIndex ix) (h : Sound (ix .live)) (words : Place
       entry-can : Can (partEntries (within ss c ps (sp .held)) ++ (nextEntry ss ps p ∷ []))
       entry-can = subst Can (entries-pair ss c ps (sp .held) p) can
 
-      taking : length ps < c → (x : ℕ) × (inserts (there .index) (nextEntry ss ps p .hash) (nextEntry ss ps p .key) (nextEntry ss ps p .at) .answer ≡ given x)
-          × E.Taken ix fits h words (partEntries (within ss c ps (sp .held)) ++ (nextEntry ss ps p ∷ [])) (inserts (there .index) (nextEntry ss ps p .hash) (nextEntry ss ps p .key) (nextEntry ss ps p .at) .left)
+      taking : length ps < c
+          → (x : ℕ) × (inserts (there .index) (nextEntry ss ps p .hash) (nextEntry ss ps p .key) (nextEntry ss ps p .at) .answer ≡ given x)
+          × E.Taken ix fits h words (partEntries (within ss c ps (sp .held)) ++ (nextEntry ss ps p ∷ []))
+          (inserts (there .index) (nextEntry ss ps p .hash) (nextEntry ss ps p .key) (nextEntry ss ps p .at) .left)
       taking l =
           let es = partEntries (within ss c ps (sp .held)) in
           let o = length-one es (nextEntry ss ps p) in
           let r = entry-can .room in
           let j = entry-can .journal in
-          E.takes-one ix fits h words (there .taken) (nextEntry ss ps p) (place-small ps sections four wide l) (differ-next es (nextEntry ss ps p) (contents h) (entry-can .differ)) (omega arith) (omega arith)
+          E.takes-one ix fits h words (there .taken) (nextEntry ss ps p) (place-small ps sections four wide l)
+          (differ-next es (nextEntry ss ps p) (contents h) (entry-can .differ)) (omega arith) (omega arith)
 
       pub pair-more : length ps + 1 < c → Came (within ss c (ps ++ (p ∷ [])) [])
-      pair-more l = let t = taking (omega arith) in at-more ix fits h words four (sp .last) (sp .fifteen) (sp .spelled) there (t .0) (t .1) (t .2) l
+      pair-more l =
+          let t = taking (omega arith) in at-more ix fits h words four (sp .last) (sp .fifteen) (sp .spelled) there (t .0) (t .1) (t .2) l
 
       pub pair-whole : length ps + 1 ≡ c → Came (between (ss ++ ((ps ++ (p ∷ [])) ∷ [])))
-      pair-whole l = let t = taking (omega arith) in at-whole ix fits h words four (sp .last) (sp .fifteen) (sp .spelled) there (t .0) (t .1) (t .2) l
+      pair-whole l =
+          let t = taking (omega arith) in at-whole ix fits h words four (sp .last) (sp .fifteen) (sp .spelled) there (t .0) (t .1) (t .2) l
 
-    pub at-pairs : (ps qs : List Pair) → length ps + length qs < c → U.Pairs qs → Can (partEntries (within ss c (ps ++ qs) [])) → Came (within ss c ps []) → Came (within ss c (ps ++ qs) [])
+    pub at-pairs : (ps qs : List Pair) → length ps + length qs < c → U.Pairs qs → Can (partEntries (within ss c (ps ++ qs) []))
+        → Came (within ss c ps []) → Came (within ss c (ps ++ qs) [])
     at-pairs ps [] l w can a = subst (λ (x : List Pair). Came (within ss c x [])) (sym (append-nil ps)) a
     at-pairs ps (q ∷ qs) l (U.more x y w) can a =
         let e = append-assoc ps (q ∷ []) qs in
         let o = length-one ps q in
-        let all : Can (partEntries (within ss c ((ps ++ (q ∷ [])) ++ qs) [])) = subst (λ (k : List Pair). Can (partEntries (within ss c k []))) (sym e) can in
+        let all : Can (partEntries (within ss c ((ps ++ (q ∷ [])) ++ qs) [])) =
+        subst (λ (k : List Pair). Can (partEntries (within ss c k []))) (sym e) can in
         subst (λ (k : List Pair). Came (within ss c k [])) e
         (at-pairs (ps ++ (q ∷ [])) qs (omega arith) w all (pair-more ps q x y (can-within ss c (ps ++ (q ∷ [])) qs [] all) a (omega arith)))
 
@@ -169,36 +186,47 @@ module _ (ix : Index) (fits : FitIndex ix) (h : Sound (ix .live)) (words : Place
         at-high ix fits h words four (c % 256) (c / 256) c (omega arith) (omega arith) (omega arith) n
         (at-low ix fits h words four (c % 256) (at-kind ix fits h words four a))
 
-  pub at-section : {ss : List (List Pair)} (s : List Pair) → length ss < 4 → U.Sections ss → U.Pairs s → length s < 2 ^ 16 → Can (partEntries (between (ss ++ (s ∷ [])))) → Came (between ss) → Came (between (ss ++ (s ∷ [])))
-  at-section {ss} [] f w q l can a = at-none ix fits h words f 0 0 (omega arith) (omega arith) (omega arith) (at-low ix fits h words f 0 (at-kind ix fits h words f a))
+  pub at-section : {ss : List (List Pair)} (s : List Pair) → length ss < 4 → U.Sections ss → U.Pairs s → length s < 2 ^ 16
+      → Can (partEntries (between (ss ++ (s ∷ [])))) → Came (between ss) → Came (between (ss ++ (s ∷ [])))
+  at-section {ss} [] f w q l can a =
+      at-none ix fits h words f 0 0 (omega arith) (omega arith) (omega arith) (at-low ix fits h words f 0 (at-kind ix fits h words f a))
   at-section {ss} (p ∷ ps) f w q l can a = go (lasting p ps) can q l
     where
-      go : Lasting (p ∷ ps) → Can (partEntries (between (ss ++ ((p ∷ ps) ∷ [])))) → U.Pairs (p ∷ ps) → length (p ∷ ps) < 2 ^ 16 → Came (between (ss ++ ((p ∷ ps) ∷ [])))
+      go : Lasting (p ∷ ps) → Can (partEntries (between (ss ++ ((p ∷ ps) ∷ [])))) → U.Pairs (p ∷ ps) → length (p ∷ ps) < 2 ^ 16
+          → Came (between (ss ++ ((p ∷ ps) ∷ [])))
       go v can q l =
           let s = v .init ++ (v .last ∷ []) in
           let c = length (p ∷ ps) in
           let n : c ≡ length (v .init) + 1 = ap length (v .is) ∙ length-one (v .init) (v .last) in
-          let can2 : Can (partEntries (within ss c s [])) = subst (λ (k : List Pair). Can (partEntries (within ss c k []))) (v .is) (subst Can (entries-whole ss (p ∷ ps) c) can) in
+          let can2 : Can (partEntries (within ss c s [])) =
+          subst (λ (k : List Pair). Can (partEntries (within ss c k []))) (v .is) (subst Can (entries-whole ss (p ∷ ps) c) can) in
           let q2 : U.Pairs s = subst U.Pairs (v .is) q in
           let z = pairs-last (v .init) q2 in
           let b = at-header f l w (λ e. omega arith) a in
-          let d = at-pairs f l w [] (v .init) (omega arith) (pairs-front (v .init) (v .last ∷ []) q2) (can-within ss c (v .init) (v .last ∷ []) [] can2) b in
-          subst (λ (k : List Pair). Came (between (ss ++ (k ∷ [])))) (sym (v .is)) (pair-whole f l w (v .init) (v .last) (z .0) (z .1) can2 d (omega arith))
+          let d =
+          at-pairs f l w [] (v .init) (omega arith) (pairs-front (v .init) (v .last ∷ []) q2)
+          (can-within ss c (v .init) (v .last ∷ []) [] can2) b in
+          subst (λ (k : List Pair). Came (between (ss ++ (k ∷ [])))) (sym (v .is))
+          (pair-whole f l w (v .init) (v .last) (z .0) (z .1) can2 d (omega arith))
 
-  at-sections : (ss ts : List (List Pair)) → length ss + length ts ≤ 4 → U.Sections ss → U.Sections ts → Can (partEntries (between (ss ++ ts))) → Came (between ss) → Came (between (ss ++ ts))
+  at-sections : (ss ts : List (List Pair)) → length ss + length ts ≤ 4 → U.Sections ss → U.Sections ts
+      → Can (partEntries (between (ss ++ ts))) → Came (between ss) → Came (between (ss ++ ts))
   at-sections ss [] l w v can a = subst (λ (k : List (List Pair)). Came (between k)) (sym (append-nil ss)) a
   at-sections ss (t ∷ ts) l w (U.more q n v) can a =
       let e = append-assoc ss (t ∷ []) ts in
       let o = length-one ss t in
-      let all : Can (partEntries (between ((ss ++ (t ∷ [])) ++ ts))) = subst (λ (k : List (List Pair)). Can (partEntries (between k))) (sym e) can in
+      let all : Can (partEntries (between ((ss ++ (t ∷ [])) ++ ts))) =
+      subst (λ (k : List (List Pair)). Can (partEntries (between k))) (sym e) can in
       subst (λ (k : List (List Pair)). Came (between k)) e
-      (at-sections (ss ++ (t ∷ [])) ts (omega arith) (sections-more w q n) v all (at-section t (omega arith) w q n (can-between (ss ++ (t ∷ [])) ts all) a))
+      (at-sections (ss ++ (t ∷ [])) ts (omega arith) (sections-more w q n) v all
+      (at-section t (omega arith) w q n (can-between (ss ++ (t ∷ [])) ts all) a))
 
   pub arrives : {part : UploadPart} → Partial part → Can (partEntries part) → Came part
   unfolding partEntries
   arrives (whole {ss} w l) can = at-sections [] ss (omega arith) U.none w can (at-start ix fits h words)
   arrives (kind {ss} w f) can = at-kind ix fits h words f (at-sections [] ss (omega arith) U.none w can (at-start ix fits h words))
-  arrives (low {ss} {b} w f l) can = at-low ix fits h words f b (at-kind ix fits h words f (at-sections [] ss (omega arith) U.none w can (at-start ix fits h words)))
+  arrives (low {ss} {b} w f l) can =
+      at-low ix fits h words f b (at-kind ix fits h words f (at-sections [] ss (omega arith) U.none w can (at-start ix fits h words)))
   arrives (entries {ss} {count = c} {ps} {held} w f l q g k e) can =
       let a = at-sections [] ss (omega arith) U.none w (can-whole ss c ps held can) (at-start ix fits h words) in
       let b = at-header f l w (λ z. omega arith) a in

@@ -18,13 +18,15 @@ use Rattle.upload_rules.specs.Reading.{Session, session, ReadOutcome, re
 use Rattle.upload_rules.specs.Steps.{ByteStep, short}
 use Rattle.upload_rules.specs.Claims.{Claims, ReadCalls, Uploads}
 use Rattle.upload_rules.proofs.Ranges.{range-in, bytes-range, end-range}
-use Rattle.upload_rules.proofs.Cutting.{cut, cuts, chunk-again, end-again, chunk-stays, end-stays, answering, chunk-in, chunk-out, end-in, end-out, byte-open, end-open}
+use Rattle.upload_rules.proofs.Cutting.{cut, cuts, chunk-again, end-again, chunk-stays, end-stays, answering, chunk-in, chunk-out}
+use Rattle.upload_rules.proofs.Cutting.{end-in, end-out, byte-open, end-open}
 use Rattle.upload_rules.proofs.Stepping.{turned-step, step}
 use Rattle.upload_rules.proofs.Restoring.{chunk-restores, end-restores}
 use Rattle.upload_rules.proofs.Starting.{start-claims}
 use Rattle.upload_rules.proofs.Growing.{upload-short}
 use Rattle.upload_rules.proofs.Moving.{not-whole}
-use Rattle.upload_rules.proofs.Concluding.{chunk-taken, chunk-leaves, chunk-exactly, slot-exactly, slot-there, whole-exactly, whole-leaves, end-exactly, end-plain}
+use Rattle.upload_rules.proofs.Concluding.{chunk-taken, chunk-leaves, chunk-exactly, slot-exactly, slot-there, whole-exactly}
+use Rattle.upload_rules.proofs.Concluding.{whole-leaves, end-exactly, end-plain}
 
 module _ (d : Session) where
   unranged : (FitReader (d .reader) → ⊥) → fitsReader (d .reader) ≡ false
@@ -72,8 +74,10 @@ module _ (ix : Index) (fit : FitIndex ix) (h : Sound (ix .live)) (words : Places
   upload-claims =
       record {
         accepted = λ n.
-            let e = whole-exactly ix fit h words k n in
-            (λ y. (let a = e .0 y in (a .sections, a .upload, a .count, a .enters)), λ y. e .1 (record { sections = y .0; upload = y .1; count = y .2; enters = y .3 }));
+            let e = whole-exactly ix fit h words k n in (
+              λ y. (let a = e .0 y in (a .sections, a .upload, a .count, a .enters)),
+              λ y. e .1 (record { sections = y .0; upload = y .1; count = y .2; enters = y .3 }),
+            );
         holds = λ ss u c. whole-leaves ix fit h words k u c;
         taken = chunk-taken ix fit h words k;
         so-far = λ part c. chunk-leaves ix fit h words c;

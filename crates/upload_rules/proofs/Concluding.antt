@@ -19,8 +19,11 @@ use Rattle.index_rules.proofs.Inserting.{value-inj}
 use Rattle.upload_rules.specs.Upload as U
 use Rattle.upload_rules.specs.Upload.{Bytes, entriesOf, Upload}
 use Rattle.upload_rules.specs.Reader.{Note, said, noting, noteAnswer, readerAnswer}
-use Rattle.upload_rules.specs.Reading.{Session, session, ReadOutcome, readOutcome, turnedDown, byteCame, bytesRead, endCame, endRead, readChunk, newSession, readWhole}
-use Rattle.upload_rules.specs.Parts.{UploadPart, between, within, partBytes, partEntries, Partial, whole, kind, low, entries, Enters, AtSections, AtEntry, IsPart, Refusal, wrongKind, long, present, full, unlined, Short, SlotHas, PresentIn}
+use Rattle.upload_rules.specs.Reading.{Session, session, ReadOutcome, readOutcome, turnedDown, byteCame, bytesRead, endCame, endRead}
+use Rattle.upload_rules.specs.Reading.{readChunk, newSession, readWhole}
+use Rattle.upload_rules.specs.Parts.{UploadPart, between, within, partBytes, partEntries, Partial, whole, kind, low, entries, Enters}
+use Rattle.upload_rules.specs.Parts.{AtSections, AtEntry, IsPart, Refusal, wrongKind, long, present, full, unlined, Short, SlotHas}
+use Rattle.upload_rules.specs.Parts.{PresentIn}
 use Rattle.upload_rules.specs.Left.{Uploaded}
 use Rattle.upload_rules.proofs.Ranges.{new-range}
 use Rattle.upload_rules.proofs.Cutting.{answering, chunk-in, end-open, end-said}
@@ -31,7 +34,8 @@ use Rattle.upload_rules.proofs.Growing.{nextEntry}
 use Rattle.upload_rules.proofs.Moving.{readerAt, not-whole}
 use Rattle.upload_rules.proofs.Entering as E
 use Rattle.upload_rules.proofs.Running.{reader-open, reader-mark, reader-taken, past-four, kind-off, At, at-off, last-refuses}
-use Rattle.upload_rules.proofs.Deciding.{reason-number, reason-plain, reason-slot, reason-there, note-of, split-entry, noted-rest, Ran, still, over, ran}
+use Rattle.upload_rules.proofs.Deciding.{reason-number, reason-plain, reason-slot, reason-there, note-of, split-entry, noted-rest}
+use Rattle.upload_rules.proofs.Deciding.{Ran, still, over, ran}
 use Rattle.upload_rules.proofs.Arriving.{spelt, at-held, arrives}
 
 -- Four whole sections, or fewer.
@@ -83,7 +87,8 @@ module _ (ix : Index) (fits : FitIndex ix) (h : Sound (ix .live)) (words : Place
   abbrev insertsAt : {l : List ℕ} {es : List Entry} {p : Pair} → AtEntry ix h l es p → Index → Outcome
   insertsAt {p = p} c jx = let e = nextEntry (c .sections) (c .pairs) p in inserts jx (e .hash) (e .key) (e .at)
 
-  entry-noted : {l : List ℕ} {es : List Entry} {p : Pair} (c : AtEntry ix h l es p) → ((jx : Index) → Took es jx → insertsAt c jx .answer .number ≢ 0)
+  entry-noted : {l : List ℕ} {es : List Entry} {p : Pair} (c : AtEntry ix h l es p)
+      → ((jx : Index) → Took es jx → insertsAt c jx .answer .number ≢ 0)
       → (jx : Index) × Took es jx × Noted l (insertsAt c jx .answer)
   unfolding partEntries
   entry-noted {l} {es} {p} c z = go (c .partial) (c .entries) (c .enters) z
@@ -97,7 +102,8 @@ module _ (ix : Index) (fits : FitIndex ix) (h : Sound (ix .live)) (words : Place
       ins : Index → Outcome
       ins jx = insertsAt c jx
 
-      go : Partial (within ss (c .count) ps []) → es ≡ partEntries (within ss (c .count) ps []) → Enters ix h es → ((jx : Index) → Took es jx → ins jx .answer .number ≢ 0)
+      go : Partial (within ss (c .count) ps []) → es ≡ partEntries (within ss (c .count) ps []) → Enters ix h es
+          → ((jx : Index) → Took es jx → ins jx .answer .number ≢ 0)
           → (jx : Index) × Took es jx × Noted l (ins jx .answer)
       go (entries w f wide q g k e) same can n =
           let sp = spelt p (c .hash) (c .key) in
@@ -108,8 +114,10 @@ module _ (ix : Index) (fits : FitIndex ix) (h : Sound (ix .live)) (words : Place
           let off = last-refuses ix fits h words f (sp .last) (sp .fifteen) (sp .spelled) there (n (there .index) took) in (
             there .index,
             took,
-            ap (λ (x : List ℕ). runs x .reader .note) (c .is ∙ sym (split-entry ix fits h words ss (c .count) ps (sp .held) (sp .last) (sp .spelled) (c .rest)))
-                ∙ noted-rest ix fits h words (partBytes (within ss (c .count) ps (sp .held))) (sp .last) (c .rest) (note-of ix fits h words off refl),
+            ap (λ (x : List ℕ). runs x .reader .note)
+                (c .is ∙ sym (split-entry ix fits h words ss (c .count) ps (sp .held) (sp .last) (sp .spelled) (c .rest)))
+                ∙ noted-rest ix fits h words (partBytes (within ss (c .count) ps (sp .held))) (sp .last) (c .rest)
+                (note-of ix fits h words off refl),
           )
 
   section-noted : {l : List ℕ} {ss : List (List Pair)} {b : ℕ} (c : AtSections ix h l ss b) (a : Answer)
@@ -117,7 +125,8 @@ module _ (ix : Index) (fits : FitIndex ix) (h : Sound (ix .live)) (words : Place
   section-noted {l} {ss} {b} c a e =
       let here = arrives ix fits h words (c .partial) (c .enters) in
       let off = at-off ix fits h words here b a (e (here .index)) in
-      ap (λ (x : List ℕ). runs x .reader .note) (c .is) ∙ noted-rest ix fits h words (partBytes (between ss)) b (c .rest) (note-of ix fits h words off refl)
+      ap (λ (x : List ℕ). runs x .reader .note) (c .is)
+      ∙ noted-rest ix fits h words (partBytes (between ss)) b (c .rest) (note-of ix fits h words off refl)
 
   -- The insert of an entry answers a number, and so do the bytes.
   entry-refused : {l : List ℕ} {es : List Entry} {p : Pair} {n : ℕ} (c : AtEntry ix h l es p) → n ≢ 0
@@ -130,11 +139,14 @@ module _ (ix : Index) (fits : FitIndex ix) (h : Sound (ix .live)) (words : Place
   refusal-noted (wrongKind {ss} {b} c f n) = (refused 18, section-noted c (refused 18) (λ jx. kind-off mark jx ss b f n), refl)
   refusal-noted (long {ss} {b} c f) = (refused 13, section-noted c (refused 13) (λ jx. past-four mark jx ss b f), refl)
   refusal-noted (present {p = p} c n) =
-      entry-refused {n = 3} c (λ z. omega arith) (λ jx t. numbers (E.three-there ix fits h words t (nextEntry (c .sections) (c .pairs) p) n .1))
+      entry-refused {n = 3} c (λ z. omega arith)
+      (λ jx t. numbers (E.three-there ix fits h words t (nextEntry (c .sections) (c .pairs) p) n .1))
   refusal-noted (full {p = p} c n f) =
-      entry-refused {n = 5} c (λ z. omega arith) (λ jx t. numbers (E.five-full ix fits h words t (nextEntry (c .sections) (c .pairs) p) n f))
+      entry-refused {n = 5} c (λ z. omega arith)
+      (λ jx t. numbers (E.five-full ix fits h words t (nextEntry (c .sections) (c .pairs) p) n f))
   refusal-noted (unlined {p = p} c n f g) =
-      entry-refused {n = 6} c (λ z. omega arith) (λ jx t. numbers (E.six-unlined ix fits h words t (nextEntry (c .sections) (c .pairs) p) n f g))
+      entry-refused {n = 6} c (λ z. omega arith)
+      (λ jx t. numbers (E.six-unlined ix fits h words t (nextEntry (c .sections) (c .pairs) p) n f g))
 
   slot-noted : {l : List ℕ} {x : ℕ} → PresentIn ix h l x → Noted l (record { number = 3; value = some x })
   slot-noted {l} {x} q =
@@ -163,12 +175,14 @@ module _ (ix : Index) (fits : FitIndex ix) (h : Sound (ix .live)) (words : Place
       chunk-run l ∙ ap answering (ap runs e ∙ a .runs)
       ∙ ap (λ (n : Note). readOutcome (noteAnswer n (r .taken)) (session r (a .index))) (reader-open mark part)
 
-  chunk-still : {part : UploadPart} {l : List ℕ} (a : At ix fits h words part) → l ≡ partBytes part → readChunk (newSession ix) l .answer .number ≡ 0
+  chunk-still : {part : UploadPart} {l : List ℕ} (a : At ix fits h words part) → l ≡ partBytes part
+      → readChunk (newSession ix) l .answer .number ≡ 0
   chunk-still a e = ap (λ (o : ReadOutcome). o .answer .number) (chunk-at a e)
 
   end-noted : {l : List ℕ} {a : Answer} → Bytes l → Noted l a → readWhole ix l .answer ≡ a
   end-noted {l} k e =
-      ap (λ (o : ReadOutcome). o .answer) (whole-in ix k) ∙ ap (λ (d : Session). readerAnswer (d .reader)) (end-said (runs l) e) ∙ noted-answer (runs l) e
+      ap (λ (o : ReadOutcome). o .answer) (whole-in ix k) ∙ ap (λ (d : Session). readerAnswer (d .reader)) (end-said (runs l) e)
+      ∙ noted-answer (runs l) e
 
   end-still : {part : UploadPart} {l : List ℕ} → Bytes l → (a : At ix fits h words part) → l ≡ partBytes part
       → readWhole ix l ≡ answering (endCame (readerAt mark part) (a .index))
@@ -177,20 +191,23 @@ module _ (ix : Index) (fits : FitIndex ix) (h : Sound (ix .live)) (words : Place
       whole-in ix k ∙ ap (λ (x : Session). answering (endRead x)) (ap runs e ∙ a .runs) ∙ ap answering (end-open d (reader-open mark part))
 
   -- The end call of a whole upload answers its entries.
-  end-whole : {ss : List (List Pair)} {l : List ℕ} → Bytes l → (a : At ix fits h words (between ss)) → l ≡ partBytes (between ss) → length ss ≡ 4
+  end-whole : {ss : List (List Pair)} {l : List ℕ} → Bytes l → (a : At ix fits h words (between ss)) → l ≡ partBytes (between ss)
+      → length ss ≡ 4
       → readWhole ix l ≡ readOutcome (given (pairsIn ss)) (session (noting (readerAt mark (between ss)) (given (pairsIn ss))) (a .index))
   unfolding endCame readerAt
   end-whole {ss} k a e f = end-still k a e ∙ rw f
 
   -- That of less is 12.
-  end-short : {part : UploadPart} {l : List ℕ} → Bytes l → (a : At ix fits h words part) → l ≡ partBytes part → readerAt mark part .section < 4
+  end-short : {part : UploadPart} {l : List ℕ} → Bytes l → (a : At ix fits h words part) → l ≡ partBytes part
+      → readerAt mark part .section < 4
       → readWhole ix l .answer ≡ refused 12
   unfolding endCame
   end-short {part} {l} k a e n =
       let r = readerAt mark part in
       let q = reader-mark mark part in
       let back = E.taken-back ix fits h words (a .taken) in
-      let f = turned-back r (a .index) (refused 12) (lengthOf (a .index .lines) - mark) (ap (λ (i : ℕ). rolls (a .index) i .answer) q ∙ back) in
+      let f =
+      turned-back r (a .index) (refused 12) (lengthOf (a .index .lines) - mark) (ap (λ (i : ℕ). rolls (a .index) i .answer) q ∙ back) in
       ap (λ (o : ReadOutcome). o .answer) (end-still k a e) ∙ rw (not-whole r n) (ap (λ (d : Session). readerAnswer (d .reader)) f)
 
   -- A chunk that is not refused.
@@ -210,7 +227,8 @@ module _ (ix : Index) (fits : FitIndex ix) (h : Sound (ix .live)) (words : Place
           let a = arrives ix fits h words (q .1 .partial) (q .1 .enters) in
           ap (λ (o : ReadOutcome). o .answer) (chunk-at a (q .1 .is)) ∙ ap given (reader-taken mark (q .0) ∙ q .2)
 
-  pub chunk-leaves : {l : List ℕ} {part : UploadPart} → IsPart ix h l part → Uploaded ix h (partEntries part) (readChunk (newSession ix) l .left .index)
+  pub chunk-leaves : {l : List ℕ} {part : UploadPart} → IsPart ix h l part
+      → Uploaded ix h (partEntries part) (readChunk (newSession ix) l .left .index)
   chunk-leaves {part = part} c =
       let a = arrives ix fits h words (c .partial) (c .enters) in
       subst (λ (o : ReadOutcome). Uploaded ix h (partEntries part) (o .left .index)) (sym (chunk-at a (c .is))) (a .taken .left)
@@ -227,7 +245,8 @@ module _ (ix : Index) (fits : FitIndex ix) (h : Sound (ix .live)) (words : Place
       from r = let q = refusal-noted r in numbers (chunk-noted l (q .1)) ∙ q .2
 
   -- The slot of 3.
-  pub slot-exactly : {l : List ℕ} → Bytes l → (x : ℕ) → (readChunk (newSession ix) l .answer ≡ record { number = 3; value = some x }) ↔ PresentIn ix h l x
+  pub slot-exactly : {l : List ℕ} → Bytes l → (x : ℕ)
+      → (readChunk (newSession ix) l .answer ≡ record { number = 3; value = some x }) ↔ PresentIn ix h l x
   slot-exactly {l} k x = (to (ran ix fits h words k), λ q. chunk-noted l (slot-noted q))
     where
       to : Ran ix fits h words l → readChunk (newSession ix) l .answer ≡ record { number = 3; value = some x } → PresentIn ix h l x
@@ -252,7 +271,8 @@ module _ (ix : Index) (fits : FitIndex ix) (h : Sound (ix .live)) (words : Place
   unfolding partEntries partBytes
   whole-exactly {l} k n = (to (ran ix fits h words k), from)
     where
-      closes : {part : UploadPart} → (a : At ix fits h words part) → l ≡ partBytes part → Closing mark part → readWhole ix l .answer ≡ given n → Accepts l n
+      closes : {part : UploadPart} → (a : At ix fits h words part) → l ≡ partBytes part → Closing mark part
+          → readWhole ix l .answer ≡ given n → Accepts l n
       closes a e (four ss w f) y =
           let t = ap (λ (o : ReadOutcome). o .answer) (end-whole k a e f) in
           record {
@@ -272,7 +292,8 @@ module _ (ix : Index) (fits : FitIndex ix) (h : Sound (ix .live)) (words : Place
           let u = c .upload in
           let f = u .four in
           let a = arrives ix fits h words (whole (u .fit) (omega arith)) (c .enters) in
-          ap (λ (o : ReadOutcome). o .answer) (end-whole k a (u .is) (u .four)) ∙ ap given (sym (entries-of-length 1 0 (c .sections)) ∙ c .count)
+          ap (λ (o : ReadOutcome). o .answer) (end-whole k a (u .is) (u .four))
+          ∙ ap given (sym (entries-of-length 1 0 (c .sections)) ∙ c .count)
 
   -- What an accepted upload leaves.
   pub whole-leaves : {l : List ℕ} {ss : List (List Pair)} → Bytes l → Upload l ss → Enters ix h (entriesOf 1 0 ss)
@@ -281,17 +302,23 @@ module _ (ix : Index) (fits : FitIndex ix) (h : Sound (ix .live)) (words : Place
   whole-leaves {l} {ss} k u c =
       let f = u .four in
       let a = arrives ix fits h words (whole (u .fit) (omega arith)) c in
-      subst (λ (o : ReadOutcome). Uploaded ix h (entriesOf 1 0 ss) (o .left .index)) (sym (end-whole k a (u .is) (u .four))) (a .taken .left)
+      subst (λ (o : ReadOutcome). Uploaded ix h (entriesOf 1 0 ss) (o .left .index)) (sym (end-whole k a (u .is) (u .four)))
+      (a .taken .left)
 
   -- Each number of the end call.
-  pub end-exactly : {l : List ℕ} → Bytes l → (n : ℕ) → n ≢ 0 → (readWhole ix l .answer .number ≡ n) ↔ (Refusal ix h l n ⊎ (Short ix h l × (n ≡ 12)))
+  pub end-exactly : {l : List ℕ} → Bytes l → (n : ℕ) → n ≢ 0
+      → (readWhole ix l .answer .number ≡ n) ↔ (Refusal ix h l n ⊎ (Short ix h l × (n ≡ 12)))
   end-exactly {l} k n z = (to (ran ix fits h words k), from)
     where
-      closes : {part : UploadPart} → Partial part → (a : At ix fits h words part) → l ≡ partBytes part → Closing mark part → readWhole ix l .answer .number ≡ n
+      closes : {part : UploadPart} → Partial part → (a : At ix fits h words part) → l ≡ partBytes part → Closing mark part
+          → readWhole ix l .answer .number ≡ n
           → Refusal ix h l n ⊎ (Short ix h l × (n ≡ 12))
       closes w a e (four ss v f) y = absurd (z (sym y ∙ ap (λ (o : ReadOutcome). o .answer .number) (end-whole k a e f)))
       closes {part} w a e (fewer m) y =
-          inr (record { part = part; comes = record { partial = w; enters = a .taken .can; is = e }; unfinished = not-four mark part m }, sym y ∙ numbers (end-short k a e m))
+          inr (
+            record { part = part; comes = record { partial = w; enters = a .taken .can; is = e }; unfinished = not-four mark part m },
+            sym y ∙ numbers (end-short k a e m),
+          )
 
       to : Ran ix fits h words l → readWhole ix l .answer .number ≡ n → Refusal ix h l n ⊎ (Short ix h l × (n ≡ 12))
       to (still part w a e) y = closes w a e (closing mark w) y
@@ -311,7 +338,8 @@ module _ (ix : Index) (fits : FitIndex ix) (h : Sound (ix .live)) (words : Place
       → readWhole ix l .answer ≡ refused (readWhole ix l .answer .number)
   end-plain {l} k z t = go (ran ix fits h words k)
     where
-      closes : {part : UploadPart} → (a : At ix fits h words part) → l ≡ partBytes part → Closing mark part → readWhole ix l .answer ≡ refused (readWhole ix l .answer .number)
+      closes : {part : UploadPart} → (a : At ix fits h words part) → l ≡ partBytes part → Closing mark part
+          → readWhole ix l .answer ≡ refused (readWhole ix l .answer .number)
       closes a e (four ss w f) = absurd (z (ap (λ (o : ReadOutcome). o .answer .number) (end-whole k a e f)))
       closes a e (fewer m) = let y = end-short k a e m in y ∙ ap (λ (x : Answer). refused (x .number)) (sym y)
 

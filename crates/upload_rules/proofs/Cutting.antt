@@ -8,7 +8,8 @@ use Rattle.slots.specs.Answers.{Answer, refused}
 use Rattle.index_rules.specs.Index.{Index}
 use Rattle.upload_rules.specs.Upload.{Bytes, nothing, another}
 use Rattle.upload_rules.specs.Reader.{Note, unsaid, said, Reader, FitReader, fitsReader, isWhole, noteAnswer, readerAnswer}
-use Rattle.upload_rules.specs.Reading.{Session, ReadOutcome, readOutcome, turnedDown, byteCame, byteRead, bytesRead, endCame, endRead, readChunk, readEnd, readChunks, joinedBytes}
+use Rattle.upload_rules.specs.Reading.{Session, ReadOutcome, readOutcome, turnedDown, byteCame, byteRead, bytesRead, endCame, endRead}
+use Rattle.upload_rules.specs.Reading.{readChunk, readEnd, readChunks, joinedBytes}
 use Rattle.upload_rules.proofs.Ranges.{pick-both, in-range, range-in, bytes-range, end-range}
 
 pub bytes-append : {a b : List ℕ} → Bytes a → Bytes b → Bytes (a ++ b)
@@ -67,7 +68,8 @@ cut d a b k = go (either (d .reader))
     go (outside e) = ap (λ (o : ReadOutcome). readChunk (o .left) b) (chunk-out d a e) ∙ chunk-out d b e ∙ sym (chunk-out d (a ++ b) e)
 
 -- Any number of cuts.
-pub cuts : (d : Session) (l : List ℕ) (ls : List (List ℕ)) → Bytes (l ++ joinedBytes ls) → readChunks (readChunk d l) ls ≡ readChunk d (l ++ joinedBytes ls)
+pub cuts : (d : Session) (l : List ℕ) (ls : List (List ℕ)) → Bytes (l ++ joinedBytes ls)
+    → readChunks (readChunk d l) ls ≡ readChunk d (l ++ joinedBytes ls)
 unfolding readChunks joinedBytes
 cuts d l [] k = ap (readChunk d) (sym (append-nil l))
 cuts d l (m ∷ ls) k =

@@ -29,7 +29,8 @@ unfolding put
 put-lacks hash key e [] (other n w) = record { new = n; old = empty }
 put-lacks hash key e (x ∷ l) w = go (before (e .hash) (e .key) (x .hash) (x .key)) (put-lacks hash key e l) w
   where
-    go : (b : Bool) → (Lacks hash key (put e l) → Both hash key e l) → Lacks hash key (pick b (e ∷ (x ∷ l)) (x ∷ put e l)) → Both hash key e (x ∷ l)
+    go : (b : Bool) → (Lacks hash key (put e l) → Both hash key e l) → Lacks hash key (pick b (e ∷ (x ∷ l)) (x ∷ put e l))
+        → Both hash key e (x ∷ l)
     go true f (other n (other m v)) = record { new = n; old = other m v }
     go false f (other m v) = let r = f v in record { new = r .new; old = other m (r .old) }
 

@@ -63,7 +63,8 @@ eight a b c d e f g h =
     let x2 : nameByte (nameByte 0 a) b ≡ 256 ^ 6 * (a + 256 * b) = rw x1 (omega arith) in
     let x3 : nameByte (nameByte (nameByte 0 a) b) c ≡ 256 ^ 5 * (a + 256 * (b + 256 * c)) = rw x2 (omega arith) in
     let x4 : nameByte (nameByte (nameByte (nameByte 0 a) b) c) d ≡ 256 ^ 4 * (a + 256 * (b + 256 * (c + 256 * d))) = rw x3 (omega arith) in
-    let x5 : nameByte (nameByte (nameByte (nameByte (nameByte 0 a) b) c) d) e ≡ 256 ^ 3 * (a + 256 * (b + 256 * (c + 256 * (d + 256 * e)))) =
+    let x5 : nameByte (nameByte (nameByte (nameByte (nameByte 0 a) b) c) d) e
+    ≡ 256 ^ 3 * (a + 256 * (b + 256 * (c + 256 * (d + 256 * e)))) =
     rw x4 (omega arith) in
     rw x5 (omega arith)
 

@@ -1,4 +1,5 @@
--- Entries inserted one after another into a sound index: when the next one is taken, and what it is refused with, as insert's own claims say.
+-- Entries inserted one after another into a sound index: when the next one is taken, and what it is refused with,
+-- as insert's own claims say.
 use mathlib.Core.Path.{_≡_, refl, ap, sym, _∙_, subst}
 use mathlib.Core.Logic.{_≢_}
 use mathlib.Core.Bool.{Bool, true, false}
@@ -93,7 +94,11 @@ module _ (ix : Index) (fits : FitIndex ix) (h : Sound (ix .live)) (words : Place
         left = record { fit = fits; sound = h; holds = refl; listed = refl; long = omega arith; kept = λ j a b. refl; lined = none };
         capacity = refl;
         wide = refl;
-        can = record { differ = differ-none; room = omega (arith, listing-length h, listing-most (fits .tree) h); journal = omega (arith, fits .within, fits .words) };
+        can = record {
+          differ = differ-none;
+          room = omega (arith, listing-length h, listing-most (fits .tree) h);
+          journal = omega (arith, fits .within, fits .words);
+        };
         allowed = nothing;
         is = refl;
       }
@@ -168,7 +173,8 @@ module _ (ix : Index) (fits : FitIndex ix) (h : Sound (ix .live)) (words : Place
             wide = omega (arith, o .long, t .wide);
             can = record { differ = differ-one es (contents h) e (t .can .differ) w; room = omega arith; journal = omega arith };
             allowed = rw calls (allowed-one (e .hash) (e .key) s (t .allowed));
-            is = rw calls (ap (λ (i : Index). inserts i (e .hash) (e .key) (e .at) .left) (t .is) ∙ sym (after-one (insertCalls es) (insertCall (e .hash) (e .key) (e .at)) ix));
+            is = rw calls (ap (λ (i : Index). inserts i (e .hash) (e .key) (e .at) .left) (t .is)
+                ∙ sym (after-one (insertCalls es) (insertCall (e .hash) (e .key) (e .at)) ix));
           },
         )
 
@@ -179,7 +185,8 @@ module _ (ix : Index) (fits : FitIndex ix) (h : Sound (ix .live)) (words : Place
 
     pub five-full : New → length (contents h) + length es ≡ slotsIn → insertion .answer ≡ refused 5
     five-full w l =
-        let none-left : NoneFree (jx .live) = none-free (jx .live) (small (t .left .fit .tree)) .0 (no-free (ℕ-discrete (lowestFree (jx .live)) null)) in
+        let none-left : NoneFree (jx .live) =
+        none-free (jx .live) (small (t .left .fit .tree)) .0 (no-free (ℕ-discrete (lowestFree (jx .live)) null)) in
         claim .five .1 (t .left .fit, (t .left .sound, lacking w, none-left))
       where
         no-free : Dec (lowestFree (jx .live) ≡ null) → lowestFree (jx .live) ≡ null

@@ -7,9 +7,11 @@ use native.Mathlib.Omega.{arith}
 use lib.ListN.{length, length-append}
 use Rattle.slots.specs.Pairs.{Pair}
 use Rattle.index_rules.specs.Contents.{Entry, entry}
-use Rattle.upload_rules.specs.Upload.{little, pairBytes, pairsBytes, headerBytes, sectionBytes, sectionsBytes, Sections, none, more, Upload, entriesAt, entriesOf}
+use Rattle.upload_rules.specs.Upload.{little, pairBytes, pairsBytes, headerBytes, sectionBytes, sectionsBytes, Sections, none, more}
+use Rattle.upload_rules.specs.Upload.{Upload, entriesAt, entriesOf}
 use Rattle.upload_rules.specs.Parts.{between, kinded, counting, within, partBytes, partEntries}
-use Rattle.upload_rules.proofs.Sections.{pairsIn, pairs-one, header-length, sections-length, sections-one, entries-at-one, entries-of-one, pairs-length}
+use Rattle.upload_rules.proofs.Sections.{pairsIn, pairs-one, header-length, sections-length, sections-one, entries-at-one}
+use Rattle.upload_rules.proofs.Sections.{entries-of-one, pairs-length}
 
 -- Where the next entry of a section begins.
 abbrev pub placed : List (List Pair) → List Pair → ℕ
@@ -34,7 +36,8 @@ unfolding partBytes
 placed-is ss c ps = simp length-append (omega (arith, sections-length 1 ss, header-length (suc (length ss)) c, pairs-length ps))
 
 -- An entry's place is a 32-bit word.
-pub place-small : {ss : List (List Pair)} (ps : List Pair) {c : ℕ} → Sections ss → length ss < 4 → c < 2 ^ 16 → length ps < c → placed ss ps < 4294967296
+pub place-small : {ss : List (List Pair)} (ps : List Pair) {c : ℕ} → Sections ss → length ss < 4 → c < 2 ^ 16 → length ps < c
+    → placed ss ps < 4294967296
 place-small ps w f l g = omega (arith, pairs-in-most w)
 
 module _ (ss : List (List Pair)) where
@@ -56,7 +59,8 @@ module _ (ss : List (List Pair)) where
       ∙ ap (λ (k : ℕ). sectionsBytes 1 ss ++ (headerBytes k (length s) ++ pairsBytes s)) one-kind
       ∙ ap (λ (x : List ℕ). sectionsBytes 1 ss ++ (headerBytes (suc (length ss)) (length s) ++ x)) (sym (append-nil (pairsBytes s)))
 
-  pub bytes-high : (lo hi c : ℕ) → lo < 256 → hi < 256 → c ≡ lo + 256 * hi → partBytes (within ss c [] []) ≡ partBytes (counting ss lo) ++ (hi ∷ [])
+  pub bytes-high : (lo hi c : ℕ) → lo < 256 → hi < 256 → c ≡ lo + 256 * hi
+      → partBytes (within ss c [] []) ≡ partBytes (counting ss lo) ++ (hi ∷ [])
   unfolding partBytes headerBytes little pairsBytes
   bytes-high lo hi c l h e =
       let a : c % 256 ≡ lo = omega arith in
@@ -64,7 +68,8 @@ module _ (ss : List (List Pair)) where
       let b : c / 256 % 256 ≡ hi = rw q (mod-eq-of-lt h) in
       rw (a, b) (sym (append-assoc (sectionsBytes 1 ss) (suc (length ss) ∷ (lo ∷ [])) (hi ∷ [])))
 
-  pub bytes-none : (lo hi : ℕ) → lo < 256 → hi < 256 → 0 ≡ lo + 256 * hi → partBytes (between (ss ++ ([] ∷ []))) ≡ partBytes (counting ss lo) ++ (hi ∷ [])
+  pub bytes-none : (lo hi : ℕ) → lo < 256 → hi < 256 → 0 ≡ lo + 256 * hi
+      → partBytes (between (ss ++ ([] ∷ []))) ≡ partBytes (counting ss lo) ++ (hi ∷ [])
   bytes-none lo hi l h e = section-bytes [] ∙ bytes-high lo hi 0 l h e
 
   pub entries-none : partEntries (between (ss ++ ([] ∷ []))) ≡ partEntries (between ss)
@@ -101,7 +106,8 @@ module _ (ss : List (List Pair)) where
         ap (λ (x : List ℕ). sectionsBytes 1 ss ++ (headerBytes (suc (length ss)) c ++ x))
         (append-nil (pairsBytes (ps ++ (p ∷ []))) ∙ pairs-one ps p ∙ ap (λ (x : List ℕ). pairsBytes ps ++ x) e)
 
-    pub entries-pair : (p : Pair) → partEntries (within ss c (ps ++ (p ∷ [])) []) ≡ partEntries (within ss c ps held) ++ (nextEntry ss ps p ∷ [])
+    pub entries-pair : (p : Pair)
+        → partEntries (within ss c (ps ++ (p ∷ [])) []) ≡ partEntries (within ss c ps held) ++ (nextEntry ss ps p ∷ [])
     unfolding partEntries
     entries-pair p =
         let n = header-length (suc (length ss)) c in

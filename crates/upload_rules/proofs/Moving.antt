@@ -12,7 +12,8 @@ use Rattle.slots.specs.Pairs.{Pair, pair}
 use Rattle.index_rules.specs.Index.{Index}
 use Rattle.upload_rules.specs.Upload.{Bytes, nothing, another, little, pairBytes}
 use Rattle.upload_rules.specs.Reader.{Note, Reader, readerOf, unsaid, isWhole}
-use Rattle.upload_rules.specs.Reading.{session, owing, kindCame, countCame, entryCame, lastCame, byteCame, countByte, nameByte, inHash, entryPlace}
+use Rattle.upload_rules.specs.Reading.{session, owing, kindCame, countCame, entryCame, lastCame, byteCame, countByte, nameByte}
+use Rattle.upload_rules.specs.Reading.{inHash, entryPlace}
 use Rattle.upload_rules.specs.Parts.{UploadPart, between, kinded, counting, within, partBytes}
 use Rattle.upload_rules.proofs.Ranges.{pick-by}
 use Rattle.upload_rules.proofs.Endian.{numberOf, little-number, number-small, count-two, gathered, gathered-one, gathered-number}
@@ -25,7 +26,8 @@ readerAt m (between ss) = readerOf (length ss) 0 0 0 0 m (pairsIn ss) unsaid
 readerAt m (kinded ss) = readerOf (length ss) 1 0 0 0 m (pairsIn ss) unsaid
 readerAt m (counting ss low) = readerOf (length ss) 2 (countByte 0 low) 0 0 m (pairsIn ss) unsaid
 readerAt m (within ss count ps held) =
-    readerOf (length ss) (3 + length held) (count - length ps) (gathered 0 (take 8 held)) (gathered 0 (drop 8 held)) m (pairsIn ss + length ps) unsaid
+    readerOf (length ss) (3 + length held) (count - length ps) (gathered 0 (take 8 held)) (gathered 0 (drop 8 held)) m
+    (pairsIn ss + length ps) unsaid
 
 pub same-reader : {s s′ g g′ o o′ h h′ k k′ t t′ : ℕ} (m : ℕ) (n : Note) → s ≡ s′ → g ≡ g′ → o ≡ o′ → h ≡ h′ → k ≡ k′ → t ≡ t′
     → readerOf s g o h k m t n ≡ readerOf s′ g′ o′ h′ k′ m t′ n
@@ -59,9 +61,11 @@ module _ (m : ℕ) (ix : Index) (ss : List (List Pair)) (lo hi : ℕ) (l : lengt
   high-none e f =
       let c : countByte (countByte 0 lo) hi ≡ 0 = count-two lo hi low high ∙ omega arith in
       rw (not-whole (readerAt m (counting ss lo)) l, c)
-      (ap (λ (r : Reader). session r ix) (same-reader m unsaid (sym (length-one ss [])) refl refl refl refl (omega (arith, pairs-in-one ss []))))
+      (ap (λ (r : Reader). session r ix)
+      (same-reader m unsaid (sym (length-one ss [])) refl refl refl refl (omega (arith, pairs-in-one ss []))))
 
-  pub high-some : {c : ℕ} → c ≢ 0 → c ≡ lo + 256 * hi → byteCame (readerAt m (counting ss lo)) ix hi ≡ session (readerAt m (within ss c [] [])) ix
+  pub high-some : {c : ℕ} → c ≢ 0 → c ≡ lo + 256 * hi
+      → byteCame (readerAt m (counting ss lo)) ix hi ≡ session (readerAt m (within ss c [] [])) ix
   unfolding byteCame countCame owing readerAt gathered
   high-some {c} z e =
       let d : countByte (countByte 0 lo) hi ≡ c = count-two lo hi low high ∙ sym e in
@@ -115,13 +119,23 @@ module _ (m : ℕ) (ix : Index) (ss : List (List Pair)) (count : ℕ) (ps : List
   pub entry-on : length held < 15 → byteCame here ix b ≡ session (readerAt m (within ss count ps (held ++ (b ∷ [])))) ix
   unfolding byteCame readerAt
   entry-on s =
-      rw (not-whole here l, ne-eqb (3 + length held) 0 begun, le-ltb (3 + length held) 3 (omega arith), lt-ltb (3 + length held) 18 (omega arith))
+      rw (
+        not-whole here l,
+        ne-eqb (3 + length held) 0 begun,
+        le-ltb (3 + length held) 3 (omega arith),
+        lt-ltb (3 + length held) 18 (omega arith),
+      )
       (ap (λ (r : Reader). session r ix) entry-reads)
 
   pub entry-last : length held ≡ 15 → byteCame here ix b ≡ lastCame here ix b
   unfolding byteCame readerAt
   entry-last e =
-      rw (not-whole here l, ne-eqb (3 + length held) 0 begun, le-ltb (3 + length held) 3 (omega arith), le-ltb (3 + length held) 18 (omega arith))
+      rw (
+        not-whole here l,
+        ne-eqb (3 + length held) 0 begun,
+        le-ltb (3 + length held) 3 (omega arith),
+        le-ltb (3 + length held) 18 (omega arith),
+      )
 
 -- Sixteen bytes are those of one pair.
 pub record Spelled (held : List ℕ) (b : ℕ) (p : Pair) : Type 0 where
@@ -164,7 +178,8 @@ spell {held} {b} k s e =
     record {
       hash = gathered-number (take 8 held) t8;
       key = sym (gathered-one 0 (drop 8 held) b) ∙ gathered-number (drop 8 held ++ (b ∷ [])) d8;
-      bytes = (λ i. little-eight (bytes-take 8 k) t8 i ++ little-eight kd d8 i) ∙ sym (append-assoc (take 8 held) (drop 8 held) (b ∷ [])) ∙ ap (λ (x : List ℕ). x ++ (b ∷ [])) (take-append-drop 8 held);
+      bytes = (λ i. little-eight (bytes-take 8 k) t8 i ++ little-eight kd d8 i) ∙ sym (append-assoc (take 8 held) (drop 8 held) (b ∷ []))
+          ∙ ap (λ (x : List ℕ). x ++ (b ∷ [])) (take-append-drop 8 held);
       hash-small = number-eight (bytes-take 8 k) t8;
       key-small = number-eight kd d8;
     }

@@ -13,7 +13,8 @@ use Rattle.index_rules.specs.Insert.{inserts}
 use Rattle.index_rules.proofs.Fit.{both}
 use Rattle.upload_rules.specs.Upload.{Bytes, nothing, another}
 use Rattle.upload_rules.specs.Reader.{Note, Reader, readerOf, newReader, FitReader, fitsReader, isWhole, isOpen}
-use Rattle.upload_rules.specs.Reading.{Session, session, turnedDown, owing, kindCame, countCame, entryCame, lastCame, byteCame, byteRead, bytesRead, endCame, endRead, countByte, nameByte, inHash, entryPlace}
+use Rattle.upload_rules.specs.Reading.{Session, session, turnedDown, owing, kindCame, countCame, entryCame, lastCame, byteCame}
+use Rattle.upload_rules.specs.Reading.{byteRead, bytesRead, endCame, endRead, countByte, nameByte, inHash, entryPlace}
 
 -- A test is not true and false.
 pub no-test : {b : Bool} → b ≡ false → b ≡ true → ⊥
@@ -33,10 +34,18 @@ unfolding fitsReader
 in-range r h = go (decLt (r .got) 3)
   where
     go : Dec (r .got < 3) → fitsReader r ≡ true
-    go (yes l) = let a = h .header l in simp (le-leb _ _ (h .bytes), le-leb _ _ (h .sections), lt-ltb _ _ (h .count), lt-ltb _ _ l, le-leb _ _ a)
+    go (yes l) =
+        let a = h .header l in simp (le-leb _ _ (h .bytes), le-leb _ _ (h .sections), lt-ltb _ _ (h .count), lt-ltb _ _ l, le-leb _ _ a)
     go (no n) =
         let a = h .entries (omega arith) in
-        simp (le-leb _ _ (h .bytes), le-leb _ _ (h .sections), lt-ltb _ _ (h .count), le-ltb (r .got) 3 (omega arith), le-leb _ _ (a .0), le-leb _ _ (a .1))
+        simp (
+          le-leb _ _ (h .bytes),
+          le-leb _ _ (h .sections),
+          lt-ltb _ _ (h .count),
+          le-ltb (r .got) 3 (omega arith),
+          le-leb _ _ (a .0),
+          le-leb _ _ (a .1),
+        )
 
 pub range-in : (r : Reader) → fitsReader r ≡ true → FitReader r
 unfolding fitsReader
@@ -55,10 +64,18 @@ range-in r e =
     }
 
 pub new-range : (m : ℕ) → FitReader (newReader m)
-new-range m = record { bytes = omega arith; sections = omega arith; count = omega arith; header = λ g. omega arith; entries = λ g. absurd (omega arith) }
+new-range m =
+    record {
+      bytes = omega arith;
+      sections = omega arith;
+      count = omega arith;
+      header = λ g. omega arith;
+      entries = λ g. absurd (omega arith);
+    }
 
 -- A note is no matter of ranges.
-pub note-range : {r : Reader} {note : Note} → FitReader r → FitReader (readerOf (r .section) (r .got) (r .owed) (r .hash) (r .key) (r .mark) (r .taken) note)
+pub note-range : {r : Reader} {note : Note} → FitReader r
+    → FitReader (readerOf (r .section) (r .got) (r .owed) (r .hash) (r .key) (r .mark) (r .taken) note)
 note-range h = record { bytes = h .bytes; sections = h .sections; count = h .count; header = h .header; entries = h .entries }
 
 -- The reader of a session is in range.
@@ -71,7 +88,13 @@ module _ (r : Reader) (taken : ℕ) (ahead : isWhole r ≡ false) (h : FitReader
   unfolding owing
   none-owed m =
       let n = eqb-false (r .section) _ ahead in
-      record { bytes = omega arith; sections = omega arith; count = omega arith; header = λ g. omega arith; entries = λ g. absurd (omega arith) }
+      record {
+        bytes = omega arith;
+        sections = omega arith;
+        count = omega arith;
+        header = λ g. omega arith;
+        entries = λ g. absurd (omega arith);
+      }
 
   -- One that owes some waits for the next.
   some-owed : (owed : ℕ) → 1 ≤ owed → owed < 65536 → taken + owed ≤ 65535 * (r .section + 1) → FitReader (owing r owed taken)
@@ -115,8 +138,20 @@ module _ (r : Reader) (ix : Index) (b : ℕ) (small : b < 256) (h : FitReader r)
   entry-range g l =
       let n = eqb-false (r .section) _ ahead in
       pick-both FitReader (inHash r) _ _
-      (record { bytes = omega arith; sections = omega arith; count = h .count; header = λ x. absurd (omega arith); entries = λ x. h .entries g })
-      (record { bytes = omega arith; sections = omega arith; count = h .count; header = λ x. absurd (omega arith); entries = λ x. h .entries g })
+      (record {
+        bytes = omega arith;
+        sections = omega arith;
+        count = h .count;
+        header = λ x. absurd (omega arith);
+        entries = λ x. h .entries g;
+      })
+      (record {
+        bytes = omega arith;
+        sections = omega arith;
+        count = h .count;
+        header = λ x. absurd (omega arith);
+        entries = λ x. h .entries g;
+      })
 
   last-range : 3 ≤ r .got → Ranged (lastCame r ix b)
   unfolding lastCame turnedDown

@@ -15,7 +15,8 @@ use Rattle.index_rules.proofs.Rolling.{rollback-claims}
 use Rattle.index_rules.proofs.Demanding.{demand-three}
 use Rattle.upload_rules.specs.Upload.{Bytes, nothing, another}
 use Rattle.upload_rules.specs.Reader.{Note, Reader, unsaid, said, FitReader, isWhole, noteAnswer, readerAnswer}
-use Rattle.upload_rules.specs.Reading.{Session, session, ReadOutcome, byteRead, bytesRead, endCame, endRead, readChunk, readEnd, newSession, readWhole}
+use Rattle.upload_rules.specs.Reading.{Session, session, ReadOutcome, byteRead, bytesRead, endCame, endRead, readChunk, readEnd}
+use Rattle.upload_rules.specs.Reading.{newSession, readWhole}
 use Rattle.upload_rules.specs.Steps.{Foreign, ByteStep, moves, takes, stops, foreign}
 use Rattle.upload_rules.specs.Left.{Restored}
 use Rattle.upload_rules.proofs.Ranges.{pick-both, new-range, byte-range, bytes-range}
@@ -39,7 +40,8 @@ allowed-one hash key l (rolling s a) = rolling s (allowed-one hash key l a)
 pub whole-in : (ix : Index) {l : List ℕ} → Bytes l → readWhole ix l ≡ answering (endRead (bytesRead (newSession ix) l))
 whole-in ix {l} k =
     let h = new-range (lengthOf (ix .lines)) in
-    ap (λ (o : ReadOutcome). readEnd (o .left)) (chunk-in (newSession ix) l h) ∙ end-in (bytesRead (newSession ix) l) (bytes-range (newSession ix) k h)
+    ap (λ (o : ReadOutcome). readEnd (o .left)) (chunk-in (newSession ix) l h)
+    ∙ end-in (bytesRead (newSession ix) l) (bytes-range (newSession ix) k h)
 
 module _ (ix : Index) (fit : FitIndex ix) (h : Sound (ix .live)) (words : Places (contents h)) where
   abbrev mark : ℕ
@@ -64,9 +66,11 @@ module _ (ix : Index) (fit : FitIndex ix) (h : Sound (ix .live)) (words : Places
   rolled : {m : ℕ} (cs : List Call) → Allowed mark cs → m ≡ mark → Restored ix h (rolls (after cs ix) m .left)
   rolled cs a q = subst (λ (m : ℕ). Restored ix h (rolls (after cs ix) m .left)) (sym q) (restored cs a)
 
-  not-foreign : {m : ℕ} {a : Answer} {A : Type 0} (cs : List Call) → Allowed mark cs → m ≡ mark → Foreign a → rolls (after cs ix) m .answer ≡ a → A
+  not-foreign : {m : ℕ} {a : Answer} {A : Type 0} (cs : List Call) → Allowed mark cs → m ≡ mark → Foreign a
+      → rolls (after cs ix) m .answer ≡ a → A
   not-foreign cs al q f e =
-      absurd (foreign-number f (ap (λ (x : Answer). x .number) (sym e ∙ ap (λ (m : ℕ). rolls (after cs ix) m .answer) q ∙ three cs al .accepted)))
+      absurd (foreign-number f
+      (ap (λ (x : Answer). x .number) (sym e ∙ ap (λ (m : ℕ). rolls (after cs ix) m .answer) q ∙ three cs al .accepted)))
 
   step-run : {r : Reader} {e : Session} (cs : List Call) → Allowed mark cs → r .mark ≡ mark → ByteStep r (after cs ix) e → Run e
   step-run cs a q (moves n m) = running cs a n (m ∙ q)
@@ -77,7 +81,8 @@ module _ (ix : Index) (fit : FitIndex ix) (h : Sound (ix .live)) (words : Places
   step-run cs a q (foreign b f e) = not-foreign cs a q f e
 
   byte-run : {d : Session} (b : ℕ) → FitReader (d .reader) → Run d → Run (byteRead d b)
-  byte-run b k (running {r} cs a n q) = subst Run (sym (byte-open (session r (after cs ix)) b n)) (step-run cs a q (step r (after cs ix) b k))
+  byte-run b k (running {r} cs a n q) =
+      subst Run (sym (byte-open (session r (after cs ix)) b n)) (step-run cs a q (step r (after cs ix) b k))
   byte-run b k (stopped {r} {jx = jx} n e) = subst Run (sym (byte-said (session r jx) b n)) (stopped n e)
 
   pub bytes-run : {d : Session} {l : List ℕ} → Bytes l → FitReader (d .reader) → Run d → Run (bytesRead d l)
@@ -103,7 +108,8 @@ module _ (ix : Index) (fit : FitIndex ix) (h : Sound (ix .live)) (words : Places
   outcome-leaves : {o : ReadOutcome} {d : Session} → o ≡ answering d → Leaves d → o .answer .number ≢ 0 → Restored ix h (o .left .index)
   outcome-leaves e f = rw e f
 
-  pub chunk-restores : {l : List ℕ} → Bytes l → readChunk (newSession ix) l .answer .number ≢ 0 → Restored ix h (readChunk (newSession ix) l .left .index)
+  pub chunk-restores : {l : List ℕ} → Bytes l → readChunk (newSession ix) l .answer .number ≢ 0
+      → Restored ix h (readChunk (newSession ix) l .left .index)
   chunk-restores {l} k = outcome-leaves (chunk-in (newSession ix) l (new-range mark)) (run-leaves (all-run k))
 
   -- The end call, nothing being noted: of a whole upload it is no refusal, and else it is rolled back.

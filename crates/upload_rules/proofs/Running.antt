@@ -18,14 +18,18 @@ use Rattle.index_rules.specs.Calls.{Places}
 use Rattle.index_rules.proofs.Inserting.{insert-claims}
 use Rattle.upload_rules.specs.Upload.{sectionsBytes, entriesOf}
 use Rattle.upload_rules.specs.Reader.{Reader, unsaid, noting}
-use Rattle.upload_rules.specs.Reading.{Session, session, turnedDown, owing, kindCame, cameOf, lastCame, byteCame, byteRead, bytesRead, newSession}
+use Rattle.upload_rules.specs.Reading.{Session, session, turnedDown, owing, kindCame, cameOf, lastCame, byteCame, byteRead, bytesRead}
+use Rattle.upload_rules.specs.Reading.{newSession}
 use Rattle.upload_rules.specs.Parts.{UploadPart, between, kinded, counting, within, partBytes, partEntries}
 use Rattle.upload_rules.proofs.Cutting.{bytes-read-append, byte-open}
 use Rattle.upload_rules.proofs.Stepping.{turned-back}
 use Rattle.upload_rules.proofs.Endian.{gathered}
 use Rattle.upload_rules.proofs.Sections.{pairsIn, pairs-in-one, length-one, entries-at-length, entries-of-length}
-use Rattle.upload_rules.proofs.Growing.{placed-is, nextEntry, bytes-kind, bytes-low, bytes-high, bytes-none, entries-none, entries-begun, bytes-whole, entries-whole, bytes-more, entries-more, bytes-pair, entries-pair}
-use Rattle.upload_rules.proofs.Moving.{readerAt, same-reader, not-whole, place-at, kind-on, low-on, high-none, high-some, entry-on, entry-last, Spelled}
+use Rattle.upload_rules.proofs.Growing.{placed-is, nextEntry, bytes-kind, bytes-low, bytes-high, bytes-none, entries-none}
+use Rattle.upload_rules.proofs.Growing.{entries-begun, bytes-whole, entries-whole, bytes-more, entries-more, bytes-pair}
+use Rattle.upload_rules.proofs.Growing.{entries-pair}
+use Rattle.upload_rules.proofs.Moving.{readerAt, same-reader, not-whole, place-at, kind-on, low-on, high-none, high-some, entry-on}
+use Rattle.upload_rules.proofs.Moving.{entry-last, Spelled}
 use Rattle.upload_rules.proofs.Entering.{Taken, taken-none, taken-back}
 
 pub reader-open : (m : ℕ) (part : UploadPart) → readerAt m part .note ≡ unsaid
@@ -58,12 +62,14 @@ module _ (m : ℕ) (ix : Index) (ss : List (List Pair)) (b : ℕ) where
   past-four e = rw e
 
   -- Before the fourth is whole, any but the kind of the next is with 18.
-  pub kind-off : length ss < 4 → b ≢ suc (length ss) → byteCame (readerAt m (between ss)) ix b ≡ turnedDown (readerAt m (between ss)) ix (refused 18)
+  pub kind-off : length ss < 4 → b ≢ suc (length ss)
+      → byteCame (readerAt m (between ss)) ix b ≡ turnedDown (readerAt m (between ss)) ix (refused 18)
   unfolding byteCame kindCame readerAt
   kind-off l e = let f : b ≢ length ss + 1 = λ z. e (omega arith) in rw (not-whole (readerAt m (between ss)) l, ne-eqb b (length ss + 1) f)
 
 -- An entry's last byte: the insert of the pair, and what comes of it.
-module _ (m : ℕ) (jx : Index) (ss : List (List Pair)) (c : ℕ) (ps : List Pair) (held : List ℕ) (b : ℕ) {p : Pair} (four : length ss < 4) (fifteen : length held ≡ 15) (spelled : Spelled held b p) where
+module _ (m : ℕ) (jx : Index) (ss : List (List Pair)) (c : ℕ) (ps : List Pair) (held : List ℕ) (b : ℕ) {p : Pair} (four : length ss < 4)
+    (fifteen : length held ≡ 15) (spelled : Spelled held b p) where
   abbrev here : Reader
   here = readerAt m (within ss c ps held)
 
@@ -77,13 +83,16 @@ module _ (m : ℕ) (jx : Index) (ss : List (List Pair)) (c : ℕ) (ps : List Pai
   unfolding lastCame readerAt
   last-is =
       entry-last m jx ss c ps held b four fifteen
-      ∙ (λ i. cameOf (readerAt m (within ss c ps held)) (inserts jx (spelled .hash i) (spelled .key i) ((place-at m ss c ps held ∙ placed-is ss c ps) i)))
+      ∙ (λ i. cameOf (readerAt m (within ss c ps held))
+      (inserts jx (spelled .hash i) (spelled .key i) ((place-at m ss c ps held ∙ placed-is ss c ps) i)))
 
-  last-takes : (x : ℕ) → ins .answer ≡ given x → byteCame here jx b ≡ session (owing here (c - length ps - 1) (pairsIn ss + length ps + 1)) (ins .left)
+  last-takes : (x : ℕ) → ins .answer ≡ given x
+      → byteCame here jx b ≡ session (owing here (c - length ps - 1) (pairsIn ss + length ps + 1)) (ins .left)
   unfolding readerAt
   last-takes x e = last-is ∙ rw (eq-eqb (ins .answer .number) 0 (ap (λ (a : Answer). a .number) e))
 
-  pub last-more : (x : ℕ) → ins .answer ≡ given x → length ps + 1 < c → byteCame here jx b ≡ session (readerAt m (within ss c (ps ++ (p ∷ [])) [])) (ins .left)
+  pub last-more : (x : ℕ) → ins .answer ≡ given x → length ps + 1 < c
+      → byteCame here jx b ≡ session (readerAt m (within ss c (ps ++ (p ∷ [])) [])) (ins .left)
   unfolding readerAt owing gathered
   last-more x e l =
       let n : c - length ps - 1 ≢ 0 = λ z. omega arith in
@@ -92,7 +101,8 @@ module _ (m : ℕ) (jx : Index) (ss : List (List Pair)) (c : ℕ) (ps : List Pai
       ∙ rw (ne-eqb (c - length ps - 1) 0 n)
       (ap (λ (r : Reader). session r (ins .left)) (same-reader m unsaid refl refl (omega arith) refl refl (omega arith)))
 
-  pub last-whole : (x : ℕ) → ins .answer ≡ given x → length ps + 1 ≡ c → byteCame here jx b ≡ session (readerAt m (between (ss ++ ((ps ++ (p ∷ [])) ∷ [])))) (ins .left)
+  pub last-whole : (x : ℕ) → ins .answer ≡ given x → length ps + 1 ≡ c
+      → byteCame here jx b ≡ session (readerAt m (between (ss ++ ((ps ++ (p ∷ [])) ∷ [])))) (ins .left)
   unfolding readerAt owing
   last-whole x e l =
       let n : c - length ps - 1 ≡ 0 = omega arith in
@@ -125,7 +135,8 @@ module _ (ix : Index) (fits : FitIndex ix) (h : Sound (ix .live)) (words : Place
   unfolding partBytes sectionsBytes partEntries entriesOf bytesRead readerAt pairsIn
   at-start = record { index = ix; runs = refl; taken = taken-none ix fits h words }
 
-  one-byte : {part : UploadPart} (a : At part) (b : ℕ) → bytesRead (newSession ix) (partBytes part ++ (b ∷ [])) ≡ byteCame (readerAt mark part) (a .index) b
+  one-byte : {part : UploadPart} (a : At part) (b : ℕ)
+      → bytesRead (newSession ix) (partBytes part ++ (b ∷ [])) ≡ byteCame (readerAt mark part) (a .index) b
   unfolding bytesRead
   one-byte {part} a b =
       sym (bytes-read-append (newSession ix) (partBytes part) (b ∷ [])) ∙ ap (λ (d : Session). byteRead d b) (a .runs)
@@ -136,13 +147,15 @@ module _ (ix : Index) (fits : FitIndex ix) (h : Sound (ix .live)) (words : Place
   at-next {part} a b {jx} e f t = record { index = jx; runs = ap (bytesRead (newSession ix)) e ∙ one-byte a b ∙ f; taken = t }
 
   -- A byte that is refused: the refusal is noted, and the rollback is accepted.
-  pub at-off : {part : UploadPart} (a : At part) (b : ℕ) (n : Answer) → byteCame (readerAt mark part) (a .index) b ≡ turnedDown (readerAt mark part) (a .index) n
+  pub at-off : {part : UploadPart} (a : At part) (b : ℕ) (n : Answer)
+      → byteCame (readerAt mark part) (a .index) b ≡ turnedDown (readerAt mark part) (a .index) n
       → bytesRead (newSession ix) (partBytes part ++ (b ∷ [])) ≡ session (noting (readerAt mark part) n) (rolls (a .index) mark .left)
   at-off {part} a b n e =
       let q = reader-mark mark part in
       let back = taken-back ix fits h words (a .taken) in
       one-byte a b ∙ e
-      ∙ turned-back (readerAt mark part) (a .index) n (lengthOf (a .index .lines) - mark) (ap (λ (k : ℕ). rolls (a .index) k .answer) q ∙ back)
+      ∙ turned-back (readerAt mark part) (a .index) n (lengthOf (a .index .lines) - mark)
+      (ap (λ (k : ℕ). rolls (a .index) k .answer) q ∙ back)
       ∙ ap (λ (k : ℕ). session (noting (readerAt mark part) n) (rolls (a .index) k .left)) q
 
   same-entries : {es fs : List Entry} {jx : Index} → fs ≡ es → Took es jx → Took fs jx
@@ -161,36 +174,45 @@ module _ (ix : Index) (fits : FitIndex ix) (h : Sound (ix .live)) (words : Place
     pub at-high : (lo hi c : ℕ) → lo < 256 → hi < 256 → c ≡ lo + 256 * hi → c ≢ 0 → At (counting ss lo) → At (within ss c [] [])
     unfolding partEntries
     at-high lo hi c l g e n a =
-        at-next a hi (bytes-high ss lo hi c l g e) (high-some mark (a .index) ss lo hi four l g n e) (same-entries (entries-begun ss c) (a .taken))
+        at-next a hi (bytes-high ss lo hi c l g e) (high-some mark (a .index) ss lo hi four l g n e)
+        (same-entries (entries-begun ss c) (a .taken))
 
     pub at-none : (lo hi : ℕ) → lo < 256 → hi < 256 → 0 ≡ lo + 256 * hi → At (counting ss lo) → At (between (ss ++ ([] ∷ [])))
     unfolding partEntries
     at-none lo hi l g e a =
-        at-next a hi (bytes-none ss lo hi l g e) (high-none mark (a .index) ss lo hi four l g (omega arith) (omega arith)) (same-entries (entries-none ss) (a .taken))
+        at-next a hi (bytes-none ss lo hi l g e) (high-none mark (a .index) ss lo hi four l g (omega arith) (omega arith))
+        (same-entries (entries-none ss) (a .taken))
 
-    pub at-entry : {c : ℕ} {ps : List Pair} {held : List ℕ} (b : ℕ) → length held < 15 → At (within ss c ps held) → At (within ss c ps (held ++ (b ∷ [])))
+    pub at-entry : {c : ℕ} {ps : List Pair} {held : List ℕ} (b : ℕ) → length held < 15 → At (within ss c ps held)
+        → At (within ss c ps (held ++ (b ∷ [])))
     at-entry {c} {ps} {held} b l a =
-        at-next a b (bytes-more ss c ps held (b ∷ [])) (entry-on mark (a .index) ss c ps held b four l) (same-entries (entries-more ss c ps held (held ++ (b ∷ []))) (a .taken))
+        at-next a b (bytes-more ss c ps held (b ∷ [])) (entry-on mark (a .index) ss c ps held b four l)
+        (same-entries (entries-more ss c ps held (held ++ (b ∷ []))) (a .taken))
 
     -- The last byte of an entry that is taken.
-    module _ {c : ℕ} {ps : List Pair} {held : List ℕ} (b : ℕ) {p : Pair} (fifteen : length held ≡ 15) (spelled : Spelled held b p) (a : At (within ss c ps held)) where
+    module _ {c : ℕ} {ps : List Pair} {held : List ℕ} (b : ℕ) {p : Pair} (fifteen : length held ≡ 15) (spelled : Spelled held b p)
+        (a : At (within ss c ps held)) where
       abbrev insertion : Outcome
       insertion = inserts (a .index) (nextEntry ss ps p .hash) (nextEntry ss ps p .key) (nextEntry ss ps p .at)
 
-      module _ (x : ℕ) (e : insertion .answer ≡ given x) (t : Took (partEntries (within ss c ps held) ++ (nextEntry ss ps p ∷ [])) (insertion .left)) where
+      module _ (x : ℕ) (e : insertion .answer ≡ given x)
+          (t : Took (partEntries (within ss c ps held) ++ (nextEntry ss ps p ∷ [])) (insertion .left)) where
         last-bytes : partBytes (within ss c (ps ++ (p ∷ [])) []) ≡ partBytes (within ss c ps held) ++ (b ∷ [])
         last-bytes = bytes-pair ss c ps (held ++ (b ∷ [])) p (spelled .bytes) ∙ bytes-more ss c ps held (b ∷ [])
 
         pub at-more : length ps + 1 < c → At (within ss c (ps ++ (p ∷ [])) [])
         at-more l =
-            at-next a b last-bytes (last-more mark (a .index) ss c ps held b four fifteen spelled x e l) (same-entries (entries-pair ss c ps held p) t)
+            at-next a b last-bytes (last-more mark (a .index) ss c ps held b four fifteen spelled x e l)
+            (same-entries (entries-pair ss c ps held p) t)
 
         pub at-whole : length ps + 1 ≡ c → At (between (ss ++ ((ps ++ (p ∷ [])) ∷ [])))
         at-whole l =
             let o = length-one ps p in
-            at-next a b (bytes-whole ss (ps ++ (p ∷ [])) c (omega arith) ∙ last-bytes) (last-whole mark (a .index) ss c ps held b four fifteen spelled x e l)
+            at-next a b (bytes-whole ss (ps ++ (p ∷ [])) c (omega arith) ∙ last-bytes)
+            (last-whole mark (a .index) ss c ps held b four fifteen spelled x e l)
             (same-entries (entries-whole ss (ps ++ (p ∷ [])) c ∙ entries-pair ss c ps held p) t)
 
       pub last-refuses : insertion .answer .number ≢ 0
-          → bytesRead (newSession ix) (partBytes (within ss c ps held) ++ (b ∷ [])) ≡ session (noting (readerAt mark (within ss c ps held)) (insertion .answer)) (rolls (a .index) mark .left)
+          → bytesRead (newSession ix) (partBytes (within ss c ps held) ++ (b ∷ []))
+          ≡ session (noting (readerAt mark (within ss c ps held)) (insertion .answer)) (rolls (a .index) mark .left)
       last-refuses n = at-off a b (insertion .answer) (last-off mark (a .index) ss c ps held b four fifteen spelled n)

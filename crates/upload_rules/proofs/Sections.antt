@@ -6,7 +6,8 @@ use native.Mathlib.Omega.{arith}
 use lib.ListN.{length, length-append}
 use Rattle.slots.specs.Pairs.{Pair}
 use Rattle.index_rules.specs.Contents.{Entry, entry, put}
-use Rattle.upload_rules.specs.Upload.{Bytes, little, pairBytes, pairsBytes, headerBytes, sectionBytes, sectionsBytes, Pairs, Sections, none, more, entriesAt, entriesOf}
+use Rattle.upload_rules.specs.Upload.{Bytes, little, pairBytes, pairsBytes, headerBytes, sectionBytes, sectionsBytes, Pairs, Sections}
+use Rattle.upload_rules.specs.Upload.{none, more, entriesAt, entriesOf}
 use Rattle.upload_rules.specs.Parts.{putAll}
 use Rattle.upload_rules.proofs.Endian.{little-length, little-bytes}
 use Rattle.upload_rules.proofs.Cutting.{bytes-append}
@@ -43,20 +44,23 @@ header-length k c = ap suc (little-length 2 c)
 
 pub section-length : (k : ℕ) (s : List Pair) → length (sectionBytes k s) ≡ 3 + 16 * length s
 unfolding sectionBytes
-section-length k s = let a = header-length k (length s) in let b = pairs-length s in length-append (headerBytes k (length s)) (pairsBytes s) ∙ omega arith
+section-length k s =
+    let a = header-length k (length s) in let b = pairs-length s in length-append (headerBytes k (length s)) (pairsBytes s) ∙ omega arith
 
 pub sections-length : (k : ℕ) (ss : List (List Pair)) → length (sectionsBytes k ss) ≡ 3 * length ss + 16 * pairsIn ss
 unfolding sectionsBytes pairsIn
 sections-length k [] = omega arith
 sections-length k (s ∷ ss) =
-    let a = section-length k s in let b = sections-length (suc k) ss in length-append (sectionBytes k s) (sectionsBytes (suc k) ss) ∙ omega arith
+    let a = section-length k s in
+    let b = sections-length (suc k) ss in length-append (sectionBytes k s) (sectionsBytes (suc k) ss) ∙ omega arith
 
 pub pairs-one : (l : List Pair) (p : Pair) → pairsBytes (l ++ (p ∷ [])) ≡ pairsBytes l ++ pairBytes p
 unfolding pairsBytes
 pairs-one [] p = append-nil (pairBytes p)
 pairs-one (q ∷ l) p = ap (λ (x : List ℕ). pairBytes q ++ x) (pairs-one l p) ∙ sym (append-assoc (pairBytes q) (pairsBytes l) (pairBytes p))
 
-pub sections-one : (k : ℕ) (ss : List (List Pair)) (s : List Pair) → sectionsBytes k (ss ++ (s ∷ [])) ≡ sectionsBytes k ss ++ sectionBytes (k + length ss) s
+pub sections-one : (k : ℕ) (ss : List (List Pair)) (s : List Pair)
+    → sectionsBytes k (ss ++ (s ∷ [])) ≡ sectionsBytes k ss ++ sectionBytes (k + length ss) s
 unfolding sectionsBytes
 sections-one k [] s = let z : k + 0 ≡ k = omega arith in rw z (append-nil (sectionBytes k s))
 sections-one k (t ∷ ss) s =
@@ -64,14 +68,16 @@ sections-one k (t ∷ ss) s =
     ap (λ (x : List ℕ). sectionBytes k t ++ x) (sections-one (suc k) ss s ∙ ap (λ (j : ℕ). sectionsBytes (suc k) ss ++ sectionBytes j s) z)
     ∙ sym (append-assoc (sectionBytes k t) (sectionsBytes (suc k) ss) _)
 
-pub entries-at-one : (from : ℕ) (l : List Pair) (p : Pair) → entriesAt from (l ++ (p ∷ [])) ≡ entriesAt from l ++ (entry (p .hash) (p .key) (from + 16 * length l) ∷ [])
+pub entries-at-one : (from : ℕ) (l : List Pair) (p : Pair)
+    → entriesAt from (l ++ (p ∷ [])) ≡ entriesAt from l ++ (entry (p .hash) (p .key) (from + 16 * length l) ∷ [])
 unfolding entriesAt
 entries-at-one from [] p = let z : from + 16 * 0 ≡ from = omega arith in rw z
 entries-at-one from (q ∷ l) p =
     let n = pair-length q in
     let z : from + length (pairBytes q) + 16 * length l ≡ from + 16 * suc (length l) = omega arith in
     ap (λ (x : List Entry). entry (q .hash) (q .key) from ∷ x)
-    (entries-at-one (from + length (pairBytes q)) l p ∙ ap (λ (j : ℕ). entriesAt (from + length (pairBytes q)) l ++ (entry (p .hash) (p .key) j ∷ [])) z)
+    (entries-at-one (from + length (pairBytes q)) l p
+    ∙ ap (λ (j : ℕ). entriesAt (from + length (pairBytes q)) l ++ (entry (p .hash) (p .key) j ∷ [])) z)
 
 pub entries-of-one : (k from : ℕ) (ss : List (List Pair)) (s : List Pair)
     → entriesOf k from (ss ++ (s ∷ [])) ≡ entriesOf k from ss ++ entriesAt (from + length (sectionsBytes k ss) + 3) s
@@ -82,10 +88,13 @@ entries-of-one k from [] s =
     append-nil _ ∙ ap (λ (j : ℕ). entriesAt j s) z
 entries-of-one k from (t ∷ ss) s =
     let n = length-append (sectionBytes k t) (sectionsBytes (suc k) ss) in
-    let z : from + length (sectionBytes k t) + length (sectionsBytes (suc k) ss) + 3 ≡ from + length (sectionBytes k t ++ sectionsBytes (suc k) ss) + 3 = omega arith in
+    let z : from + length (sectionBytes k t) + length (sectionsBytes (suc k) ss) + 3
+    ≡ from + length (sectionBytes k t ++ sectionsBytes (suc k) ss) + 3 =
+    omega arith in
     let first = entriesAt (from + length (headerBytes k (length t))) t in
     ap (λ (x : List Entry). first ++ x)
-    (entries-of-one (suc k) (from + length (sectionBytes k t)) ss s ∙ ap (λ (j : ℕ). entriesOf (suc k) (from + length (sectionBytes k t)) ss ++ entriesAt j s) z)
+    (entries-of-one (suc k) (from + length (sectionBytes k t)) ss s
+    ∙ ap (λ (j : ℕ). entriesOf (suc k) (from + length (sectionBytes k t)) ss ++ entriesAt j s) z)
     ∙ sym (append-assoc first _ _)
 
 pub entries-at-length : (from : ℕ) (l : List Pair) → length (entriesAt from l) ≡ length l

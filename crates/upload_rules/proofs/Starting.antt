@@ -20,7 +20,8 @@ module _ (d : Session) where
   data Did : Type 0 where
     one : (FitIndex (d .index) → ⊥) → readStart d ≡ readOutcome (refused 1) d → Did
     two : FitIndex (d .index) → (Sound (d .index .live) → ⊥) → readStart d ≡ readOutcome (refused 2) d → Did
-    begun : FitIndex (d .index) → Sound (d .index .live) → readStart d ≡ readOutcome (given 1) (session (newReader (lengthOf (d .index .lines))) (d .index)) → Did
+    begun : FitIndex (d .index) → Sound (d .index .live)
+        → readStart d ≡ readOutcome (given 1) (session (newReader (lengthOf (d .index .lines))) (d .index)) → Did
 
   did : Did
   unfolding readStart
@@ -53,7 +54,8 @@ module _ (d : Session) where
   pub start-claims : ReadStarts d
   start-claims = go did
     where
-      other : {A : Type 0} {o : ReadOutcome} {a : Answer} → readStart d ≡ o → (o .answer .number ≡ a .number → ⊥) → readStart d .answer ≡ a → A
+      other : {A : Type 0} {o : ReadOutcome} {a : Answer} → readStart d ≡ o → (o .answer .number ≡ a .number → ⊥)
+          → readStart d .answer ≡ a → A
       other e n f = absurd (n (says e f))
 
       go : Did → ReadStarts d

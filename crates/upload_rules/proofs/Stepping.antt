@@ -1,5 +1,5 @@
--- A byte makes no call, an insert, or a rollback to the mark, whichever of the reader's words decide which; what a refused call answers goes
--- up, and it writes nothing.
+-- A byte makes no call, an insert, or a rollback to the mark, whichever of the reader's words decide which; what a refused call answers
+-- goes up, and it writes nothing.
 use mathlib.Core.Path.{_≡_, refl, ap, sym, _∙_}
 use mathlib.Core.Logic.{_≢_, _⊎_, inl, inr}
 use mathlib.Core.Bool.{Bool, true, false}
@@ -19,8 +19,10 @@ use Rattle.index_rules.proofs.Sounding.{yes-sound, sound-yes}
 use Rattle.index_rules.proofs.Inserting.{insert-claims, insert-settled}
 use Rattle.index_rules.proofs.Rolling.{rollback-claims, rollback-settled}
 use Rattle.upload_rules.specs.Reader.{Reader, unsaid, noting, FitReader, isWhole}
-use Rattle.upload_rules.specs.Reading.{Session, session, goesUp, turnedDown, owing, kindCame, countCame, entryCame, cameOf, lastCame, byteCame, countByte, nameByte, inHash, entryPlace}
-use Rattle.upload_rules.specs.Steps.{Foreign, unfit, damaged, badMark, misfit, Fault, kind, long, entry, ByteStep, moves, takes, stops, foreign}
+use Rattle.upload_rules.specs.Reading.{Session, session, goesUp, turnedDown, owing, kindCame, countCame, entryCame, cameOf, lastCame}
+use Rattle.upload_rules.specs.Reading.{byteCame, countByte, nameByte, inHash, entryPlace}
+use Rattle.upload_rules.specs.Steps.{Foreign, unfit, damaged, badMark, misfit, Fault, kind, long, entry, ByteStep, moves, takes}
+use Rattle.upload_rules.specs.Steps.{stops, foreign}
 use Rattle.upload_rules.proofs.Ranges.{no-test, pick-both}
 
 -- A rollback that is refused answers 1, 2, 7 or 8.
@@ -39,7 +41,11 @@ module _ (ix : Index) (m : ℕ) where
       third f h (no d) = (
         refused 8,
         misfit,
-        claim .eight .1 (f, omega arith, (h, λ u. n (ap (λ (a : Answer). a .number) (claim .accepted (lengthOf (ix .lines) - m) .1 (f, omega arith, refl, (h, u)))))),
+        claim .eight .1 (
+          f,
+          omega arith,
+          (h, λ u. n (ap (λ (a : Answer). a .number) (claim .accepted (lengthOf (ix .lines) - m) .1 (f, omega arith, refl, (h, u))))),
+        ),
       )
 
       second : FitIndex ix → (b : Bool) → sound (ix .live) ≡ b → Which
@@ -70,7 +76,8 @@ up-foreign a misfit = refl
 
 module _ (r : Reader) (ix : Index) where
   -- A refusal is rolled back to the mark.
-  pub turned-back : (a : Answer) (c : ℕ) → rolls ix (r .mark) .answer ≡ given c → turnedDown r ix a ≡ session (noting r a) (rolls ix (r .mark) .left)
+  pub turned-back : (a : Answer) (c : ℕ) → rolls ix (r .mark) .answer ≡ given c
+      → turnedDown r ix a ≡ session (noting r a) (rolls ix (r .mark) .left)
   unfolding turnedDown goesUp
   turned-back a c e = ap (λ (x : Answer). session (noting r x) (rolls ix (r .mark) .left)) (ap (goesUp a) e ∙ up-given a c)
 

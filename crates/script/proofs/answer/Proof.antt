@@ -43,7 +43,11 @@ slice-reshare-prefix-write-all : tie.Need-slice-reshare-prefix-write-all Inv-loo
 slice-reshare-prefix-write-all c = search needs
 
 slice-aggregate-write-all : tie.Need-slice-aggregate-write-all Inv-loop μ-loop
-slice-aggregate-write-all c = simp length-take (omega (arith, c .before .before .before .before .before .before .before .before .before .before .before .before .before .feed .ensures .1 .0))
+slice-aggregate-write-all c =
+    simp length-take (omega (
+      arith,
+      c .before .before .before .before .before .before .before .before .before .before .before .before .before .feed .ensures .1 .0,
+    ))
 
 write-all-requires : tie.Need-write-all-requires Inv-loop μ-loop
 write-all-requires c κs = search needs
@@ -77,13 +81,15 @@ part-bound l at n t h g =
 
 add-at : tie.Need-add-at Inv-loop μ-loop
 add-at c =
-    let c8 = c .before .before .before .before .before .before .before .before .before .before .before .before .before .before .before .before in
+    let c8 =
+    c .before .before .before .before .before .before .before .before .before .before .before .before .before .before .before .before in
     let at-loop = c8 .before .before .before .before .before .before .before .before .before in
     let a = at-loop .before .before .before .before .before .before .before .before .args in
     omega (
       arith,
       at-loop .loop .inv .1,
-      part-bound (now (a .chunk)) (at-loop .loop .at) (length (now (a .chunk)) - at-loop .loop .at) (c8 .feed .result .taken) (c8 .feed .ensures .1 .1) (at-loop .loop .inv .0),
+      part-bound (now (a .chunk)) (at-loop .loop .at) (length (now (a .chunk)) - at-loop .loop .at) (c8 .feed .result .taken)
+          (c8 .feed .ensures .1 .1) (at-loop .loop .inv .0),
     )
 
 loop-less : tie.Need-loop-less Inv-loop μ-loop

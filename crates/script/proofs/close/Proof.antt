@@ -13,7 +13,10 @@ slice-reshare-prefix-write-all c = search needs
 
 slice-aggregate-write-all : tie.Need-slice-aggregate-write-all
 slice-aggregate-write-all c =
-    simp length-take (omega (arith, c .before .before .before .before .before .before .before .before .before .before .before .before .before .finish .ensures .1))
+    simp length-take (omega (
+      arith,
+      c .before .before .before .before .before .before .before .before .before .before .before .before .before .finish .ensures .1,
+    ))
 
 write-all-requires : tie.Need-write-all-requires
 write-all-requires c κs = search needs

@@ -7,10 +7,14 @@ use Rattle.try_looks.proofs.grow.Statement.{statement}
 use Rattle.try_looks.proofs.grow.Tie as tie
 
 abbrev Inv-loop : tie.InvT-loop
-Inv-loop names₀ cells₀ head₀ sizes₀ lines₀ order label pairs₀ most₀ past₀ n₀ t12 t13 t14 t15 names cells head sizes lines pairs most past n = (n ≤ 300) × (pairs < 2 ^ 32) × (most < 2 ^ 32) × (past < 2 ^ 32) × (length names ≡ length names₀) × (length cells ≡ length cells₀) × (length head ≡ length head₀) × (length sizes ≡ length sizes₀) × (length lines ≡ length lines₀)
+Inv-loop names₀ cells₀ head₀ sizes₀ lines₀ order label pairs₀ most₀ past₀ n₀ t12 t13 t14 t15 names cells head sizes lines
+    pairs most past n =
+    (n ≤ 300) × (pairs < 2 ^ 32) × (most < 2 ^ 32) × (past < 2 ^ 32) × (length names ≡ length names₀) × (length cells ≡ length cells₀)
+    × (length head ≡ length head₀) × (length sizes ≡ length sizes₀) × (length lines ≡ length lines₀)
 
 abbrev μ-loop : tie.MeasureT-loop
-μ-loop names₀ cells₀ head₀ sizes₀ lines₀ order label pairs₀ most₀ past₀ n₀ t12 t13 t14 t15 names cells head sizes lines pairs most past n = 300 - n
+μ-loop names₀ cells₀ head₀ sizes₀ lines₀ order label pairs₀ most₀ past₀ n₀ t12 t13 t14 t15 names cells head sizes lines pairs most past n =
+    300 - n
 
 fresh-requires : tie.Need-fresh-requires Inv-loop μ-loop
 fresh-requires c κs = search needs

@@ -7,7 +7,9 @@ use Rattle.try_looks.proofs.table.Statement.{statement}
 use Rattle.try_looks.proofs.table.Tie as tie
 
 abbrev Inv-loop : tie.InvT-loop
-Inv-loop names₀ cells₀ head₀ sizes₀ lines₀ n₀ names cells head sizes lines n = (n ≤ 4096) × (length names ≡ length names₀) × (length cells ≡ length cells₀) × (length head ≡ length head₀) × (length sizes ≡ length sizes₀) × (length lines ≡ length lines₀)
+Inv-loop names₀ cells₀ head₀ sizes₀ lines₀ n₀ names cells head sizes lines n =
+    (n ≤ 4096) × (length names ≡ length names₀) × (length cells ≡ length cells₀) × (length head ≡ length head₀)
+    × (length sizes ≡ length sizes₀) × (length lines ≡ length lines₀)
 
 abbrev μ-loop : tie.MeasureT-loop
 μ-loop names₀ cells₀ head₀ sizes₀ lines₀ n₀ names cells head sizes lines n = 4096 - n

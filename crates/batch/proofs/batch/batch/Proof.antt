@@ -63,7 +63,8 @@ returns-2 c =
     let c1 = c .before in
     let c2 = c1 .before .before in
     let c4 = c2 .before .before in
-    unknown _ _ _ (is-fit _ (c4 .fit-index .ensures) (c2 .enum-told .given .1)) (sym (c1 .calls-fit .ensures) ∙ not-true (c1 .calls-fit .result) (c .if1 .taken))
+    unknown _ _ _ (is-fit _ (c4 .fit-index .ensures) (c2 .enum-told .given .1))
+    (sym (c1 .calls-fit .ensures) ∙ not-true (c1 .calls-fit .result) (c .if1 .taken))
 
 sound-requires : tie.Need-sound-requires
 sound-requires c κs = search needs

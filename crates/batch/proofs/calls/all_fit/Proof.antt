@@ -49,7 +49,9 @@ returns c =
     let c2 = c1 .before in
     let c3 = c2 .before in
     let a = c3 .before .before .args in
-    fit-not (now (a .calls)) (c3 .loop .k) (c2 .loop-test .taken) (c1 .call-fits .ensures) (not-true (c1 .call-fits .result) (c .if1 .taken)) ∙ c3 .loop .inv
+    fit-not (now (a .calls)) (c3 .loop .k) (c2 .loop-test .taken) (c1 .call-fits .ensures)
+    (not-true (c1 .call-fits .result) (c .if1 .taken))
+    ∙ c3 .loop .inv
 
 loop-less : tie.Need-loop-less Inv-loop μ-loop
 loop-less c = search needs
@@ -60,7 +62,8 @@ loop-again c =
     let c2 = c1 .before in
     let c3 = c2 .before in
     let a = c3 .before .before .args in
-    fit-on (now (a .calls)) (c3 .loop .k) (c2 .loop-test .taken) (c1 .call-fits .ensures) (not-false (c1 .call-fits .result) (c .if1 .left)) ∙ c3 .loop .inv
+    fit-on (now (a .calls)) (c3 .loop .k) (c2 .loop-test .taken) (c1 .call-fits .ensures) (not-false (c1 .call-fits .result) (c .if1 .left))
+    ∙ c3 .loop .inv
 
 returns-2 : tie.Need-returns-2 Inv-loop μ-loop
 returns-2 c =

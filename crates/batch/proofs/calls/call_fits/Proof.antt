@@ -44,7 +44,8 @@ returns-4 c =
     let c3 = c2 .before in
     let c4 = c3 .before in
     let a = c4 .before .before .args in
-    ne-eqb _ _ (c .if3 .left) ∙ fits-none (now (a .calls)) (a .k) (c4 .call-word .ensures) (c3 .call-word2 .ensures) (c2 .if1 .left) (c1 .if2 .left) (c .if3 .left)
+    ne-eqb _ _ (c .if3 .left)
+    ∙ fits-none (now (a .calls)) (a .k) (c4 .call-word .ensures) (c3 .call-word2 .ensures) (c2 .if1 .left) (c1 .if2 .left) (c .if3 .left)
 
 pub call-fits-spec : {M : Type 1} → statement M
 call-fits-spec =

@@ -27,7 +27,11 @@ cast-make-insert c =
     let c5 = c4 .before in
     let c6 = c5 .before .before .before .before .before .before .before .before in
     let a = c6 .args in
-    omega (arith, small (now (a .calls)) (a .k) (c5 .call-word .ensures) (c4 .call-word2 .ensures) (c3 .call-word3 .ensures) (c2 .call-word4 .ensures) (c6 .pre .1) (omega (arith, c1 .if1 .taken)))
+    omega (
+      arith,
+      small (now (a .calls)) (a .k) (c5 .call-word .ensures) (c4 .call-word2 .ensures) (c3 .call-word3 .ensures) (c2 .call-word4 .ensures)
+          (c6 .pre .1) (omega (arith, c1 .if1 .taken)),
+    )
 
 make-insert-requires : tie.Need-make-insert-requires
 make-insert-requires c κs = search needs
@@ -59,7 +63,9 @@ returns c =
     let c11 = c10 .before in
     let c12 = c11 .before in
     let a = c12 .before .before .before .before .before .before .before .before .args in
-    made-as (is-insert (now (a .calls)) (a .k) (c12 .call-word .ensures) (c11 .call-word2 .ensures) (c10 .call-word3 .ensures) (c9 .call-word4 .ensures) (c8 .if1 .taken)) (c7 .make-insert .ensures)
+    made-as (is-insert (now (a .calls)) (a .k) (c12 .call-word .ensures) (c11 .call-word2 .ensures) (c10 .call-word3 .ensures)
+    (c9 .call-word4 .ensures) (c8 .if1 .taken))
+    (c7 .make-insert .ensures)
 
 make-remove-requires : tie.Need-make-remove-requires
 make-remove-requires c κs = search needs
@@ -91,7 +97,9 @@ returns-2 c =
     let c12 = c11 .before in
     let c13 = c12 .before in
     let a = c13 .before .before .before .before .before .before .before .before .args in
-    made-as (is-remove (now (a .calls)) (a .k) (c13 .call-word .ensures) (c12 .call-word2 .ensures) (c11 .call-word3 .ensures) (c10 .call-word4 .ensures) (c8 .if2 .taken)) (c7 .make-remove .ensures)
+    made-as (is-remove (now (a .calls)) (a .k) (c13 .call-word .ensures) (c12 .call-word2 .ensures) (c11 .call-word3 .ensures)
+    (c10 .call-word4 .ensures) (c8 .if2 .taken))
+    (c7 .make-remove .ensures)
 
 cast-make-replace : tie.Need-cast-make-replace
 cast-make-replace c =
@@ -102,7 +110,11 @@ cast-make-replace c =
     let c6 = c5 .before in
     let c7 = c6 .before .before .before .before .before .before .before .before in
     let a = c7 .args in
-    omega (arith, small (now (a .calls)) (a .k) (c6 .call-word .ensures) (c5 .call-word2 .ensures) (c4 .call-word3 .ensures) (c3 .call-word4 .ensures) (c7 .pre .1) (c1 .if2 .left))
+    omega (
+      arith,
+      small (now (a .calls)) (a .k) (c6 .call-word .ensures) (c5 .call-word2 .ensures) (c4 .call-word3 .ensures) (c3 .call-word4 .ensures)
+          (c7 .pre .1) (c1 .if2 .left),
+    )
 
 make-replace-requires : tie.Need-make-replace-requires
 make-replace-requires c κs = search needs
@@ -135,7 +147,9 @@ returns-3 c =
     let c9 = c8 .before in
     let c10 = c9 .before in
     let a = c10 .before .before .before .before .before .before .before .before .args in
-    made-as (is-replace (now (a .calls)) (a .k) (c10 .call-word .ensures) (c9 .call-word2 .ensures) (c8 .call-word3 .ensures) (c7 .call-word4 .ensures) (c6 .if1 .left) (c5 .if2 .left)) (c4 .make-replace .ensures)
+    made-as (is-replace (now (a .calls)) (a .k) (c10 .call-word .ensures) (c9 .call-word2 .ensures) (c8 .call-word3 .ensures)
+    (c7 .call-word4 .ensures) (c6 .if1 .left) (c5 .if2 .left))
+    (c4 .make-replace .ensures)
 
 pub make-spec : {M : Type 1} → statement M
 make-spec =

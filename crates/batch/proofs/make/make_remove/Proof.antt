@@ -46,7 +46,8 @@ returns c =
     let c10 = c4 .before .before .before .before .before .before .before .before .before .before .before .before in
     let c11 = c10 .before .before .before .before .before .before .before .before .before .before .before .before in
     let a = c11 .args in
-    made (c11 .pre) (removeCall (a .hash) (a .key)) (a .k) (remove-is (c11 .pre) (a .hash) (a .key) (c10 .remove-sound .ensures)) (c4 .answer .ensures) (c3 .answer-word .ensures)
+    made (c11 .pre) (removeCall (a .hash) (a .key)) (a .k) (remove-is (c11 .pre) (a .hash) (a .key) (c10 .remove-sound .ensures))
+    (c4 .answer .ensures) (c3 .answer-word .ensures)
     (c2 .put-wide .ensures)
     (c .lower .ensures)
 

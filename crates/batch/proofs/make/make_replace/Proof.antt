@@ -35,7 +35,8 @@ returns c =
     let c7 = c4 .before .before .before .before .before .before in
     let c8 = c7 .before .before .before .before .before .before .before .before .before in
     let a = c8 .args in
-    made (c8 .pre) (replaceCall (a .hash) (a .key) (a .place)) (a .k) (replace-is (c8 .pre) (a .hash) (a .key) (a .place) (c7 .replace-sound .ensures)) (c4 .answer .ensures) (c3 .answer-word .ensures)
+    made (c8 .pre) (replaceCall (a .hash) (a .key) (a .place)) (a .k)
+    (replace-is (c8 .pre) (a .hash) (a .key) (a .place) (c7 .replace-sound .ensures)) (c4 .answer .ensures) (c3 .answer-word .ensures)
     (c2 .put-wide .ensures)
     refl
 

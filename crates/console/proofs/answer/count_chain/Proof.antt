@@ -26,7 +26,8 @@ returns : tie.Need-returns Inv-loop μ-loop
 returns c =
     let at-loop = c .before .before in
     let a = at-loop .before .before .args in
-    count-spent (a .n) (now (a .cells)) (at-loop .loop .i) (at-loop .loop .count) (at-loop .loop .inv .0) (c .before .loop-test .taken) (c .if1 .taken)
+    count-spent (a .n) (now (a .cells)) (at-loop .loop .i) (at-loop .loop .count) (at-loop .loop .inv .0) (c .before .loop-test .taken)
+    (c .if1 .taken)
 
 cast-if2 : tie.Need-cast-if2 Inv-loop μ-loop
 cast-if2 c = search needs
@@ -35,7 +36,8 @@ returns-2 : tie.Need-returns-2 Inv-loop μ-loop
 returns-2 c =
     let at-loop = c .before .before .before in
     let a = at-loop .before .before .args in
-    count-outside (a .n) (now (a .cells)) (at-loop .loop .i) (at-loop .loop .count) (at-loop .loop .inv .0) (c .before .before .loop-test .taken) (c .if2 .taken)
+    count-outside (a .n) (now (a .cells)) (at-loop .loop .i) (at-loop .loop .count) (at-loop .loop .inv .0)
+    (c .before .before .loop-test .taken) (c .if2 .taken)
 
 get-requires : tie.Need-get-requires Inv-loop μ-loop
 get-requires c κs = search needs

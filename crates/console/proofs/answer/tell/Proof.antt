@@ -23,7 +23,8 @@ returns c =
     let c4 = c2 .before .before .before .before in
     let c6 = c4 .before .before .before .before in
     let a = c6 .before .before .before .before .args in
-    word-number-end (record { bytes = now (a .out); at = a .at }) (now (a .word)) (a .v) (c6 .put-word .ensures) (c4 .put-number .ensures) (c2 .put-byte .ensures)
+    word-number-end (record { bytes = now (a .out); at = a .at }) (now (a .word)) (a .v) (c6 .put-word .ensures) (c4 .put-number .ensures)
+    (c2 .put-byte .ensures)
 
 pub tell-spec : {M : Type 1} → statement M
 tell-spec =

@@ -11,7 +11,8 @@ use Rattle.console.proofs.answer.tell_entries.Tie as tie
 
 abbrev Inv-loop : tie.InvT-loop
 Inv-loop out₀ at names cells first count end₀ i₀ left₀ out end i left =
-    (typed (record { bytes = out; at = end }) (entryLines left names cells i) ≡ typed (record { bytes = out₀; at = at }) (entryLines count names cells first))
+    (typed (record { bytes = out; at = end }) (entryLines left names cells i)
+    ≡ typed (record { bytes = out₀; at = at }) (entryLines count names cells first))
     × (length out ≡ length out₀)
 
 abbrev μ-loop : tie.MeasureT-loop
@@ -58,7 +59,8 @@ returns : tie.Need-returns Inv-loop μ-loop
 returns c =
     let at-loop = c .before in
     let a = at-loop .before .before .before .before .args in
-    sym (entries-over (record { bytes = at-loop .loop .out; at = at-loop .loop .end }) (now (a .names)) (now (a .cells)) (at-loop .loop .left) (at-loop .loop .i) (c .loop-test .left))
+    sym (entries-over (record { bytes = at-loop .loop .out; at = at-loop .loop .end }) (now (a .names)) (now (a .cells))
+    (at-loop .loop .left) (at-loop .loop .i) (c .loop-test .left))
     ∙ at-loop .loop .inv .0
 
 pub tell-entries-spec : {M : Type 1} → statement M

@@ -43,7 +43,8 @@ returns-2 c =
     let c4 = c3 .before in
     let c5 = c4 .before in
     let c6 = c5 .before in
-    mark-journal _ _ (c6 .fit .ensures) (not-false (c6 .fit .result) (c5 .if1 .left)) (c4 .fit-journal .ensures) (not-true (c4 .fit-journal .result) (c3 .if2 .taken)) (c2 .tell2 .ensures)
+    mark-journal _ _ (c6 .fit .ensures) (not-false (c6 .fit .result) (c5 .if1 .left)) (c4 .fit-journal .ensures)
+    (not-true (c4 .fit-journal .result) (c3 .if2 .taken)) (c2 .tell2 .ensures)
 
 length-of-requires : tie.Need-length-of-requires
 length-of-requires c κs = search needs

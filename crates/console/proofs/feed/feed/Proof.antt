@@ -13,7 +13,8 @@ use Rattle.console.proofs.feed.feed.Tie as tie
 
 abbrev Inv-loop : tie.InvT-loop
 Inv-loop chunk names₀ cells₀ head₀ sizes₀ lines₀ out₀ kept₀ written₀ i₀ names cells head sizes lines out kept written i =
-    (feeding (drop i chunk) i (lentDesk (lineOf kept) names cells head sizes lines out written) ≡ feeding chunk 0 (lentDesk (lineOf kept₀) names₀ cells₀ head₀ sizes₀ lines₀ out₀ 0))
+    (feeding (drop i chunk) i (lentDesk (lineOf kept) names cells head sizes lines out written)
+    ≡ feeding chunk 0 (lentDesk (lineOf kept₀) names₀ cells₀ head₀ sizes₀ lines₀ out₀ 0))
     × (written ≤ length out)
     × (i ≤ length chunk)
     × (length names ≡ length names₀)
@@ -60,8 +61,11 @@ returns-2 c =
     let c1 = c .before in
     let at-loop = c1 .before in
     let c2 = at-loop .before in
-    let a = c2 .before .before .before .before .before .before .before .before .args in
-    (feeding-full (now (a .chunk)) (at-loop .loop .i) _ (c1 .loop-test .taken) (c .if2 .taken) ∙ at-loop .loop .inv .0 ∙ feeds-long (now (a .chunk)) _ (c2 .if1 .left), search needs)
+    let a = c2 .before .before .before .before .before .before .before .before .args in (
+      feeding-full (now (a .chunk)) (at-loop .loop .i) _ (c1 .loop-test .taken) (c .if2 .taken) ∙ at-loop .loop .inv .0
+          ∙ feeds-long (now (a .chunk)) _ (c2 .if1 .left),
+      search needs,
+    )
 
 shared-slice-read-take-byte : tie.Need-shared-slice-read-take-byte Inv-loop μ-loop
 shared-slice-read-take-byte c = search needs
@@ -71,7 +75,9 @@ take-byte-requires c κs = search needs
 
 add-i : tie.Need-add-i Inv-loop μ-loop
 add-i c =
-    let c1 = c .before .before .before .before .before .before .before .before .before .before .before .before .before .before .before .before .before .before .before .before .before .before in
+    let c1 =
+    c .before .before .before .before .before .before .before .before .before .before .before .before .before .before .before .before
+    .before .before .before .before .before .before in
     let c2 = c1 .before .before .before .before .before .before .before .before .before .before in
     omega (arith, c1 .loop-test .taken, c2 .good .1 .0)
 
@@ -85,8 +91,11 @@ loop-again c =
     let c3 = c2 .before in
     let at-loop = c3 .before in
     let a = at-loop .before .before .before .before .before .before .before .before .before .args in
-    let here = lentDesk (lineOf (at-loop .loop .kept)) (at-loop .loop .names) (at-loop .loop .cells) (at-loop .loop .head) (at-loop .loop .sizes) (at-loop .loop .lines) (at-loop .loop .out) (at-loop .loop .written) in (
-      feeding-on (now (a .chunk)) (at-loop .loop .i) here (c3 .loop-test .taken) (c2 .if2 .left) (c1 .take-byte .ensures) ∙ at-loop .loop .inv .0,
+    let here =
+    lentDesk (lineOf (at-loop .loop .kept)) (at-loop .loop .names) (at-loop .loop .cells) (at-loop .loop .head) (at-loop .loop .sizes)
+    (at-loop .loop .lines) (at-loop .loop .out) (at-loop .loop .written) in (
+      feeding-on (now (a .chunk)) (at-loop .loop .i) here (c3 .loop-test .taken) (c2 .if2 .left) (c1 .take-byte .ensures)
+          ∙ at-loop .loop .inv .0,
       kept-within here _ (c1 .take-byte .ensures) (at-loop .loop .inv .1),
       search needs,
       search needs,
@@ -120,8 +129,11 @@ returns-3 : tie.Need-returns-3 Inv-loop μ-loop
 returns-3 c =
     let at-loop = c .before in
     let c1 = at-loop .before in
-    let a = c1 .before .before .before .before .before .before .before .before .args in
-    (feeding-over (now (a .chunk)) (at-loop .loop .i) _ (c .loop-test .left) ∙ at-loop .loop .inv .0 ∙ feeds-long (now (a .chunk)) _ (c1 .if1 .left), search needs)
+    let a = c1 .before .before .before .before .before .before .before .before .args in (
+      feeding-over (now (a .chunk)) (at-loop .loop .i) _ (c .loop-test .left) ∙ at-loop .loop .inv .0
+          ∙ feeds-long (now (a .chunk)) _ (c1 .if1 .left),
+      search needs,
+    )
 
 pub feed-spec : {M : Type 1} → statement M
 feed-spec =

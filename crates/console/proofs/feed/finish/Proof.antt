@@ -40,8 +40,10 @@ returns-3 : tie.Need-returns-3
 returns-3 c =
     let c1 = c .before .before .before .before .before .before .before .before .before .before .before .before .before in
     let c2 = c1 .before .before .before .before .before .before .before in
-    let c3 = c2 .before in
-    (ends-line _ (c3 .if1 .left) (c2 .if2 .left) (c1 .reply-kept .ensures) (c .blank .ensures), turn-within _ _ _ (c1 .reply-kept .ensures) (omega arith))
+    let c3 = c2 .before in (
+      ends-line _ (c3 .if1 .left) (c2 .if2 .left) (c1 .reply-kept .ensures) (c .blank .ensures),
+      turn-within _ _ _ (c1 .reply-kept .ensures) (omega arith),
+    )
 
 pub finish-spec : {M : Type 1} → statement M
 finish-spec =

@@ -54,7 +54,8 @@ put-digits-returns-2 t c =
     let c2 = c .before .before in
     let c3 = c2 .before .before in
     let a = c3 .before .before .before .args in
-    digits-last (record { bytes = now (a .out); at = a .at }) _ (a .most) (a .x) (c3 .before .if1 .left) (c3 .if2 .taken) (c2 .put-byte .ensures)
+    digits-last (record { bytes = now (a .out); at = a .at }) _ (a .most) (a .x) (c3 .before .if1 .left) (c3 .if2 .taken)
+    (c2 .put-byte .ensures)
 
 put-digits-sub-put-digits : (t : ℕ) → put-digits-lts.Need-sub-put-digits (put-digits-calls t) (put-digits-at t) put-digits.Post
 put-digits-sub-put-digits t c = search needs

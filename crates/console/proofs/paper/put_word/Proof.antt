@@ -11,7 +11,8 @@ use Rattle.console.proofs.paper.put_word.Tie as tie
 
 abbrev Inv-loop : tie.InvT-loop
 Inv-loop out₀ at word end₀ i₀ out end i =
-    (typed (record { bytes = out; at = end }) (drop i word) ≡ typed (record { bytes = out₀; at = at }) word) × (i ≤ length word) × (length out ≡ length out₀)
+    (typed (record { bytes = out; at = end }) (drop i word) ≡ typed (record { bytes = out₀; at = at }) word) × (i ≤ length word)
+    × (length out ≡ length out₀)
 
 abbrev μ-loop : tie.MeasureT-loop
 μ-loop out₀ at word end₀ i₀ out end i = length word - i
@@ -38,7 +39,8 @@ loop-again c =
     let at-loop = c3 .before in
     let a = at-loop .before .before .before .args in (
       ap (λ (p : Paper). typed p (drop (at-loop .loop .i + 1) (now (a .word)))) (c2 .put-byte .ensures)
-          ∙ sym (typed-drop (record { bytes = at-loop .loop .out; at = at-loop .loop .end }) (now (a .word)) (at-loop .loop .i) (c3 .loop-test .taken))
+          ∙ sym (typed-drop (record { bytes = at-loop .loop .out; at = at-loop .loop .end }) (now (a .word)) (at-loop .loop .i)
+          (c3 .loop-test .taken))
           ∙ at-loop .loop .inv .0,
       search needs,
       search needs,
@@ -51,7 +53,9 @@ returns : tie.Need-returns Inv-loop μ-loop
 returns c =
     let at-loop = c .before in
     let a = at-loop .before .before .before .args in
-    sym (typed-over (record { bytes = at-loop .loop .out; at = at-loop .loop .end }) (now (a .word)) (at-loop .loop .i) (c .loop-test .left)) ∙ at-loop .loop .inv .0
+    sym (typed-over (record { bytes = at-loop .loop .out; at = at-loop .loop .end }) (now (a .word)) (at-loop .loop .i)
+    (c .loop-test .left))
+    ∙ at-loop .loop .inv .0
 
 pub put-word-spec : {M : Type 1} → statement M
 put-word-spec =

@@ -22,7 +22,8 @@ returns : tie.Need-returns Inv-loop μ-loop
 returns c =
     let at-loop = c .before .before in
     let a = at-loop .before .args in
-    sym (begins-short (now (a .word)) (now (a .line)) (at-loop .loop .i) (c .before .loop-test .taken) (c .if1 .taken)) ∙ at-loop .loop .inv .0
+    sym (begins-short (now (a .word)) (now (a .line)) (at-loop .loop .i) (c .before .loop-test .taken) (c .if1 .taken))
+    ∙ at-loop .loop .inv .0
 
 shared-slice-read-if2 : tie.Need-shared-slice-read-if2 Inv-loop μ-loop
 shared-slice-read-if2 c = search needs
@@ -35,7 +36,8 @@ returns-2 c =
     let c1 = c .before .before .before in
     let at-loop = c1 .before .before in
     let a = at-loop .before .args in
-    sym (begins-other (now (a .word)) (now (a .line)) (at-loop .loop .i) (c1 .before .loop-test .taken) (c1 .if1 .left) (c .if2 .taken)) ∙ at-loop .loop .inv .0
+    sym (begins-other (now (a .word)) (now (a .line)) (at-loop .loop .i) (c1 .before .loop-test .taken) (c1 .if1 .left) (c .if2 .taken))
+    ∙ at-loop .loop .inv .0
 
 add-i : tie.Need-add-i Inv-loop μ-loop
 add-i c = search needs
@@ -48,7 +50,8 @@ loop-again c =
     let c1 = c .before .before .before in
     let at-loop = c1 .before .before in
     let a = at-loop .before .args in (
-      sym (begins-on (now (a .word)) (now (a .line)) (at-loop .loop .i) (c1 .before .loop-test .taken) (c1 .if1 .left) (c .if2 .left)) ∙ at-loop .loop .inv .0,
+      sym (begins-on (now (a .word)) (now (a .line)) (at-loop .loop .i) (c1 .before .loop-test .taken) (c1 .if1 .left) (c .if2 .left))
+          ∙ at-loop .loop .inv .0,
       search needs,
     )
 

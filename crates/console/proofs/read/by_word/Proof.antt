@@ -54,7 +54,8 @@ returns-3 c =
     let b2 = t2 .before in
     let t1 = b2 .before .before in
     let b1 = t1 .before in
-    by-ask _ (sym (b1 .begins .ensures) ∙ t1 .if1 .left) (sym (b2 .begins2 .ensures) ∙ t2 .if2 .left) (sym (b3 .begins3 .ensures) ∙ t3 .if3 .taken) (c .question .ensures)
+    by-ask _ (sym (b1 .begins .ensures) ∙ t1 .if1 .left) (sym (b2 .begins2 .ensures) ∙ t2 .if2 .left)
+    (sym (b3 .begins3 .ensures) ∙ t3 .if3 .taken) (c .question .ensures)
 
 slice-aggregate-begins-4 : tie.Need-slice-aggregate-begins-4
 slice-aggregate-begins-4 c = search needs
@@ -75,7 +76,8 @@ returns-4 c =
     let b2 = t2 .before in
     let t1 = b2 .before .before in
     let b1 = t1 .before in
-    by-roll _ (sym (b1 .begins .ensures) ∙ t1 .if1 .left) (sym (b2 .begins2 .ensures) ∙ t2 .if2 .left) (sym (b3 .begins3 .ensures) ∙ t3 .if3 .left) (sym (b4 .begins4 .ensures) ∙ t4 .if4 .taken) (c .mark .ensures)
+    by-roll _ (sym (b1 .begins .ensures) ∙ t1 .if1 .left) (sym (b2 .begins2 .ensures) ∙ t2 .if2 .left)
+    (sym (b3 .begins3 .ensures) ∙ t3 .if3 .left) (sym (b4 .begins4 .ensures) ∙ t4 .if4 .taken) (c .mark .ensures)
 
 slice-aggregate-begins-5 : tie.Need-slice-aggregate-begins-5
 slice-aggregate-begins-5 c = search needs
@@ -98,7 +100,9 @@ returns-5 c =
     let b2 = t2 .before in
     let t1 = b2 .before .before in
     let b1 = t1 .before in
-    by-mark _ (sym (b1 .begins .ensures) ∙ t1 .if1 .left) (sym (b2 .begins2 .ensures) ∙ t2 .if2 .left) (sym (b3 .begins3 .ensures) ∙ t3 .if3 .left) (sym (b4 .begins4 .ensures) ∙ t4 .if4 .left) (sym (b5 .begins5 .ensures) ∙ t5 .if5 .taken) (c .alone-after .ensures)
+    by-mark _ (sym (b1 .begins .ensures) ∙ t1 .if1 .left) (sym (b2 .begins2 .ensures) ∙ t2 .if2 .left)
+    (sym (b3 .begins3 .ensures) ∙ t3 .if3 .left) (sym (b4 .begins4 .ensures) ∙ t4 .if4 .left) (sym (b5 .begins5 .ensures) ∙ t5 .if5 .taken)
+    (c .alone-after .ensures)
 
 slice-aggregate-begins-6 : tie.Need-slice-aggregate-begins-6
 slice-aggregate-begins-6 c = search needs
@@ -123,7 +127,9 @@ returns-6 c =
     let b2 = t2 .before in
     let t1 = b2 .before .before in
     let b1 = t1 .before in
-    by-list _ (sym (b1 .begins .ensures) ∙ t1 .if1 .left) (sym (b2 .begins2 .ensures) ∙ t2 .if2 .left) (sym (b3 .begins3 .ensures) ∙ t3 .if3 .left) (sym (b4 .begins4 .ensures) ∙ t4 .if4 .left) (sym (b5 .begins5 .ensures) ∙ t5 .if5 .left) (sym (b6 .begins6 .ensures) ∙ t6 .if6 .taken) (c .alone-after2 .ensures)
+    by-list _ (sym (b1 .begins .ensures) ∙ t1 .if1 .left) (sym (b2 .begins2 .ensures) ∙ t2 .if2 .left)
+    (sym (b3 .begins3 .ensures) ∙ t3 .if3 .left) (sym (b4 .begins4 .ensures) ∙ t4 .if4 .left) (sym (b5 .begins5 .ensures) ∙ t5 .if5 .left)
+    (sym (b6 .begins6 .ensures) ∙ t6 .if6 .taken) (c .alone-after2 .ensures)
 
 returns-7 : tie.Need-returns-7
 returns-7 c =
@@ -138,7 +144,9 @@ returns-7 c =
     let b2 = t2 .before in
     let t1 = b2 .before .before in
     let b1 = t1 .before in
-    by-none _ (sym (b1 .begins .ensures) ∙ t1 .if1 .left) (sym (b2 .begins2 .ensures) ∙ t2 .if2 .left) (sym (b3 .begins3 .ensures) ∙ t3 .if3 .left) (sym (b4 .begins4 .ensures) ∙ t4 .if4 .left) (sym (b5 .begins5 .ensures) ∙ t5 .if5 .left) (sym (b6 .begins6 .ensures) ∙ c .if6 .left)
+    by-none _ (sym (b1 .begins .ensures) ∙ t1 .if1 .left) (sym (b2 .begins2 .ensures) ∙ t2 .if2 .left)
+    (sym (b3 .begins3 .ensures) ∙ t3 .if3 .left) (sym (b4 .begins4 .ensures) ∙ t4 .if4 .left) (sym (b5 .begins5 .ensures) ∙ t5 .if5 .left)
+    (sym (b6 .begins6 .ensures) ∙ c .if6 .left)
 
 pub by-word-spec : {M : Type 1} → statement M
 by-word-spec =

@@ -26,14 +26,16 @@ returns c =
     let c1 = c .before .before in
     let at-loop = c1 .before in
     let a = at-loop .before .args in
-    sym (on-low (a .most) (at-loop .loop .value) (now (a .line)) (at-loop .loop .i) (c1 .loop-test .taken) (c .if1 .taken)) ∙ at-loop .loop .inv .0
+    sym (on-low (a .most) (at-loop .loop .value) (now (a .line)) (at-loop .loop .i) (c1 .loop-test .taken) (c .if1 .taken))
+    ∙ at-loop .loop .inv .0
 
 returns-2 : tie.Need-returns-2 Inv-loop μ-loop
 returns-2 c =
     let c2 = c .before .before .before in
     let at-loop = c2 .before in
     let a = at-loop .before .args in
-    sym (on-high (a .most) (at-loop .loop .value) (now (a .line)) (at-loop .loop .i) (c2 .loop-test .taken) (c .if2 .taken)) ∙ at-loop .loop .inv .0
+    sym (on-high (a .most) (at-loop .loop .value) (now (a .line)) (at-loop .loop .i) (c2 .loop-test .taken) (c .if2 .taken))
+    ∙ at-loop .loop .inv .0
 
 cast-digit : tie.Need-cast-digit Inv-loop μ-loop
 cast-digit c = search needs
@@ -48,7 +50,9 @@ returns-3 c =
     let c3 = c2 .before .before in
     let at-loop = c3 .before in
     let a = at-loop .before .args in
-    sym (on-wide (a .most) (at-loop .loop .value) (now (a .line)) (at-loop .loop .i) (c3 .loop-test .taken) (c2 .if1 .left) (c1 .if2 .left) (c .if3 .taken)) ∙ at-loop .loop .inv .0
+    sym (on-wide (a .most) (at-loop .loop .value) (now (a .line)) (at-loop .loop .i) (c3 .loop-test .taken) (c2 .if1 .left) (c1 .if2 .left)
+    (c .if3 .taken))
+    ∙ at-loop .loop .inv .0
 
 mul-value : tie.Need-mul-value Inv-loop μ-loop
 mul-value c = search needs
@@ -69,7 +73,9 @@ loop-again c =
     let c3 = c2 .before .before in
     let at-loop = c3 .before in
     let a = at-loop .before .args in (
-      sym (on-digit (a .most) (at-loop .loop .value) (now (a .line)) (at-loop .loop .i) (c3 .loop-test .taken) (c2 .if1 .left) (c1 .if2 .left) (c .if3 .left)) ∙ at-loop .loop .inv .0,
+      sym (on-digit (a .most) (at-loop .loop .value) (now (a .line)) (at-loop .loop .i) (c3 .loop-test .taken) (c2 .if1 .left)
+          (c1 .if2 .left) (c .if3 .left))
+          ∙ at-loop .loop .inv .0,
       search needs,
     )
 

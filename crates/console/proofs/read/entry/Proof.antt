@@ -91,7 +91,10 @@ cast-t14 c =
     let c10 = c8 .before .before in
     let c12 = c10 .before .before in
     let line = now (c12 .before .before .args .line) in
-    omega (arith, next-bound most32 _ (omega arith) (omega arith) (ap (readOf line) (sym (c2 .third .given .1)) ∙ c4 .next-number2 .ensures))
+    omega (
+      arith,
+      next-bound most32 _ (omega arith) (omega arith) (ap (readOf line) (sym (c2 .third .given .1)) ∙ c4 .next-number2 .ensures),
+    )
 
 returns-5 : tie.Need-returns-5
 returns-5 c =

@@ -51,7 +51,8 @@ returns-5 c =
     let c3 = c2 .before in
     let c4 = c3 .before .before in
     let a = c4 .before .before .args in
-    c .digits .ensures ∙ sym (number-digit (a .most) (now (a .line)) (a .at) (c4 .if1 .left) (c3 .if2 .left) (c2 .if3 .left) (c1 .if4 .left))
+    c .digits .ensures
+    ∙ sym (number-digit (a .most) (now (a .line)) (a .at) (c4 .if1 .left) (c3 .if2 .left) (c2 .if3 .left) (c1 .if4 .left))
 
 pub first-number-spec : {M : Type 1} → statement M
 first-number-spec =

@@ -38,7 +38,10 @@ cast-t8 c =
     let c2 = c .before .before in
     let c4 = c2 .before .before in
     let line = now (c4 .before .before .args .line) in
-    omega (arith, number-bound most32 _ (omega arith) (omega arith) (ap (readOf line) (sym (c2 .first .given .1)) ∙ c4 .first-number .ensures))
+    omega (
+      arith,
+      number-bound most32 _ (omega arith) (omega arith) (ap (readOf line) (sym (c2 .first .given .1)) ∙ c4 .first-number .ensures),
+    )
 
 returns-3 : tie.Need-returns-3
 returns-3 c =

@@ -50,7 +50,9 @@ returns c =
     let c8 = c7 .before in
     let c9 = c8 .before in
     let c10 = c9 .before in
-    reads (now (c10 .before .before .args .words)) (c10 .word .ensures) (c9 .word2 .ensures) (c8 .word3 .ensures) (c7 .word4 .ensures) (c6 .word5 .ensures) (c5 .word6 .ensures) (c4 .word7 .ensures) (c3 .word8 .ensures) (c2 .word9 .ensures) (c1 .word10 .ensures) (c .word11 .ensures)
+    reads (now (c10 .before .before .args .words)) (c10 .word .ensures) (c9 .word2 .ensures) (c8 .word3 .ensures) (c7 .word4 .ensures)
+    (c6 .word5 .ensures) (c5 .word6 .ensures) (c4 .word7 .ensures) (c3 .word8 .ensures) (c2 .word9 .ensures) (c1 .word10 .ensures)
+    (c .word11 .ensures)
 
 pub read-spec : {M : Type 1} → statement M
 read-spec =

@@ -88,7 +88,9 @@ same-length c =
     let c20 = c19 .before in
     let c21 = c20 .before .before .before in
     let c22 = c21 .before in
-    c2 .put-word11 .kept .0 ∙ c4 .put-word10 .kept .0 ∙ c6 .put-word9 .kept .0 ∙ c8 .put-word8 .kept .0 ∙ c10 .put-word7 .kept .0 ∙ c12 .put-word6 .kept .0 ∙ c14 .put-word5 .kept .0 ∙ c16 .put-word4 .kept .0 ∙ c18 .put-word3 .kept .0 ∙ c20 .put-word2 .kept .0 ∙ c22 .put-word .kept .0
+    c2 .put-word11 .kept .0 ∙ c4 .put-word10 .kept .0 ∙ c6 .put-word9 .kept .0 ∙ c8 .put-word8 .kept .0 ∙ c10 .put-word7 .kept .0
+    ∙ c12 .put-word6 .kept .0 ∙ c14 .put-word5 .kept .0 ∙ c16 .put-word4 .kept .0 ∙ c18 .put-word3 .kept .0 ∙ c20 .put-word2 .kept .0
+    ∙ c22 .put-word .kept .0
 
 returns : tie.Need-returns
 returns c =

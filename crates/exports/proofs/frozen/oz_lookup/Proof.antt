@@ -23,7 +23,8 @@ search-word-requires c κs =
     let is = c .counted .ensures ∙ c .before .lookup .ensures in
     let a = c .before .before .before .before .before .before .before .args in
     let s = lentSet (now (a .lengths)) (now (a .bins)) (now (a .heads)) (now (a .names)) (now (a .cells)) in (
-      subst (λ (x : Counted). answerWord (x .answer) < 281474976710656) (sym is) (answer-below (lookups-plain s (a .table) (a .hash) (a .key))),
+      subst (λ (x : Counted). answerWord (x .answer) < 281474976710656) (sym is)
+          (answer-below (lookups-plain s (a .table) (a .hash) (a .key))),
       subst (λ (x : Counted). x .looks < 65536) (sym is) (omega (arith, lookups-looks s (a .table) (a .hash) (a .key))),
     )
 

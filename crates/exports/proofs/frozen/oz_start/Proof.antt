@@ -38,7 +38,8 @@ returns-2 c =
     let at-answer = at-word .before in
     let at-start = at-answer .before .before in
     let a = at-start .before .before .before .before .before .before .before .before .args in
-    long (now (a .cursor)) (at-start .before .if1 .left) (at-word .answer-word .ensures ∙ ap answerWord (at-answer .answer .ensures)) (at-start .start .ensures) (at-keep .keep .ensures)
+    long (now (a .cursor)) (at-start .before .if1 .left) (at-word .answer-word .ensures ∙ ap answerWord (at-answer .answer .ensures))
+    (at-start .start .ensures) (at-keep .keep .ensures)
 
 pub oz-start-spec : {M : Type 1} → statement M
 oz-start-spec =

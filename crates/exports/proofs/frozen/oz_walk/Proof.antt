@@ -43,7 +43,8 @@ returns-2 c =
     let at-next = at-answer .before .before in
     let at-read = at-next .before in
     let a = at-read .before .before .before .before .before .before .before .before .before .args in
-    long (now (a .cursor)) (at-read .before .before .if1 .left) (at-word .answer-word .ensures ∙ ap answerWord (at-answer .answer .ensures)) (at-next .next .ensures ∙ ap (nexts _) (at-read .read .ensures)) (at-keep .keep .ensures)
+    long (now (a .cursor)) (at-read .before .before .if1 .left) (at-word .answer-word .ensures ∙ ap answerWord (at-answer .answer .ensures))
+    (at-next .next .ensures ∙ ap (nexts _) (at-read .read .ensures)) (at-keep .keep .ensures)
 
 pub oz-walk-spec : {M : Type 1} → statement M
 oz-walk-spec =

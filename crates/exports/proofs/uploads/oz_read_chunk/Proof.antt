@@ -65,7 +65,8 @@ returns-2 c =
     let c9 = c3 .before .before .before .before .before .before .before .before .before .before .before .before in
     let c11 = c9 .before .before .before .before .before .before .before in
     let c13 = c11 .before .before in
-    chunk-some _ _ (c13 .read-words .ensures) (ap readerAtOf (c11 .said .given .1)) (c .answer-word .ensures ∙ ap answerWord (c1 .answer .ensures)) (c3 .write-words .ensures) _ (c9 .chunk .ensures)
+    chunk-some _ _ (c13 .read-words .ensures) (ap readerAtOf (c11 .said .given .1))
+    (c .answer-word .ensures ∙ ap answerWord (c1 .answer .ensures)) (c3 .write-words .ensures) _ (c9 .chunk .ensures)
 
 pub oz-read-chunk-spec : {M : Type 1} → statement M
 oz-read-chunk-spec =

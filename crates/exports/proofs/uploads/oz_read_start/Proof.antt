@@ -35,7 +35,8 @@ returns-2 c =
     let c5 = c4 .before in
     let c6 = c5 .before in
     let c7 = c6 .before in
-    start-made _ _ (c7 .if1 .left) (c6 .start .ensures) (c4 .answer-word .ensures ∙ ap answerWord (c5 .answer .ensures)) (c3 .if2 .taken) (c2 .write-words .ensures)
+    start-made _ _ (c7 .if1 .left) (c6 .start .ensures) (c4 .answer-word .ensures ∙ ap answerWord (c5 .answer .ensures)) (c3 .if2 .taken)
+    (c2 .write-words .ensures)
 
 returns-3 : tie.Need-returns-3
 returns-3 c =

@@ -36,7 +36,8 @@ returns-3 c =
     let c4 = c3 .before in
     let c5 = c4 .before in
     let c6 = c5 .before in
-    no-note _ (c6 .if1 .left) (c5 .wide .ensures) (c4 .if2 .left) (c2 .of-word .ensures ∙ ap noteAt (c3 .wide2 .ensures)) (ap noteAtOf (c .enum-told .given .1))
+    no-note _ (c6 .if1 .left) (c5 .wide .ensures) (c4 .if2 .left) (c2 .of-word .ensures ∙ ap noteAt (c3 .wide2 .ensures))
+    (ap noteAtOf (c .enum-told .given .1))
 
 wide-requires-3 : tie.Need-wide-requires-3
 wide-requires-3 c κs = search needs
@@ -73,8 +74,10 @@ returns-4 c =
     let c12 = c11 .before in
     let c13 = c12 .before in
     let a = c13 .before .before .args in
-    has-note (now (a .words)) (c13 .if1 .left) (c12 .wide .ensures) (c11 .if2 .left) (c9 .of-word .ensures ∙ ap noteAt (c10 .wide2 .ensures)) (ap noteAtOf (c7 .said .given .1))
-    (eight-read (now (a .words)) (noteOf (c7 .said .given .0 .0)) (c5 .wide3 .ensures) (c4 .wide4 .ensures) (c3 .wide5 .ensures) (c2 .wide6 .ensures) (c1 .wide7 .ensures) (c12 .wide .ensures) (c .wide8 .ensures))
+    has-note (now (a .words)) (c13 .if1 .left) (c12 .wide .ensures) (c11 .if2 .left)
+    (c9 .of-word .ensures ∙ ap noteAt (c10 .wide2 .ensures)) (ap noteAtOf (c7 .said .given .1))
+    (eight-read (now (a .words)) (noteOf (c7 .said .given .0 .0)) (c5 .wide3 .ensures) (c4 .wide4 .ensures) (c3 .wide5 .ensures)
+    (c2 .wide6 .ensures) (c1 .wide7 .ensures) (c12 .wide .ensures) (c .wide8 .ensures))
 
 pub read-words-spec : {M : Type 1} → statement M
 read-words-spec =

@@ -47,7 +47,8 @@ same-length c =
     let c14 = c12 .before .before .before .before in
     let c16 = c14 .before .before .before .before in
     let c18 = c16 .before .before .before .before in
-    c2 .put-wide8 .kept .0 ∙ c5 .put-wide7 .kept .0 ∙ c7 .put-wide6 .kept .0 ∙ c10 .put-wide5 .kept .0 ∙ c12 .put-wide4 .kept .0 ∙ c14 .put-wide3 .kept .0 ∙ c16 .put-wide2 .kept .0
+    c2 .put-wide8 .kept .0 ∙ c5 .put-wide7 .kept .0 ∙ c7 .put-wide6 .kept .0 ∙ c10 .put-wide5 .kept .0 ∙ c12 .put-wide4 .kept .0
+    ∙ c14 .put-wide3 .kept .0 ∙ c16 .put-wide2 .kept .0
     ∙ c18 .put-wide .kept .0
 
 returns : tie.Need-returns
@@ -62,7 +63,8 @@ returns c =
     let c16 = c14 .before .before .before .before in
     let c18 = c16 .before .before .before .before in
     let a = c18 .before .before .before .args in
-    eight-written _ (wordsOf (a .reader)) (c18 .put-wide .ensures) (c16 .put-wide2 .ensures) (c14 .put-wide3 .ensures) (c12 .put-wide4 .ensures) (c10 .put-wide5 .ensures)
+    eight-written _ (wordsOf (a .reader)) (c18 .put-wide .ensures) (c16 .put-wide2 .ensures) (c14 .put-wide3 .ensures)
+    (c12 .put-wide4 .ensures) (c10 .put-wide5 .ensures)
     (c7 .put-wide6 .ensures)
     (c5 .put-wide7 .ensures)
     (c3 .word .ensures)

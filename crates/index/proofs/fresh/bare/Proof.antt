@@ -53,7 +53,9 @@ loop-again c =
     let c4 = c3 .before .before in
     let c5 = c4 .before in
     let a = c5 .before .before .before .before .before .args in (
-      bare-on (c5 .loop .names) (c5 .loop .cells) (now (a .head)) (c5 .loop .sizes) (c5 .loop .k) (c4 .loop-test .taken) (c3 .put-pair .ensures) (c2 .wipe .ensures) (c1 .put-word .ensures) ∙ c5 .loop .inv .0,
+      bare-on (c5 .loop .names) (c5 .loop .cells) (now (a .head)) (c5 .loop .sizes) (c5 .loop .k) (c4 .loop-test .taken)
+          (c3 .put-pair .ensures) (c2 .wipe .ensures) (c1 .put-word .ensures)
+          ∙ c5 .loop .inv .0,
       omega arith,
       c3 .put-pair .kept .0 ∙ c5 .loop .inv .2,
       c2 .wipe .kept .0 ∙ c5 .loop .inv .3,

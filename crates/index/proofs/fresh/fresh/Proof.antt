@@ -31,7 +31,8 @@ returns : tie.Need-returns
 returns c =
     let c1 = c .before in
     let a = c1 .before .before .before .before .before .before .before .before .before .before .before .args in
-    fresh-unfit (now (a .names)) (now (a .cells)) (now (a .head)) (now (a .sizes)) (now (a .lines)) (c1 .fit-lengths .ensures) (not-true (c1 .fit-lengths .result) (c .if1 .taken))
+    fresh-unfit (now (a .names)) (now (a .cells)) (now (a .head)) (now (a .sizes)) (now (a .lines)) (c1 .fit-lengths .ensures)
+    (not-true (c1 .fit-lengths .result) (c .if1 .taken))
 
 capacity-of-requires : tie.Need-capacity-of-requires
 capacity-of-requires c κs = search needs
@@ -51,7 +52,8 @@ head-put-requires c κs = search needs
 
 cast-cut : tie.Need-cast-cut
 cast-cut c =
-    let c1 = c .before .before .before .before .before .before .before .before .before .before .before .before .before .before .before .before in
+    let c1 =
+    c .before .before .before .before .before .before .before .before .before .before .before .before .before .before .before .before in
     let c2 = c1 .before .before in
     let c3 = c2 .before in
     let fit = lengths-fit _ (sym (c3 .fit-lengths .ensures) ∙ not-false (c3 .fit-lengths .result) (c2 .if1 .left)) in
@@ -85,7 +87,8 @@ returns-2 c =
     let c6 = c5 .before in
     let a = c6 .before .before .before .before .before .before .before .before .before .before .before .args in
     fresh-made (now (a .names)) (now (a .cells)) (now (a .head)) (now (a .sizes)) (now (a .lines)) (c6 .fit-lengths .ensures)
-    (not-false (c6 .fit-lengths .result) (c5 .if1 .left)) (c4 .capacity-of .ensures) (c3 .bare .ensures) (c2 .head-put .ensures) (c1 .cut .ensures)
+    (not-false (c6 .fit-lengths .result) (c5 .if1 .left)) (c4 .capacity-of .ensures) (c3 .bare .ensures) (c2 .head-put .ensures)
+    (c1 .cut .ensures)
 
 pub fresh-spec : {M : Type 1} → statement M
 fresh-spec =

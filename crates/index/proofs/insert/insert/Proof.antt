@@ -63,7 +63,8 @@ returns-2 c =
     let c4 = c2 .before .before in
     let a = c4 .before .before .before .before .before .before .before .before .before .before .before .args in
     let f = is-fit _ (c4 .fit-index .ensures) (c2 .enum-told .given .1) in
-    insert-damaged _ f (not-sound _ (tree-fits _ f) (c1 .sound .result) (c1 .sound .ensures) (c .match2 .keys2)) (a .hash) (a .key) (a .place)
+    insert-damaged _ f (not-sound _ (tree-fits _ f) (c1 .sound .result) (c1 .sound .ensures) (c .match2 .keys2)) (a .hash)
+    (a .key) (a .place)
 
 insert-sound-requires : tie.Need-insert-sound-requires
 insert-sound-requires c κs = search needs
@@ -92,7 +93,8 @@ returns-3 c =
     let c6 = c4 .before .before in
     let a = c6 .before .before .before .before .before .before .before .before .before .before .before .args in
     let f = is-fit _ (c6 .fit-index .ensures) (c4 .enum-told .given .1) in
-    insert-goes _ f (is-sound _ (tree-fits _ f) (c3 .sound .result) (c3 .sound .ensures) (c2 .enum-told3 .given .1)) (a .hash) (a .key) (a .place) (c1 .insert-sound .ensures)
+    insert-goes _ f (is-sound _ (tree-fits _ f) (c3 .sound .result) (c3 .sound .ensures) (c2 .enum-told3 .given .1)) (a .hash) (a .key)
+    (a .place) (c1 .insert-sound .ensures)
 
 pub insert-spec : {M : Type 1} → statement M
 insert-spec =

@@ -33,7 +33,8 @@ returns : tie.Need-returns
 returns c =
     let c1 = c .before in
     let a = c1 .before .before .before .before .before .before .before .before .before .before .before .args in
-    kept _ _ _ (settled (a .floor) _ (a .hash) (a .key) (a .place)) _ (not-at (c1 .ask .result) (c .match .keys2)) (c1 .ask .ensures (a .place))
+    kept _ _ _ (settled (a .floor) _ (a .hash) (a .key) (a .place)) _ (not-at (c1 .ask .result) (c .match .keys2))
+    (c1 .ask .ensures (a .place))
 
 grow-requires : tie.Need-grow-requires
 grow-requires c κs = search needs
@@ -63,7 +64,9 @@ returns-2 c =
     let c3 = c2 .before .before .before .before .before .before in
     let c4 = c3 .before .before in
     let a = c4 .before .before .before .before .before .before .before .before .before .before .before .args in
-    let d = done _ _ _ (settled (a .floor) _ (a .hash) (a .key) (a .place)) _ (ap insertedOf (sym (c3 .asked .given .1)) ∙ c4 .ask .ensures (a .place)) in
+    let d =
+    done _ _ _ (settled (a .floor) _ (a .hash) (a .key) (a .place)) _
+    (ap insertedOf (sym (c3 .asked .given .1)) ∙ c4 .ask .ensures (a .place)) in
     joined (a .floor) _ _ _ _
     (c2 .grow .ensures ∙ grown-is _ (names-most d) _ _ _ _ _ (count-below d))
     (c1 .append .ensures ∙ appended-is _ _ (lines-most d))

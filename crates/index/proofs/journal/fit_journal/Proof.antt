@@ -28,7 +28,12 @@ unfolding fitsJournal
 returns-2 c =
     let c1 = c .before in
     let c3 = c1 .before .before in
-    rw (← c3 .is-whole .ensures, not-false (c3 .is-whole .result) (c1 .before .if1 .left), ← c1 .capacity-of .ensures, ← c .length-of .ensures)
+    rw (
+      ← c3 .is-whole .ensures,
+      not-false (c3 .is-whole .result) (c1 .before .if1 .left),
+      ← c1 .capacity-of .ensures,
+      ← c .length-of .ensures,
+    )
 
 pub fit-journal-spec : {M : Type 1} → statement M
 fit-journal-spec =

@@ -23,8 +23,11 @@ same-length c = search needs
 returns : tie.Need-returns
 returns c =
     let c1 = c .before in
-    let c2 = c1 .before .before in
-    (place-absent _ _ _ _ (sought-not _ _ _ (c2 .word .ensures) (c1 .find-tree-node .result) (c1 .find-tree-node .ensures) (c .match .keys2)), tt)
+    let c2 = c1 .before .before in (
+      place-absent _ _ _ _
+          (sought-not _ _ _ (c2 .word .ensures) (c1 .find-tree-node .result) (c1 .find-tree-node .ensures) (c .match .keys2)),
+      tt,
+    )
 
 get-requires : tie.Need-get-requires
 get-requires c κs = search needs

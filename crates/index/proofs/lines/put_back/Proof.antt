@@ -32,8 +32,12 @@ returns c =
     let c1 = c .before in
     let c2 = c1 .before in
     let c3 = c2 .before .before .before in
-    let a = c3 .before .before .before .before .before .before .args in
-    (λ kind prehash prekey. put-full _ (lineMade kind (a .hash) (a .key) (a .place) prehash prekey) (a .x) (a .y) (sought-not _ _ _ (c3 .word .ensures) (c2 .find-tree-node .result) (c2 .find-tree-node .ensures) (c1 .match .keys2)) (c .if1 .taken), tt)
+    let a = c3 .before .before .before .before .before .before .args in (
+      λ kind prehash prekey. put-full _ (lineMade kind (a .hash) (a .key) (a .place) prehash prekey) (a .x) (a .y)
+          (sought-not _ _ _ (c3 .word .ensures) (c2 .find-tree-node .result) (c2 .find-tree-node .ensures) (c1 .match .keys2))
+          (c .if1 .taken),
+      tt,
+    )
 
 same-length-4 : tie.Need-same-length-4
 same-length-4 c = search needs
@@ -50,8 +54,12 @@ returns-2 c =
     let c2 = c1 .before in
     let c3 = c2 .before in
     let c4 = c3 .before .before .before in
-    let a = c4 .before .before .before .before .before .before .args in
-    (λ kind prehash prekey. put-wide _ (lineMade kind (a .hash) (a .key) (a .place) prehash prekey) (a .x) (a .y) (sought-not _ _ _ (c4 .word .ensures) (c3 .find-tree-node .result) (c3 .find-tree-node .ensures) (c2 .match .keys2)) (c1 .if1 .left) (c .if2 .taken), tt)
+    let a = c4 .before .before .before .before .before .before .args in (
+      λ kind prehash prekey. put-wide _ (lineMade kind (a .hash) (a .key) (a .place) prehash prekey) (a .x) (a .y)
+          (sought-not _ _ _ (c4 .word .ensures) (c3 .find-tree-node .result) (c3 .find-tree-node .ensures) (c2 .match .keys2))
+          (c1 .if1 .left) (c .if2 .taken),
+      tt,
+    )
 
 cast-grow : tie.Need-cast-grow
 cast-grow c = search needs
@@ -81,7 +89,9 @@ returns-3 c =
     let c10 = c9 .before .before .before in
     let c11 = c10 .before .before .before .before .before .before in
     let a = c11 .args in (
-      λ kind prehash prekey. put-done _ (lineMade kind (a .hash) (a .key) (a .place) prehash prekey) (a .x) (a .y) (sought-not _ _ _ (c10 .word .ensures) (c9 .find-tree-node .result) (c9 .find-tree-node .ensures) (c8 .match .keys2)) (c7 .if1 .left) (c6 .if2 .left)
+      λ kind prehash prekey. put-done _ (lineMade kind (a .hash) (a .key) (a .place) prehash prekey) (a .x) (a .y)
+          (sought-not _ _ _ (c10 .word .ensures) (c9 .find-tree-node .result) (c9 .find-tree-node .ensures) (c8 .match .keys2))
+          (c7 .if1 .left) (c6 .if2 .left)
           (c5 .grow .ensures ∙ grown-is _ (c11 .pre .0) _ _ _ _ _ (c11 .pre .1)),
       refl,
     )
@@ -99,8 +109,11 @@ returns-4 : tie.Need-returns-4
 returns-4 c =
     let c2 = c .before .before in
     let c3 = c2 .before .before .before in
-    let a = c3 .before .before .before .before .before .before .args in
-    (λ kind prehash prekey. put-there _ (lineMade kind (a .hash) (a .key) (a .place) prehash prekey) (a .x) (a .y) (sought-at _ _ _ (c3 .word .ensures) (c2 .find-tree-node .result) (c2 .find-tree-node .ensures) (c .enum-told .given .1)), tt)
+    let a = c3 .before .before .before .before .before .before .args in (
+      λ kind prehash prekey. put-there _ (lineMade kind (a .hash) (a .key) (a .place) prehash prekey) (a .x) (a .y)
+          (sought-at _ _ _ (c3 .word .ensures) (c2 .find-tree-node .result) (c2 .find-tree-node .ensures) (c .enum-told .given .1)),
+      tt,
+    )
 
 pub put-back-spec : {M : Type 1} → statement M
 put-back-spec =

@@ -32,8 +32,11 @@ same-length-3 c = search needs
 returns : tie.Need-returns
 returns c =
     let c1 = c .before in
-    let c2 = c1 .before .before .before in
-    (λ kind. behind-none _ _ _ _ _ _ (sought-not _ _ _ (c2 .word .ensures) (c1 .find-tree-node .result) (c1 .find-tree-node .ensures) (c .match .keys2)), tt)
+    let c2 = c1 .before .before .before in (
+      λ kind. behind-none _ _ _ _ _ _
+          (sought-not _ _ _ (c2 .word .ensures) (c1 .find-tree-node .result) (c1 .find-tree-node .ensures) (c .match .keys2)),
+      tt,
+    )
 
 put-back-requires : tie.Need-put-back-requires
 put-back-requires c κs = search needs

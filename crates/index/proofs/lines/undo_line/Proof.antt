@@ -50,7 +50,9 @@ returns c =
           (c3 .line-word4 .ensures)
           (c2 .if1 .taken)
           (c1 .take-back .ensures .0),
-      frees-own (lentTree (now (a .names)) (now (a .cells)) (now (a .head)) (now (a .sizes))) (now (a .lines)) (a .k) (c6 .line-word .ensures) (c5 .line-word2 .ensures) (c4 .line-word3 .ensures) (c1 .take-back .result) (c2 .if1 .taken) (c1 .take-back .ensures .1),
+      frees-own (lentTree (now (a .names)) (now (a .cells)) (now (a .head)) (now (a .sizes))) (now (a .lines)) (a .k)
+          (c6 .line-word .ensures) (c5 .line-word2 .ensures) (c4 .line-word3 .ensures) (c1 .take-back .result) (c2 .if1 .taken)
+          (c1 .take-back .ensures .1),
     )
 
 put-back-requires : tie.Need-put-back-requires
@@ -86,7 +88,9 @@ returns-2 c =
           (c3 .if1 .left)
           (c2 .if2 .taken)
           (c1 .put-back .ensures .0),
-      frees-none (lentTree (now (a .names)) (now (a .cells)) (now (a .head)) (now (a .sizes))) (now (a .lines)) (a .k) (c7 .line-word .ensures) (c6 .line-word2 .ensures) (c5 .line-word3 .ensures) (c1 .put-back .result) (c3 .if1 .left) (c1 .put-back .ensures .1),
+      frees-none (lentTree (now (a .names)) (now (a .cells)) (now (a .head)) (now (a .sizes))) (now (a .lines)) (a .k)
+          (c7 .line-word .ensures) (c6 .line-word2 .ensures) (c5 .line-word3 .ensures) (c1 .put-back .result) (c3 .if1 .left)
+          (c1 .put-back .ensures .1),
     )
 
 line-word-requires-5 : tie.Need-line-word-requires-5
@@ -134,7 +138,9 @@ returns-3 c =
           (c3 .line-word5 .ensures)
           (c2 .line-word6 .ensures)
           (c1 .put-behind .ensures .0),
-      frees-none (lentTree (now (a .names)) (now (a .cells)) (now (a .head)) (now (a .sizes))) (now (a .lines)) (a .k) (c10 .line-word .ensures) (c9 .line-word2 .ensures) (c8 .line-word3 .ensures) (c1 .put-behind .result) (c6 .if1 .left) (c1 .put-behind .ensures .1),
+      frees-none (lentTree (now (a .names)) (now (a .cells)) (now (a .head)) (now (a .sizes))) (now (a .lines)) (a .k)
+          (c10 .line-word .ensures) (c9 .line-word2 .ensures) (c8 .line-word3 .ensures) (c1 .put-behind .result) (c6 .if1 .left)
+          (c1 .put-behind .ensures .1),
     )
 
 place-back-requires : tie.Need-place-back-requires
@@ -174,7 +180,9 @@ returns-4 c =
           (c3 .if3 .left)
           (c2 .if4 .taken)
           (c1 .place-back .ensures .0),
-      frees-none (lentTree (now (a .names)) (now (a .cells)) (now (a .head)) (now (a .sizes))) (now (a .lines)) (a .k) (c9 .line-word .ensures) (c8 .line-word2 .ensures) (c7 .line-word3 .ensures) (c1 .place-back .result) (c5 .if1 .left) (c1 .place-back .ensures .1),
+      frees-none (lentTree (now (a .names)) (now (a .cells)) (now (a .head)) (now (a .sizes))) (now (a .lines)) (a .k)
+          (c9 .line-word .ensures) (c8 .line-word2 .ensures) (c7 .line-word3 .ensures) (c1 .place-back .result) (c5 .if1 .left)
+          (c1 .place-back .ensures .1),
     )
 
 returns-5 : tie.Need-returns-5

@@ -53,7 +53,8 @@ loop-again c =
     let c9 = c8 .before .before .before .before .before in
     let c10 = c9 .before .before in
     let c11 = c10 .before in
-    turn-on (c11 .loop .inv) (c9 .lowest-free .ensures) (c10 .loop-test .taken) (c8 .undo-line .ensures .0) (c8 .undo-line .ensures .1) (c2 .undone .given .1)
+    turn-on (c11 .loop .inv) (c9 .lowest-free .ensures) (c10 .loop-test .taken) (c8 .undo-line .ensures .0) (c8 .undo-line .ensures .1)
+    (c2 .undone .given .1)
     (c .lesser .ensures)
     (c8 .undo-line .kept .0)
     (c8 .undo-line .kept .1 .0)

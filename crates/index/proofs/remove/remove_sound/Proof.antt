@@ -1,4 +1,5 @@
--- A refusal leaves all as it is; else the slot goes and the journal takes a line with its place and what stood before it, as the model says.
+-- A refusal leaves all as it is; else the slot goes and the journal takes a line with its place and what stood before it,
+-- as the model says.
 use mathlib.Core.Path.{sym, ap, _∙_}
 use Rattle.index.proofs.Room.{shrunk-is, appended-is}
 use Rattle.index.specs.Calls.{removedOf}

@@ -45,7 +45,8 @@ returns-2 c =
     let c4 = c2 .before .before in
     let a = c4 .before .before .before .before .before .before .before .before .args in
     let f = is-fit _ (c4 .fit-index .ensures) (c2 .enum-told .given .1) in
-    replace-damaged _ f (not-sound _ (tree-fits _ f) (c1 .sound .result) (c1 .sound .ensures) (c .match2 .keys2)) (a .hash) (a .key) (a .place)
+    replace-damaged _ f (not-sound _ (tree-fits _ f) (c1 .sound .result) (c1 .sound .ensures) (c .match2 .keys2)) (a .hash)
+    (a .key) (a .place)
 
 replace-sound-requires : tie.Need-replace-sound-requires
 replace-sound-requires c κs = search needs
@@ -65,7 +66,8 @@ returns-3 c =
     let c6 = c4 .before .before in
     let a = c6 .before .before .before .before .before .before .before .before .args in
     let f = is-fit _ (c6 .fit-index .ensures) (c4 .enum-told .given .1) in
-    replace-goes _ f (is-sound _ (tree-fits _ f) (c3 .sound .result) (c3 .sound .ensures) (c2 .enum-told3 .given .1)) (a .hash) (a .key) (a .place) (c1 .replace-sound .ensures)
+    replace-goes _ f (is-sound _ (tree-fits _ f) (c3 .sound .result) (c3 .sound .ensures) (c2 .enum-told3 .given .1)) (a .hash) (a .key)
+    (a .place) (c1 .replace-sound .ensures)
 
 pub replace-spec : {M : Type 1} → statement M
 replace-spec =

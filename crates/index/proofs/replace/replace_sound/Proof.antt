@@ -53,7 +53,8 @@ returns-2 c =
     let c5 = c4 .before .before .before in
     let c6 = c5 .before .before in
     let a = c6 .before .before .before .before .before .before .before .before .args in
-    let d = done _ _ _ (settled _ (a .hash) (a .key) (a .place)) _ (ap replacedOf (sym (c5 .asked .given .1)) ∙ c6 .ask .ensures (a .place)) in
+    let d =
+    done _ _ _ (settled _ (a .hash) (a .key) (a .place)) _ (ap replacedOf (sym (c5 .asked .given .1)) ∙ c6 .ask .ensures (a .place)) in
     moved _ _ _ _
     (c4 .get .ensures)
     (c3 .put .ensures)

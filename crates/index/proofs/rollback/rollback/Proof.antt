@@ -92,7 +92,8 @@ returns-3 c =
     let c6 = c4 .before .before in
     let a = c6 .before .before .before .before .before .before .before .before .before .before .before .args in
     let f = is-fit _ (c6 .fit-index .ensures) (c4 .enum-told .given .1) in
-    rollback-goes _ f (is-sound _ (tree-fits _ f) (c3 .sound .result) (c3 .sound .ensures) (c2 .enum-told3 .given .1)) (a .mark) (c1 .rollback-sound .ensures)
+    rollback-goes _ f (is-sound _ (tree-fits _ f) (c3 .sound .result) (c3 .sound .ensures) (c2 .enum-told3 .given .1)) (a .mark)
+    (c1 .rollback-sound .ensures)
 
 pub rollback-spec : {M : Type 1} → statement M
 rollback-spec =

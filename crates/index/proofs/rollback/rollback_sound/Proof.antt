@@ -2,7 +2,8 @@
 use mathlib.Core.Path.{sym, ap, _∙_}
 use Rattle.index.specs.Rolls.{rolledOf}
 use Rattle.index.proofs.Undoing.{undo-done, undo-not}
-use Rattle.index.proofs.Rolling.{kept, opening, names-most, cells-most, head-three, sizes-most, count-room, misfits, rolled, not-lines}
+use Rattle.index.proofs.Rolling.{kept, opening, names-most, cells-most, head-three, sizes-most, count-room, misfits, rolled}
+use Rattle.index.proofs.Rolling.{not-lines}
 use borrow.Author.Needs.{needs}
 use Rattle.index.proofs.rollback.rollback_sound.Statement.{statement}
 use Rattle.index.proofs.rollback.rollback_sound.Tie as tie

@@ -34,7 +34,9 @@ word-requires-3 c κs = search needs
 
 unroll-requires : tie.Need-unroll-requires
 unroll-requires c κs =
-    let c1 = c .before .before .before .before .before .before .before .before .before .before .before .before .before .before .before .before .before .before .before .before .before .before .before .before .before .before .before in
+    let c1 =
+    c .before .before .before .before .before .before .before .before .before .before .before .before .before .before .before .before
+    .before .before .before .before .before .before .before .before .before .before .before in
     (c1 .pre .0, c1 .pre .1 .1 .1 .1)
 
 enum-told : tie.Need-enum-told
@@ -49,7 +51,9 @@ slice-aggregate-copy-names-2 c = search needs
 copy-names-requires-2 : tie.Need-copy-names-requires-2
 copy-names-requires-2 c κs =
     let c1 = c .before .before .before .before .before .before .before .before .before .before .before .before in
-    let c2 = c1 .before .before .before .before .before .before .before .before .before .before .before .before .before .before .before .before .before .before .before .before in
+    let c2 =
+    c1 .before .before .before .before .before .before .before .before .before .before .before .before .before .before .before .before
+    .before .before .before .before in
     let c3 = c2 .before .before .before .before .before .before .before .before in
     omega (arith, c1 .unroll .kept .0, c2 .copy-names .kept .1 .0, c3 .pre .0)
 
@@ -58,8 +62,11 @@ slice-aggregate-copy-cells-3 c = search needs
 
 copy-cells-requires-3 : tie.Need-copy-cells-requires-3
 copy-cells-requires-3 c κs =
-    let c1 = c .before .before .before .before .before .before .before .before .before .before .before .before .before .before .before .before .before in
-    let c2 = c1 .before .before .before .before .before .before .before .before .before .before .before .before .before .before .before .before in
+    let c1 =
+    c .before .before .before .before .before .before .before .before .before .before .before .before .before .before .before
+    .before .before in
+    let c2 =
+    c1 .before .before .before .before .before .before .before .before .before .before .before .before .before .before .before .before in
     let c3 = c2 .before .before .before .before .before .before .before .before .before .before .before .before in
     omega (arith, c1 .unroll .kept .1 .0, c2 .copy-cells .kept .1 .0, c3 .pre .1 .0)
 
@@ -68,9 +75,12 @@ slice-aggregate-copy-cells-4 c = search needs
 
 copy-cells-requires-4 : tie.Need-copy-cells-requires-4
 copy-cells-requires-4 c κs =
-    let c1 = c .before .before .before .before .before .before .before .before .before .before .before .before .before .before .before .before .before .before .before .before .before .before in
+    let c1 =
+    c .before .before .before .before .before .before .before .before .before .before .before .before .before .before .before .before
+    .before .before .before .before .before .before in
     let c2 = c1 .before .before .before .before .before .before .before .before .before .before .before .before in
-    let c3 = c2 .before .before .before .before .before .before .before .before .before .before .before .before .before .before .before .before in
+    let c3 =
+    c2 .before .before .before .before .before .before .before .before .before .before .before .before .before .before .before .before in
     omega (arith, c1 .unroll .kept .1 .1 .1 .0, c2 .copy-cells2 .kept .1 .0, c3 .pre .1 .1 .1 .0)
 
 head-put-requires : tie.Need-head-put-requires
@@ -105,10 +115,14 @@ returns c =
     let c13 = c12 .before .before .before .before .before .before .before .before in (
       undo-not _ (c6 .unroll .ensures) (c5 .enum-told2 .given .1),
       λ _. tree-back
-          (words-back (c12 .copy-names .last .1 .0) (c6 .unroll .last .0) (c12 .copy-names .ensures) (c6 .unroll .kept .0) (c4 .copy-names2 .ensures) (c4 .copy-names2 .kept .1 .0))
-          (words-back (c11 .copy-cells .last .1 .0) (c6 .unroll .last .1 .0) (c11 .copy-cells .ensures) (c6 .unroll .kept .1 .0) (c3 .copy-cells3 .ensures) (c3 .copy-cells3 .kept .1 .0))
-          (head-back (c6 .unroll .last .1 .1 .0) (c13 .pre .1 .1 .0) (c6 .unroll .kept .1 .1 .0) (c9 .word .ensures) (c8 .word2 .ensures) (c7 .word3 .ensures) (c1 .head-put .ensures))
-          (words-back (c10 .copy-cells2 .last .1 .0) (c6 .unroll .last .1 .1 .1 .0) (c10 .copy-cells2 .ensures) (c6 .unroll .kept .1 .1 .1 .0) (c2 .copy-cells4 .ensures) (c2 .copy-cells4 .kept .1 .0)),
+          (words-back (c12 .copy-names .last .1 .0) (c6 .unroll .last .0) (c12 .copy-names .ensures) (c6 .unroll .kept .0)
+          (c4 .copy-names2 .ensures) (c4 .copy-names2 .kept .1 .0))
+          (words-back (c11 .copy-cells .last .1 .0) (c6 .unroll .last .1 .0) (c11 .copy-cells .ensures) (c6 .unroll .kept .1 .0)
+          (c3 .copy-cells3 .ensures) (c3 .copy-cells3 .kept .1 .0))
+          (head-back (c6 .unroll .last .1 .1 .0) (c13 .pre .1 .1 .0) (c6 .unroll .kept .1 .1 .0) (c9 .word .ensures) (c8 .word2 .ensures)
+          (c7 .word3 .ensures) (c1 .head-put .ensures))
+          (words-back (c10 .copy-cells2 .last .1 .0) (c6 .unroll .last .1 .1 .1 .0) (c10 .copy-cells2 .ensures)
+          (c6 .unroll .kept .1 .1 .1 .0) (c2 .copy-cells4 .ensures) (c2 .copy-cells4 .kept .1 .0)),
     )
 
 same-length-5 : tie.Need-same-length-5

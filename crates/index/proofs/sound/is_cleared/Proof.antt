@@ -45,7 +45,8 @@ read v e h = e ∙ ap (λ (k : ℕ). eqb k v) h
 -- What is asked of the slot is what the last `&&` is asked.
 asked : (c : tie.Joined6) {s : Bool}
     → let a = c .before .before .before .before .before .before .before .before .before .args in
-    s ≡ c .if6 .if7 and eqb (cell (now (a .cells)) (a .i) next) null → s ≡ isCleared (lentTree (now (a .names)) (now (a .cells)) [] []) (a .i)
+    s ≡ c .if6 .if7 and eqb (cell (now (a .cells)) (a .i) next) null
+    → s ≡ isCleared (lentTree (now (a .names)) (now (a .cells)) [] []) (a .i)
 unfolding isCleared
 asked c e =
     let c5 = c .before in

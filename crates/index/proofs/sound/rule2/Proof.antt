@@ -26,7 +26,14 @@ returns c =
     let c2 = c1 .before in
     let c3 = c2 .before in
     let c4 = c3 .before in
-    rw (← c4 .before .word .ensures, ← c4 .word2 .ensures, ← c3 .null-if-none .ensures, c2 .if1 .taken, ← c1 .word3 .ensures, ← c .null-if-none2 .ensures)
+    rw (
+      ← c4 .before .word .ensures,
+      ← c4 .word2 .ensures,
+      ← c3 .null-if-none .ensures,
+      c2 .if1 .taken,
+      ← c1 .word3 .ensures,
+      ← c .null-if-none2 .ensures,
+    )
 
 returns-2 : tie.Need-returns-2
 unfolding rule2

@@ -42,7 +42,13 @@ returns-2 c sizes =
     let c3 = c2 .before in
     let c4 = c3 .before in
     let c5 = c4 .before in
-    rw (← c5 .word .ensures, ← c4 .not-free .ensures, not-false (c4 .not-free .result) (c3 .if1 .left), ← c2 .chain .ensures, c .enum-told .given .1)
+    rw (
+      ← c5 .word .ensures,
+      ← c4 .not-free .ensures,
+      not-false (c4 .not-free .result) (c3 .if1 .left),
+      ← c2 .chain .ensures,
+      c .enum-told .given .1,
+    )
 
 word-requires-2 : tie.Need-word-requires-2
 word-requires-2 c κs = search needs
@@ -73,7 +79,14 @@ returns-3 c sizes =
     let c4 = c2 .before .before in
     let c5 = c4 .before in
     let c6 = c5 .before in
-    rw (← c6 .before .word .ensures, ← c6 .not-free .ensures, not-false (c6 .not-free .result) (c5 .if1 .left), ← c4 .chain .ensures, c2 .walk .given .1, ← c .word2 .ensures)
+    rw (
+      ← c6 .before .word .ensures,
+      ← c6 .not-free .ensures,
+      not-false (c6 .not-free .result) (c5 .if1 .left),
+      ← c4 .chain .ensures,
+      c2 .walk .given .1,
+      ← c .word2 .ensures,
+    )
 
 pub rule7-spec : {M : Type 1} → statement M
 rule7-spec =

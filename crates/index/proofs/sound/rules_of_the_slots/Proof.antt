@@ -45,7 +45,8 @@ used-slots-requires c κs = search needs
 asked : (c : tie.Joined2) (x : Bool) {s : Bool} → s ≡ c .if2 .if3 and x
     → let a = c .before .before .before .before .before .before .before .args in
     let n = length (now (a .names)) / 2 in
-    s ≡ c .before .before .sized-slots-fine .result and inRange n (getD (now (a .head)) 0 null) and inRange n (getD (now (a .head)) 1 null) and x
+    s ≡ c .before .before .sized-slots-fine .result and inRange n (getD (now (a .head)) 0 null)
+    and inRange n (getD (now (a .head)) 1 null) and x
 asked c x e =
     let a = c .before .before .before .before .before .before .before .args in
     let n = length (now (a .names)) / 2 in

@@ -25,7 +25,8 @@ returns c =
     let at-size = c .before .before in
     let at-root = at-size .before in
     let a = at-root .before .before .before .before .before .args in
-    no-size (lentTree (now (a .names)) (now (a .cells)) (now (a .head)) (now (a .sizes))) (at-root .word .ensures) (ap sizeOf (sym (c .enum-told .given .1)) ∙ at-size .tree-size .ensures)
+    no-size (lentTree (now (a .names)) (now (a .cells)) (now (a .head)) (now (a .sizes))) (at-root .word .ensures)
+    (ap sizeOf (sym (c .enum-told .given .1)) ∙ at-size .tree-size .ensures)
 
 word-requires-2 : tie.Need-word-requires-2
 word-requires-2 c κs = search needs

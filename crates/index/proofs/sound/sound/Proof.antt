@@ -29,7 +29,12 @@ returns-2 c =
     let c1 = c .before in
     let c2 = c1 .before in
     let c3 = c2 .before in
-    rw (← c3 .fit .ensures, not-false (c3 .fit .result) (c2 .if1 .left), ← c1 .is-sound .ensures, not-true (c1 .is-sound .result) (c .if2 .taken))
+    rw (
+      ← c3 .fit .ensures,
+      not-false (c3 .fit .result) (c2 .if1 .left),
+      ← c1 .is-sound .ensures,
+      not-true (c1 .is-sound .result) (c .if2 .taken),
+    )
 
 returns-3 : tie.Need-returns-3
 unfolding sounds
@@ -37,7 +42,12 @@ returns-3 c =
     let c1 = c .before in
     let c2 = c1 .before in
     let c3 = c2 .before in
-    rw (← c3 .fit .ensures, not-false (c3 .fit .result) (c2 .if1 .left), ← c1 .is-sound .ensures, not-false (c1 .is-sound .result) (c .if2 .left))
+    rw (
+      ← c3 .fit .ensures,
+      not-false (c3 .fit .result) (c2 .if1 .left),
+      ← c1 .is-sound .ensures,
+      not-false (c1 .is-sound .result) (c .if2 .left),
+    )
 
 pub sound-spec : {M : Type 1} → statement M
 sound-spec = tie.close (tie.spec fit-requires returns is-sound-requires returns-2 returns-3)

@@ -32,7 +32,8 @@ returns c =
     let c3 = c2 .before in
     let c4 = c3 .before in
     let a = c4 .before .before .before .args in
-    ended (descent (now (a .names)) (now (a .cells)) (a .hash) (a .key)) (c4 .loop .inv .0) (c3 .loop-test .taken) (c2 .side-for .ensures) (c1 .get .ensures) (c .if1 .taken)
+    ended (descent (now (a .names)) (now (a .cells)) (a .hash) (a .key)) (c4 .loop .inv .0) (c3 .loop-test .taken) (c2 .side-for .ensures)
+    (c1 .get .ensures) (c .if1 .taken)
 
 sub-rest : tie.Need-sub-rest Inv-loop μ-loop
 sub-rest c = search needs
@@ -47,7 +48,8 @@ loop-again c =
     let c3 = c2 .before in
     let c4 = c3 .before in
     let a = c4 .before .before .before .args in (
-      down (descent (now (a .names)) (now (a .cells)) (a .hash) (a .key)) (c4 .loop .inv .0) (c3 .loop-test .taken) (c2 .side-for .ensures) (c1 .get .ensures) (c .if1 .left),
+      down (descent (now (a .names)) (now (a .cells)) (a .hash) (a .key)) (c4 .loop .inv .0) (c3 .loop-test .taken) (c2 .side-for .ensures)
+          (c1 .get .ensures) (c .if1 .left),
       search needs,
     )
 

@@ -13,10 +13,12 @@ comes-before-requires : tie.Need-comes-before-requires
 comes-before-requires c κs = search needs
 
 returns : tie.Need-returns
-returns c = rw (← c .before .before .before .name .ensures, ← c .before .before .name2 .ensures, ← c .before .comes-before .ensures, c .if1 .taken)
+returns c =
+    rw (← c .before .before .before .name .ensures, ← c .before .before .name2 .ensures, ← c .before .comes-before .ensures, c .if1 .taken)
 
 returns-2 : tie.Need-returns-2
-returns-2 c = rw (← c .before .before .before .name .ensures, ← c .before .before .name2 .ensures, ← c .before .comes-before .ensures, c .if1 .left)
+returns-2 c =
+    rw (← c .before .before .before .name .ensures, ← c .before .before .name2 .ensures, ← c .before .comes-before .ensures, c .if1 .left)
 
 pub side-for-spec : {M : Type 1} → statement M
 side-for-spec =

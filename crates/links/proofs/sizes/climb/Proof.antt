@@ -27,7 +27,8 @@ returns c =
     let c1 = c .before in
     let c2 = c1 .before in
     let a = c2 .before .before .before .args in
-    topped (now (a .cells)) (a .d) (c2 .loop .rest) (c2 .loop .at) (c2 .loop .sizes) (c2 .loop .inv .0) (c1 .loop-test .taken) (c .if1 .taken)
+    topped (now (a .cells)) (a .d) (c2 .loop .rest) (c2 .loop .at) (c2 .loop .sizes) (c2 .loop .inv .0) (c1 .loop-test .taken)
+    (c .if1 .taken)
 
 cast-word : tie.Need-cast-word Inv-loop μ-loop
 cast-word c = search needs
@@ -62,7 +63,8 @@ loop-again c =
     let c5 = c4 .before in
     let c6 = c5 .before in
     let a = c6 .before .before .before .args in (
-      upward (now (a .cells)) (a .d) (c6 .loop .rest) (c6 .loop .at) (c6 .loop .sizes) (c6 .loop .inv .0) (c5 .loop-test .taken) (c4 .if1 .left) (c3 .word .ensures) (c2 .add .ensures) (c1 .put-word .ensures) (c .get .ensures),
+      upward (now (a .cells)) (a .d) (c6 .loop .rest) (c6 .loop .at) (c6 .loop .sizes) (c6 .loop .inv .0) (c5 .loop-test .taken)
+          (c4 .if1 .left) (c3 .word .ensures) (c2 .add .ensures) (c1 .put-word .ensures) (c .get .ensures),
       search needs,
       search needs,
     )

@@ -31,7 +31,8 @@ returns c =
     let c2 = c1 .before in
     let c3 = c2 .before in
     let a = c3 .before .before .args in
-    λ root sizes. ended (leftward (lentLinks (now (a .cells)) root sizes)) (c3 .loop .inv .0 root sizes) (c2 .loop-test .taken) refl (c1 .get .ensures) (c .if1 .taken)
+    λ root sizes. ended (leftward (lentLinks (now (a .cells)) root sizes)) (c3 .loop .inv .0 root sizes) (c2 .loop-test .taken) refl
+    (c1 .get .ensures) (c .if1 .taken)
 
 sub-rest : tie.Need-sub-rest Inv-loop μ-loop
 sub-rest c = search needs
@@ -45,7 +46,8 @@ loop-again c =
     let c2 = c1 .before in
     let c3 = c2 .before in
     let a = c3 .before .before .args in (
-      λ root sizes. down (leftward (lentLinks (now (a .cells)) root sizes)) (c3 .loop .inv .0 root sizes) (c2 .loop-test .taken) refl (c1 .get .ensures) (c .if1 .left),
+      λ root sizes. down (leftward (lentLinks (now (a .cells)) root sizes)) (c3 .loop .inv .0 root sizes) (c2 .loop-test .taken) refl
+          (c1 .get .ensures) (c .if1 .left),
       search needs,
     )
 

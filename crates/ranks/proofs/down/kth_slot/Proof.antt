@@ -12,7 +12,8 @@ use Rattle.slots.proofs.get.Reads as get-reads
 use Rattle.slots.proofs.word.Reads as word-reads
 
 abbrev Inv-loop : tie.InvT-loop
-Inv-loop cells sizes root k steps i₀ rest₀ left₀ i rest left = (kthFrom left cells sizes i rest ≡ kthFrom steps cells sizes root k) × (left ≤ steps)
+Inv-loop cells sizes root k steps i₀ rest₀ left₀ i rest left =
+    (kthFrom left cells sizes i rest ≡ kthFrom steps cells sizes root k) × (left ≤ steps)
 
 abbrev μ-loop : tie.MeasureT-loop
 μ-loop cells sizes root k steps i₀ rest₀ left₀ i rest left = left
@@ -67,8 +68,11 @@ loop-again-2 c =
     let c3 = c2 .before in
     let c4 = c3 .before in
     let c5 = c4 .before in
-    let c6 = c5 .before in
-    (kth-right _ _ _ _ (c4 .get .ensures) (c3 .word .ensures) _ (c5 .loop-test .taken) (c1 .if2 .left) (c2 .if1 .left) (c .get2 .ensures) ∙ c6 .loop .inv .0, search needs)
+    let c6 = c5 .before in (
+      kth-right _ _ _ _ (c4 .get .ensures) (c3 .word .ensures) _ (c5 .loop-test .taken) (c1 .if2 .left) (c2 .if1 .left) (c .get2 .ensures)
+          ∙ c6 .loop .inv .0,
+      search needs,
+    )
 
 returns-2 : tie.Need-returns-2 Inv-loop μ-loop
 returns-2 c = kth-end _ _ _ _ _ (c .loop-test .left) ∙ c .before .loop .inv .0

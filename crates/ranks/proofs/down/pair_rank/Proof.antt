@@ -16,7 +16,8 @@ use Rattle.slots.proofs.name.Reads as name-reads
 use Rattle.slots.proofs.word.Reads as word-reads
 
 abbrev Inv-loop : tie.InvT-loop
-Inv-loop names cells sizes root hash key steps i₀ m₀ left₀ i m left = (rankFrom left names cells sizes i hash key m ≡ rankFrom steps names cells sizes root hash key 0) × (left ≤ steps)
+Inv-loop names cells sizes root hash key steps i₀ m₀ left₀ i m left =
+    (rankFrom left names cells sizes i hash key m ≡ rankFrom steps names cells sizes root hash key 0) × (left ≤ steps)
 
 abbrev μ-loop : tie.MeasureT-loop
 μ-loop names cells sizes root hash key steps i₀ m₀ left₀ i m left = left
@@ -54,8 +55,12 @@ loop-again c =
     let c3 = c2 .before in
     let c4 = c3 .before in
     let c5 = c4 .before in
-    let c6 = c5 .before in
-    (rank-left _ _ _ _ _ _ _ _ (c6 .loop-test .taken) (c5 .if1 .left) (c4 .name .ensures) (c3 .name2 .ensures) (c2 .get .ensures) (c1 .comes-before .ensures) (c .if2 .taken) ∙ c6 .before .loop .inv .0, search needs)
+    let c6 = c5 .before in (
+      rank-left _ _ _ _ _ _ _ _ (c6 .loop-test .taken) (c5 .if1 .left) (c4 .name .ensures) (c3 .name2 .ensures) (c2 .get .ensures)
+          (c1 .comes-before .ensures) (c .if2 .taken)
+          ∙ c6 .before .loop .inv .0,
+      search needs,
+    )
 
 cast-word : tie.Need-cast-word Inv-loop μ-loop
 cast-word c = search needs
@@ -81,7 +86,8 @@ returns-2 c =
     let c8 = c7 .before in
     let c9 = c8 .before in
     let c10 = c9 .before in
-    rank-here _ _ _ _ _ _ _ _ (c10 .loop-test .taken) (c9 .if1 .left) (c8 .name .ensures) (c7 .name2 .ensures) (c6 .get .ensures) (c5 .comes-before .ensures) (c3 .word .ensures) (c2 .comes-before2 .ensures)
+    rank-here _ _ _ _ _ _ _ _ (c10 .loop-test .taken) (c9 .if1 .left) (c8 .name .ensures) (c7 .name2 .ensures) (c6 .get .ensures)
+    (c5 .comes-before .ensures) (c3 .word .ensures) (c2 .comes-before2 .ensures)
     (c4 .if2 .left) (not-true (c2 .comes-before2 .result) (c1 .if3 .taken)) (c .add .ensures)
     ∙ c10 .before .loop .inv .0
 
@@ -111,7 +117,8 @@ loop-again-2 c =
     let c10 = c9 .before in
     let c11 = c10 .before in
     let c12 = c11 .before in (
-      rank-right _ _ _ _ _ _ _ _ (c12 .loop-test .taken) (c11 .if1 .left) (c10 .name .ensures) (c9 .name2 .ensures) (c8 .get .ensures) (c7 .comes-before .ensures) (c5 .word .ensures) (c4 .comes-before2 .ensures)
+      rank-right _ _ _ _ _ _ _ _ (c12 .loop-test .taken) (c11 .if1 .left) (c10 .name .ensures) (c9 .name2 .ensures) (c8 .get .ensures)
+          (c7 .comes-before .ensures) (c5 .word .ensures) (c4 .comes-before2 .ensures)
           (c6 .if2 .left) (not-false (c4 .comes-before2 .result) (c3 .if3 .left)) (c2 .add2 .ensures) (c1 .add3 .ensures) (c .get2 .ensures)
           ∙ c12 .before .loop .inv .0,
       search needs,

@@ -57,7 +57,8 @@ returns-4 c =
     let c3 = c2 .before in
     let c4 = c3 .before in
     let c6 = c4 .before .before in
-    kth-at _ _ (ap soundOf (sym (c4 .enum-told3 .given .1)) ∙ c6 .sound .ensures) (c3 .word .ensures) (c2 .if1 .left) (c1 .word2 .ensures) (c .kth-slot .ensures)
+    kth-at _ _ (ap soundOf (sym (c4 .enum-told3 .given .1)) ∙ c6 .sound .ensures) (c3 .word .ensures) (c2 .if1 .left) (c1 .word2 .ensures)
+    (c .kth-slot .ensures)
 
 pub kth-spec : {M : Type 1} → statement M
 kth-spec =

@@ -55,7 +55,8 @@ returns-3 c =
     let c4 = c3 .before in
     let c5 = c4 .before in
     let c7 = c5 .before .before in
-    position-done _ _ _ (ap soundOf (sym (c5 .enum-told3 .given .1)) ∙ c7 .sound .ensures) (c4 .word .ensures) (ap rankOf (sym (c1 .rank .given .1)) ∙ c3 .pair-rank .ensures)
+    position-done _ _ _ (ap soundOf (sym (c5 .enum-told3 .given .1)) ∙ c7 .sound .ensures) (c4 .word .ensures)
+    (ap rankOf (sym (c1 .rank .given .1)) ∙ c3 .pair-rank .ensures)
 
 returns-4 : tie.Need-returns-4
 returns-4 c =
@@ -63,7 +64,8 @@ returns-4 c =
     let c3 = c2 .before in
     let c4 = c3 .before in
     let c6 = c4 .before .before in
-    position-done _ _ _ (ap soundOf (sym (c4 .enum-told3 .given .1)) ∙ c6 .sound .ensures) (c3 .word .ensures) (ap rankOf (sym (c .enum-told4 .given .1)) ∙ c2 .pair-rank .ensures)
+    position-done _ _ _ (ap soundOf (sym (c4 .enum-told3 .given .1)) ∙ c6 .sound .ensures) (c3 .word .ensures)
+    (ap rankOf (sym (c .enum-told4 .given .1)) ∙ c2 .pair-rank .ensures)
 
 pub position-spec : {M : Type 1} → statement M
 position-spec =

@@ -85,7 +85,10 @@ returns-4 c =
     let c3 = c2 .before .before in
     let c4 = c3 .before .before in
     let c5 = c4 .before .before .before .before .before .before .before .before in
-    record { same = came-entry _ _ _ (c4 .if1 .left) (c3 .if2 .left) (c2 .if3 .left) (c1 .if4 .taken) (c .take-entry .ensures); ready = c5 .pre .1 }
+    record {
+      same = came-entry _ _ _ (c4 .if1 .left) (c3 .if2 .left) (c2 .if3 .left) (c1 .if4 .taken) (c .take-entry .ensures);
+      ready = c5 .pre .1;
+    }
 
 take-last-requires : tie.Need-take-last-requires
 take-last-requires c κs =

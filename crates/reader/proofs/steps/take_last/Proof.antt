@@ -86,7 +86,8 @@ returns c =
     let c3 = c2 .before .before .before .before .before .before .before .before .before .before .before .before in
     let c4 = c3 .before .before .before .before .before .before .before .before in
     let d = c3 .enter .ensures .denied (not-true (c3 .enter .result .checked) (c1 .if1 .taken)) in
-    step-down (last-denied _ _ _ (c4 .name-byte .ensures) (c3 .enter .ensures .same) (d .0) (d .1) (c2 .of-inserted .ensures) (c .noting .ensures))
+    step-down (last-denied _ _ _ (c4 .name-byte .ensures) (c3 .enter .ensures .same) (d .0) (d .1) (c2 .of-inserted .ensures)
+    (c .noting .ensures))
 
 turn-down-requires : tie.Need-turn-down-requires
 turn-down-requires c κs =
@@ -117,25 +118,32 @@ returns-2 c =
     let c4 = c3 .before .before .before .before .before .before .before .before .before .before .before in
     let c5 = c4 .before .before .before .before .before .before .before .before in
     step-down
-    (last-refused _ _ _ (c5 .name-byte .ensures) (c4 .enter .ensures .same) (not-at (c4 .enter .result .inserted) (c3 .match .keys2)) (c2 .of-inserted .ensures) (c1 .turn-down .ensures))
+    (last-refused _ _ _ (c5 .name-byte .ensures) (c4 .enter .ensures .same) (not-at (c4 .enter .result .inserted) (c3 .match .keys2))
+    (c2 .of-inserted .ensures) (c1 .turn-down .ensures))
 
 sub-owe : tie.Need-sub-owe
 sub-owe c =
-    let c1 = c .before .before .before .before .before .before .before .before .before .before .before .before .before .before .before .before .before .before .before .before .before .before .before .before .before .before .before .before in
+    let c1 =
+    c .before .before .before .before .before .before .before .before .before .before .before .before .before .before .before .before
+    .before .before .before .before .before .before .before .before .before .before .before .before in
     let e = c1 .pre .0 .entries (c1 .pre .1 .0) in
     let f = e .0 in
     omega arith
 
 add-owe : tie.Need-add-owe
 add-owe c =
-    let c1 = c .before .before .before .before .before .before .before .before .before .before .before .before .before .before .before .before .before .before .before .before .before .before .before .before .before .before .before .before .before in
+    let c1 =
+    c .before .before .before .before .before .before .before .before .before .before .before .before .before .before .before .before
+    .before .before .before .before .before .before .before .before .before .before .before .before .before in
     let h = few-taken (c1 .pre .0) in
     let s = c1 .pre .0 .sections in
     omega arith
 
 owe-requires : tie.Need-owe-requires
 owe-requires c κs =
-    let c1 = c .before .before .before .before .before .before .before .before .before .before .before .before .before .before .before .before .before .before .before .before .before .before .before .before .before .before .before .before .before in
+    let c1 =
+    c .before .before .before .before .before .before .before .before .before .before .before .before .before .before .before .before
+    .before .before .before .before .before .before .before .before .before .before .before .before .before in
     let h = few-taken (c1 .pre .0) in
     let s = c1 .pre .0 .sections in
     omega arith
@@ -161,7 +169,8 @@ returns-3 c =
     let c2 = c1 .before .before .before .before .before .before .before .before .before .before .before .before in
     let c3 = c2 .before .before .before .before .before .before .before .before in
     record {
-      same = last-taken _ _ _ (c3 .name-byte .ensures) (c2 .enter .ensures .same) (ap (λ (x : Inserted). insertedOf x .number) (c1 .enum-told .given .1)) (c .owe .ensures);
+      same = last-taken _ _ _ (c3 .name-byte .ensures) (c2 .enter .ensures .same)
+          (ap (λ (x : Inserted). insertedOf x .number) (c1 .enum-told .given .1)) (c .owe .ensures);
       ready = c2 .enter .ensures .ready;
     }
 

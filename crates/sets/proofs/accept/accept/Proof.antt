@@ -26,7 +26,12 @@ returns-2 c =
     let c1 = c .before in
     let c2 = c1 .before in
     let c3 = c2 .before in
-    rw (← c3 .fit-set .ensures, not-false (c3 .fit-set .result) (c2 .if1 .left), ← c1 .is-accepted .ensures, not-true (c1 .is-accepted .result) (c .if2 .taken))
+    rw (
+      ← c3 .fit-set .ensures,
+      not-false (c3 .fit-set .result) (c2 .if1 .left),
+      ← c1 .is-accepted .ensures,
+      not-true (c1 .is-accepted .result) (c .if2 .taken),
+    )
 
 returns-3 : tie.Need-returns-3
 unfolding accepts
@@ -34,7 +39,12 @@ returns-3 c =
     let c1 = c .before in
     let c2 = c1 .before in
     let c3 = c2 .before in
-    rw (← c3 .fit-set .ensures, not-false (c3 .fit-set .result) (c2 .if1 .left), ← c1 .is-accepted .ensures, not-false (c1 .is-accepted .result) (c .if2 .left))
+    rw (
+      ← c3 .fit-set .ensures,
+      not-false (c3 .fit-set .result) (c2 .if1 .left),
+      ← c1 .is-accepted .ensures,
+      not-false (c1 .is-accepted .result) (c .if2 .left),
+    )
 
 pub accept-spec : {M : Type 1} → statement M
 accept-spec =

@@ -39,7 +39,13 @@ sub-result c =
     let at-walk = c .before .before in
     let at-table = at-walk .before .before in
     let at-start = at-table .before .before .before .before .before .before in
-    table-within (record { lengths = now (at-start .args .lengths); bins = now (at-start .args .bins); heads = now (at-start .args .heads); names = now (at-start .args .names); cells = now (at-start .args .cells) }) (at-start .pre) _ _ _ (sym (at-table .table-fine .ensures) ∙ ap restOf (at-walk .walk .given .1))
+    table-within (record {
+      lengths = now (at-start .args .lengths);
+      bins = now (at-start .args .bins);
+      heads = now (at-start .args .heads);
+      names = now (at-start .args .names);
+      cells = now (at-start .args .cells);
+    }) (at-start .pre) _ _ _ (sym (at-table .table-fine .ensures) ∙ ap restOf (at-walk .walk .given .1))
 
 cast-result : tie.Need-cast-result
 cast-result c = search needs

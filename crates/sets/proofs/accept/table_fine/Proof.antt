@@ -38,8 +38,17 @@ length-at-requires c κs = search needs
 
 loop-holds : tie.Need-loop-holds Inv-loop μ-loop
 loop-holds c =
-    let a = c .before .before .before .before .before .before .args in
-    (ap (λ (i : ℕ). tableFine i (record { lengths = now (a .lengths); bins = now (a .bins); heads = now (a .heads); names = now (a .names); cells = now (a .cells) }) (a .visits)) (c .length-at .ensures), omega (arith, c .length-at .ensures), search needs)
+    let a = c .before .before .before .before .before .before .args in (
+      ap (λ (i : ℕ). tableFine i (record {
+        lengths = now (a .lengths);
+        bins = now (a .bins);
+        heads = now (a .heads);
+        names = now (a .names);
+        cells = now (a .cells);
+      }) (a .visits)) (c .length-at .ensures),
+      omega (arith, c .length-at .ensures),
+      search needs,
+    )
 
 sub-i : tie.Need-sub-i Inv-loop μ-loop
 sub-i c = search needs
@@ -48,7 +57,13 @@ bin-fine-requires : tie.Need-bin-fine-requires Inv-loop μ-loop
 bin-fine-requires c κs =
     let at-loop = c .before in
     let at-start = at-loop .before .before .before .before .before .before .before in
-    room-first (record { lengths = now (at-start .args .lengths); bins = now (at-start .args .bins); heads = now (at-start .args .heads); names = now (at-start .args .names); cells = now (at-start .args .cells) }) (at-start .pre) (at-loop .loop .i) (at-loop .loop .inv .1)
+    room-first (record {
+      lengths = now (at-start .args .lengths);
+      bins = now (at-start .args .bins);
+      heads = now (at-start .args .heads);
+      names = now (at-start .args .names);
+      cells = now (at-start .args .cells);
+    }) (at-start .pre) (at-loop .loop .i) (at-loop .loop .inv .1)
 
 enum-known-walk : tie.Need-enum-known-walk Inv-loop μ-loop
 enum-known-walk c = search needs
@@ -61,7 +76,10 @@ returns c =
     let at-bin = c .before .before in
     let at-loop = at-bin .before .before in
     let a = at-loop .before .before .before .before .before .before .before .args in
-    table-wrong (record { lengths = now (a .lengths); bins = now (a .bins); heads = now (a .heads); names = now (a .names); cells = now (a .cells) }) (at-loop .loop .i) (at-loop .loop .rest) (at-bin .before .loop-test .taken) (sym (ap restOf (c .enum-told .given .1)) ∙ at-bin .bin-fine .ensures)
+    table-wrong
+    (record { lengths = now (a .lengths); bins = now (a .bins); heads = now (a .heads); names = now (a .names); cells = now (a .cells) })
+    (at-loop .loop .i) (at-loop .loop .rest) (at-bin .before .loop-test .taken)
+    (sym (ap restOf (c .enum-told .given .1)) ∙ at-bin .bin-fine .ensures)
     ∙ at-loop .loop .inv .0
 
 loop-less : tie.Need-loop-less Inv-loop μ-loop
@@ -73,7 +91,14 @@ loop-again c =
     let at-bin = at-walk .before .before in
     let at-loop = at-bin .before .before in
     let a = at-loop .before .before .before .before .before .before .before .args in (
-      table-step (record { lengths = now (a .lengths); bins = now (a .bins); heads = now (a .heads); names = now (a .names); cells = now (a .cells) }) (at-loop .loop .i) (at-loop .loop .rest) (at-bin .before .loop-test .taken) (sym (ap restOf (at-walk .walk .given .1)) ∙ at-bin .bin-fine .ensures)
+      table-step (record {
+        lengths = now (a .lengths);
+        bins = now (a .bins);
+        heads = now (a .heads);
+        names = now (a .names);
+        cells = now (a .cells);
+      }) (at-loop .loop .i) (at-loop .loop .rest) (at-bin .before .loop-test .taken)
+          (sym (ap restOf (at-walk .walk .given .1)) ∙ at-bin .bin-fine .ensures)
           ∙ at-loop .loop .inv .0,
       search needs,
       search needs,
@@ -83,7 +108,13 @@ returns-2 : tie.Need-returns-2 Inv-loop μ-loop
 returns-2 c =
     let at-loop = c .before in
     let a = at-loop .before .before .before .before .before .before .before .args in
-    table-none (record { lengths = now (a .lengths); bins = now (a .bins); heads = now (a .heads); names = now (a .names); cells = now (a .cells) }) (at-loop .loop .i) (at-loop .loop .rest) (c .loop-test .left) ∙ at-loop .loop .inv .0
+    table-none (record {
+      lengths = now (a .lengths);
+      bins = now (a .bins);
+      heads = now (a .heads);
+      names = now (a .names);
+      cells = now (a .cells);
+    }) (at-loop .loop .i) (at-loop .loop .rest) (c .loop-test .left) ∙ at-loop .loop .inv .0
 
 pub table-fine-spec : {M : Type 1} → statement M
 table-fine-spec =

@@ -70,7 +70,14 @@ bin-fine-returns t c =
     let c1 = c .before in
     let c2 = c1 .before in
     let c3 = c2 .before .before .before .before .before .before in
-    bin-misplaced (record { lengths = now (c3 .args .lengths); bins = now (c3 .args .bins); heads = now (c3 .args .heads); names = now (c3 .args .names); cells = now (c3 .args .cells) }) (c3 .args .left) (c3 .args .k) (c3 .args .i) (c3 .args .may) (c3 .args .visits) (c2 .bin-at .ensures) (c1 .placed .ensures) (not-true (c1 .placed .result) (c .if1 .taken))
+    bin-misplaced (record {
+      lengths = now (c3 .args .lengths);
+      bins = now (c3 .args .bins);
+      heads = now (c3 .args .heads);
+      names = now (c3 .args .names);
+      cells = now (c3 .args .cells);
+    }) (c3 .args .left) (c3 .args .k) (c3 .args .i) (c3 .args .may) (c3 .args .visits) (c2 .bin-at .ensures) (c1 .placed .ensures)
+    (not-true (c1 .placed .result) (c .if1 .taken))
 
 bin-fine-length-at-requires : (t : ℕ) → bin-fine-lts.Need-length-at-requires (bin-fine-calls t) (bin-fine-at t) bin-fine.Post
 bin-fine-length-at-requires t c κs = search needs
@@ -93,7 +100,15 @@ bin-fine-returns-2 t c =
     let c5 = c4 .before in
     let c6 = c5 .before in
     let c7 = c6 .before .before .before .before .before .before in
-    bin-wrong (record { lengths = now (c7 .args .lengths); bins = now (c7 .args .bins); heads = now (c7 .args .heads); names = now (c7 .args .names); cells = now (c7 .args .cells) }) (c7 .args .left) (c7 .args .k) (c7 .args .i) (c7 .args .may) (c7 .args .visits) (c6 .bin-at .ensures) (c5 .placed .ensures) (not-false (c5 .placed .result) (c4 .if1 .left)) (c3 .length-at .ensures) (sym (ap restOf (c .enum-told .given .1)) ∙ c2 .own-fine .ensures)
+    bin-wrong (record {
+      lengths = now (c7 .args .lengths);
+      bins = now (c7 .args .bins);
+      heads = now (c7 .args .heads);
+      names = now (c7 .args .names);
+      cells = now (c7 .args .cells);
+    }) (c7 .args .left) (c7 .args .k) (c7 .args .i) (c7 .args .may) (c7 .args .visits) (c6 .bin-at .ensures) (c5 .placed .ensures)
+    (not-false (c5 .placed .result) (c4 .if1 .left)) (c3 .length-at .ensures)
+    (sym (ap restOf (c .enum-told .given .1)) ∙ c2 .own-fine .ensures)
 
 bin-fine-is-moved-requires : (t : ℕ) → bin-fine-lts.Need-is-moved-requires (bin-fine-calls t) (bin-fine-at t) bin-fine.Post
 bin-fine-is-moved-requires t c κs = search needs
@@ -123,7 +138,15 @@ bin-fine-returns-3 t c =
     let c8 = c7 .before in
     let c9 = c8 .before in
     let c10 = c9 .before .before .before .before .before .before in
-    bin-on (record { lengths = now (c10 .args .lengths); bins = now (c10 .args .bins); heads = now (c10 .args .heads); names = now (c10 .args .names); cells = now (c10 .args .cells) }) (c10 .args .left) (c10 .args .k) (c10 .args .i) (c10 .args .may) (c10 .args .visits) (c9 .bin-at .ensures) (c8 .placed .ensures) (not-false (c8 .placed .result) (c7 .if1 .left)) (c6 .length-at .ensures) (sym (ap restOf (c3 .own .given .1)) ∙ c5 .own-fine .ensures) (c1 .is-moved .ensures) (c .two-below .ensures)
+    bin-on (record {
+      lengths = now (c10 .args .lengths);
+      bins = now (c10 .args .bins);
+      heads = now (c10 .args .heads);
+      names = now (c10 .args .names);
+      cells = now (c10 .args .cells);
+    }) (c10 .args .left) (c10 .args .k) (c10 .args .i) (c10 .args .may) (c10 .args .visits) (c9 .bin-at .ensures) (c8 .placed .ensures)
+    (not-false (c8 .placed .result) (c7 .if1 .left)) (c6 .length-at .ensures) (sym (ap restOf (c3 .own .given .1)) ∙ c5 .own-fine .ensures)
+    (c1 .is-moved .ensures) (c .two-below .ensures)
 
 abbrev two-below-calls : ℕ → two-below-lts.Claims
 two-below-calls t = (
@@ -136,7 +159,13 @@ two-below-calls t = (
 two-below-returns : (t : ℕ) → two-below-lts.Need-returns (two-below-calls t) (two-below-at t) two-below.Post
 two-below-returns t c =
     let c1 = c .before .before .before .before .before .before in
-    below-none (record { lengths = now (c1 .args .lengths); bins = now (c1 .args .bins); heads = now (c1 .args .heads); names = now (c1 .args .names); cells = now (c1 .args .cells) }) (c1 .args .left) (c1 .args .k) (c1 .args .i) (c1 .args .may) (c1 .args .visits) (c .if1 .taken)
+    below-none (record {
+      lengths = now (c1 .args .lengths);
+      bins = now (c1 .args .bins);
+      heads = now (c1 .args .heads);
+      names = now (c1 .args .names);
+      cells = now (c1 .args .cells);
+    }) (c1 .args .left) (c1 .args .k) (c1 .args .i) (c1 .args .may) (c1 .args .visits) (c .if1 .taken)
 
 two-below-length-at-requires : (t : ℕ) → two-below-lts.Need-length-at-requires (two-below-calls t) (two-below-at t) two-below.Post
 two-below-length-at-requires t c κs = search needs
@@ -172,7 +201,14 @@ two-below-returns-2 t c =
     let c3 = c2 .before in
     let c4 = c3 .before in
     let c5 = c4 .before .before .before .before .before .before in
-    below-wrong (record { lengths = now (c5 .args .lengths); bins = now (c5 .args .bins); heads = now (c5 .args .heads); names = now (c5 .args .names); cells = now (c5 .args .cells) }) (c5 .args .left) (c5 .args .k) (c5 .args .i) (c5 .args .may) (c5 .args .visits) (c4 .if1 .left) (sym (ap restOf (c .enum-told .given .1)) ∙ c2 .bin-fine .ensures)
+    below-wrong (record {
+      lengths = now (c5 .args .lengths);
+      bins = now (c5 .args .bins);
+      heads = now (c5 .args .heads);
+      names = now (c5 .args .names);
+      cells = now (c5 .args .cells);
+    }) (c5 .args .left) (c5 .args .k) (c5 .args .i) (c5 .args .may) (c5 .args .visits) (c4 .if1 .left)
+    (sym (ap restOf (c .enum-told .given .1)) ∙ c2 .bin-fine .ensures)
 
 two-below-sub-bin-fine-2 : (t : ℕ) → two-below-lts.Need-sub-bin-fine-2 (two-below-calls t) (two-below-at t) two-below.Post
 two-below-sub-bin-fine-2 t c =
@@ -223,7 +259,14 @@ two-below-returns-3 t c =
     let c5 = c4 .before in
     let c6 = c5 .before in
     let c7 = c6 .before .before .before .before .before .before in
-    below-both (record { lengths = now (c7 .args .lengths); bins = now (c7 .args .bins); heads = now (c7 .args .heads); names = now (c7 .args .names); cells = now (c7 .args .cells) }) (c7 .args .left) (c7 .args .k) (c7 .args .i) (c7 .args .may) (c7 .args .visits) (c6 .if1 .left) (c5 .length-at .ensures) (sym (ap restOf (c2 .near .given .1)) ∙ c4 .bin-fine .ensures) (c .bin-fine2 .ensures)
+    below-both (record {
+      lengths = now (c7 .args .lengths);
+      bins = now (c7 .args .bins);
+      heads = now (c7 .args .heads);
+      names = now (c7 .args .names);
+      cells = now (c7 .args .cells);
+    }) (c7 .args .left) (c7 .args .k) (c7 .args .i) (c7 .args .may) (c7 .args .visits) (c6 .if1 .left) (c5 .length-at .ensures)
+    (sym (ap restOf (c2 .near .given .1)) ∙ c4 .bin-fine .ensures) (c .bin-fine2 .ensures)
 
 pub +bin-fine+two-below-spec : {M : Type 1} → statement M
 +bin-fine+two-below-spec = close μ-bin-fine μ-two-below (λ t. bin-fine-lts.spec (bin-fine-calls t)

@@ -52,7 +52,8 @@ returns-2 c =
     let a = at-bin .before .before .before .before .before .args in
     let s : Set = record { lengths = []; bins = []; heads = now (a .heads); names = now (a .names); cells = now (a .cells) } in
     rw (at-bin .bin2 .given .1)
-    (own-tree s (a .length) (a .i) (at-bin .bin2 .given .0 .0) (a .visits) (at-root .header .ensures) (at-first .header2 .ensures) (at-count .header3 .ensures) (c .tree-fine .ensures))
+    (own-tree s (a .length) (a .i) (at-bin .bin2 .given .0 .0) (a .visits) (at-root .header .ensures) (at-first .header2 .ensures)
+    (at-count .header3 .ensures) (c .tree-fine .ensures))
 
 returns-3 : tie.Need-returns-3
 unfolding ownFine

@@ -15,7 +15,8 @@ bins-before-requires c κs = search needs
 returns : tie.Need-returns
 returns c =
     let a = c .before .before .before .before .args in
-    let h : length (now (a .bins)) ≤ begins (now (a .lengths)) (a .k) + a .i = omega (arith, c .if1 .taken, c .before .bins-before .ensures) in
+    let h : length (now (a .bins)) ≤ begins (now (a .lengths)) (a .k) + a .i =
+    omega (arith, c .if1 .taken, c .before .bins-before .ensures) in
     sym (List·getD-eq-default (now (a .bins)) 0 h)
 
 sub-if2 : tie.Need-sub-if2
@@ -25,7 +26,8 @@ returns-2 : tie.Need-returns-2
 returns-2 c =
     let at-from = c .before .before in
     let a = at-from .before .before .before .args in
-    let h : length (now (a .bins)) ≤ begins (now (a .lengths)) (a .k) + a .i = omega (arith, c .if2 .taken, at-from .bins-before .ensures) in
+    let h : length (now (a .bins)) ≤ begins (now (a .lengths)) (a .k) + a .i =
+    omega (arith, c .if2 .taken, at-from .bins-before .ensures) in
     sym (List·getD-eq-default (now (a .bins)) 0 h)
 
 add-result : tie.Need-add-result

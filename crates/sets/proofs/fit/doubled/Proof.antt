@@ -45,7 +45,8 @@ returns c =
     let at-test = at-long .before in
     let at-loop = at-test .before in
     let a = at-loop .before .before .args in
-    let n : getD (now (a .lengths)) (at-loop .loop .k) 0 ≢ 2 * getD (now (a .lengths)) (at-loop .loop .k - 1) 0 = omega (arith, c .if1 .taken, at-short .length-at2 .ensures, at-long .length-at .ensures) in
+    let n : getD (now (a .lengths)) (at-loop .loop .k) 0 ≢ 2 * getD (now (a .lengths)) (at-loop .loop .k - 1) 0 =
+    omega (arith, c .if1 .taken, at-short .length-at2 .ensures, at-long .length-at .ensures) in
     sym (doubled-no (now (a .lengths)) (at-loop .loop .k) (at-test .loop-test .taken) n) ∙ at-loop .loop .inv .0
 
 loop-less : tie.Need-loop-less Inv-loop μ-loop
@@ -58,7 +59,8 @@ loop-again c =
     let at-test = at-long .before in
     let at-loop = at-test .before in
     let a = at-loop .before .before .args in
-    let e : getD (now (a .lengths)) (at-loop .loop .k) 0 ≡ 2 * getD (now (a .lengths)) (at-loop .loop .k - 1) 0 = omega (arith, c .if1 .left, at-short .length-at2 .ensures, at-long .length-at .ensures) in
+    let e : getD (now (a .lengths)) (at-loop .loop .k) 0 ≡ 2 * getD (now (a .lengths)) (at-loop .loop .k - 1) 0 =
+    omega (arith, c .if1 .left, at-short .length-at2 .ensures, at-long .length-at .ensures) in
     (sym (doubled-on (now (a .lengths)) (at-loop .loop .k) (at-test .loop-test .taken) e) ∙ at-loop .loop .inv .0, search needs)
 
 returns-2 : tie.Need-returns-2 Inv-loop μ-loop

@@ -34,7 +34,8 @@ returns c =
     let c2 = c1 .before in
     let a = c2 .before .before .before .before .before .before .before .args in
     rw (← c2 .before .fit-tables .ensures, ← c .fit-slots .ensures)
-    (and-next _ (c2 .if1 .came) (λ w. (w .0 .taken, w .2 ∙ ap (eqb (length (now (a .bins)))) (w .1 .ensures))) (λ w. (w .0 .left, w .1)) (rw (c1 .if2 .taken)))
+    (and-next _ (c2 .if1 .came) (λ w. (w .0 .taken, w .2 ∙ ap (eqb (length (now (a .bins)))) (w .1 .ensures))) (λ w. (w .0 .left, w .1))
+    (rw (c1 .if2 .taken)))
 
 returns-2 : tie.Need-returns-2
 unfolding fits
@@ -42,7 +43,8 @@ returns-2 c =
     let c1 = c .before in
     let a = c1 .before .before .before .before .before .before .before .args in
     rw (← c1 .before .fit-tables .ensures)
-    (and-next _ (c1 .if1 .came) (λ w. (w .0 .taken, w .2 ∙ ap (eqb (length (now (a .bins)))) (w .1 .ensures))) (λ w. (w .0 .left, w .1)) (rw (c .if2 .left)))
+    (and-next _ (c1 .if1 .came) (λ w. (w .0 .taken, w .2 ∙ ap (eqb (length (now (a .bins)))) (w .1 .ensures))) (λ w. (w .0 .left, w .1))
+    (rw (c .if2 .left)))
 
 pub fit-set-spec : {M : Type 1} → statement M
 fit-set-spec =

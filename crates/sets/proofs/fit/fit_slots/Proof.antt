@@ -21,7 +21,9 @@ mul-result : tie.Need-mul-result
 mul-result c = search needs
 
 -- What is asked of the lengths is what the last `&&` is asked.
-asked : (c : tie.Joined3) → let a = c .before .before .before .args in c .if3 .if4 and eqb (a .heads) (3 * (a .heads / 3)) ≡ fitSlots (a .heads) (a .names) (a .cells)
+asked : (c : tie.Joined3)
+    → let a = c .before .before .before .args in
+    c .if3 .if4 and eqb (a .heads) (3 * (a .heads / 3)) ≡ fitSlots (a .heads) (a .names) (a .cells)
 unfolding fitSlots
 asked c =
     and-next _ (c .before .before .if1 .came) (λ w. (le-leb _ _ (w .0 .taken), w .1)) (λ w. (lt-leb _ _ (w .0 .left), w .1))

@@ -38,7 +38,13 @@ returns-2 c =
     let at-power = c2 .before in
     let at-first = at-power .before in
     let at-most = at-first .before in
-    rw (le-leb _ _ (at-most .before .if1 .left), le-leb _ 8 (ltb-false 8 _ (at-most .if2 .left)), ← at-first .length-at .ensures, ← at-power .is-power .ensures, ← c .length-at2 .ensures)
+    rw (
+      le-leb _ _ (at-most .before .if1 .left),
+      le-leb _ 8 (ltb-false 8 _ (at-most .if2 .left)),
+      ← at-first .length-at .ensures,
+      ← at-power .is-power .ensures,
+      ← c .length-at2 .ensures,
+    )
     (and-next _ (c2 .if3 .came) (λ w. (w .0 .taken, w .2 ∙ w .1 .ensures)) (λ w. (w .0 .left, w .1)) (rw (c1 .if4 .taken)))
 
 returns-3 : tie.Need-returns-3
@@ -48,7 +54,12 @@ returns-3 c =
     let at-power = c1 .before in
     let at-first = at-power .before in
     let at-most = at-first .before in
-    rw (le-leb _ _ (at-most .before .if1 .left), le-leb _ 8 (ltb-false 8 _ (at-most .if2 .left)), ← at-first .length-at .ensures, ← at-power .is-power .ensures)
+    rw (
+      le-leb _ _ (at-most .before .if1 .left),
+      le-leb _ 8 (ltb-false 8 _ (at-most .if2 .left)),
+      ← at-first .length-at .ensures,
+      ← at-power .is-power .ensures,
+    )
     (and-next _ (c1 .if3 .came) (λ w. (w .0 .taken, w .2 ∙ w .1 .ensures)) (λ w. (w .0 .left, w .1)) (rw (c .if4 .left)))
 
 pub fit-tables-spec : {M : Type 1} → statement M

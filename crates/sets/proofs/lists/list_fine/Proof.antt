@@ -23,7 +23,9 @@ returns : tie.Need-returns Inv-loop μ-loop
 returns c =
     let at-loop = c .before .before in
     let a = at-loop .before .before .before .args in
-    list-spent (now (a .names)) (now (a .cells)) (a .length) (a .i) (at-loop .loop .x) (at-loop .loop .left) (c .before .loop-test .taken) (c .if1 .taken) ∙ at-loop .loop .inv .0
+    list-spent (now (a .names)) (now (a .cells)) (a .length) (a .i) (at-loop .loop .x) (at-loop .loop .left) (c .before .loop-test .taken)
+    (c .if1 .taken)
+    ∙ at-loop .loop .inv .0
 
 sub-left : tie.Need-sub-left Inv-loop μ-loop
 sub-left c = search needs
@@ -38,7 +40,8 @@ returns-2 c =
     let at-loop = at-visits .before .before in
     let a = at-loop .before .before .before .args in
     list-wrong
-    (now (a .names)) (now (a .cells)) (a .length) (a .i) (at-loop .loop .x) (at-loop .loop .left) (at-visits .before .loop-test .taken) (at-visits .if1 .left) (at-slot .list-slot-fine .ensures)
+    (now (a .names)) (now (a .cells)) (a .length) (a .i) (at-loop .loop .x) (at-loop .loop .left) (at-visits .before .loop-test .taken)
+    (at-visits .if1 .left) (at-slot .list-slot-fine .ensures)
     (not-true (at-slot .list-slot-fine .result) (c .if2 .taken))
     ∙ at-loop .loop .inv .0
 
@@ -55,7 +58,8 @@ loop-again c =
     let at-loop = at-visits .before .before in
     let a = at-loop .before .before .before .args in (
       list-on
-          (now (a .names)) (now (a .cells)) (a .length) (a .i) (at-loop .loop .x) (at-loop .loop .left) (at-visits .before .loop-test .taken) (at-visits .if1 .left) (at-slot .list-slot-fine .ensures)
+          (now (a .names)) (now (a .cells)) (a .length) (a .i) (at-loop .loop .x) (at-loop .loop .left)
+          (at-visits .before .loop-test .taken) (at-visits .if1 .left) (at-slot .list-slot-fine .ensures)
           (not-false (at-slot .list-slot-fine .result) (c .before .if2 .left))
           (c .get .ensures)
           ∙ at-loop .loop .inv .0,
@@ -67,7 +71,8 @@ returns-3 : tie.Need-returns-3 Inv-loop μ-loop
 returns-3 c =
     let at-loop = c .before in
     let a = at-loop .before .before .before .args in
-    list-null (now (a .names)) (now (a .cells)) (a .length) (a .i) (at-loop .loop .x) (at-loop .loop .left) (c .loop-test .left) ∙ at-loop .loop .inv .0
+    list-null (now (a .names)) (now (a .cells)) (a .length) (a .i) (at-loop .loop .x) (at-loop .loop .left) (c .loop-test .left)
+    ∙ at-loop .loop .inv .0
 
 pub list-fine-spec : {M : Type 1} → statement M
 list-fine-spec =

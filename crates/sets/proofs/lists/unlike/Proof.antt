@@ -22,7 +22,9 @@ returns : tie.Need-returns Inv-loop μ-loop
 returns c =
     let at-loop = c .before .before in
     let a = at-loop .before .before .before .args in
-    unlike-spent (now (a .names)) (now (a .cells)) (a .x) (at-loop .loop .y) (at-loop .loop .left) (c .before .loop-test .taken) (c .if1 .taken) ∙ at-loop .loop .inv .0
+    unlike-spent (now (a .names)) (now (a .cells)) (a .x) (at-loop .loop .y) (at-loop .loop .left) (c .before .loop-test .taken)
+    (c .if1 .taken)
+    ∙ at-loop .loop .inv .0
 
 same-pair-requires : tie.Need-same-pair-requires Inv-loop μ-loop
 same-pair-requires c κs = search needs
@@ -33,7 +35,8 @@ returns-2 c =
     let at-visits = at-same .before in
     let at-loop = at-visits .before .before in
     let a = at-loop .before .before .before .args in
-    unlike-same (now (a .names)) (now (a .cells)) (a .x) (at-loop .loop .y) (at-loop .loop .left) (at-visits .before .loop-test .taken) (at-visits .if1 .left) (at-same .same-pair .ensures) (c .if2 .taken)
+    unlike-same (now (a .names)) (now (a .cells)) (a .x) (at-loop .loop .y) (at-loop .loop .left) (at-visits .before .loop-test .taken)
+    (at-visits .if1 .left) (at-same .same-pair .ensures) (c .if2 .taken)
     ∙ at-loop .loop .inv .0
 
 get-requires : tie.Need-get-requires Inv-loop μ-loop
@@ -52,7 +55,8 @@ loop-again c =
     let at-loop = at-visits .before .before in
     let a = at-loop .before .before .before .args in (
       unlike-on
-          (now (a .names)) (now (a .cells)) (a .x) (at-loop .loop .y) (at-loop .loop .left) (at-visits .before .loop-test .taken) (at-visits .if1 .left) (at-same .same-pair .ensures) (c .before .if2 .left)
+          (now (a .names)) (now (a .cells)) (a .x) (at-loop .loop .y) (at-loop .loop .left) (at-visits .before .loop-test .taken)
+          (at-visits .if1 .left) (at-same .same-pair .ensures) (c .before .if2 .left)
           (c .get .ensures)
           ∙ at-loop .loop .inv .0,
       search needs,
@@ -63,7 +67,8 @@ returns-3 : tie.Need-returns-3 Inv-loop μ-loop
 returns-3 c =
     let at-loop = c .before in
     let a = at-loop .before .before .before .args in
-    unlike-null (now (a .names)) (now (a .cells)) (a .x) (at-loop .loop .y) (at-loop .loop .left) (c .loop-test .left) ∙ at-loop .loop .inv .0
+    unlike-null (now (a .names)) (now (a .cells)) (a .x) (at-loop .loop .y) (at-loop .loop .left) (c .loop-test .left)
+    ∙ at-loop .loop .inv .0
 
 pub unlike-spec : {M : Type 1} → statement M
 unlike-spec =

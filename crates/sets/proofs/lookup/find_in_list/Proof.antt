@@ -38,14 +38,16 @@ returns : tie.Need-returns Inv-loop μ-loop
 returns c =
     let at-loop = c .before .before in
     let a = at-loop .before .before .before .args in
-    strayed (list-runs (now (a .names)) (now (a .cells)) (a .hash) (a .key)) (at-loop .loop .p) (at-loop .loop .visits) (at-loop .loop .inv .0) (c .before .loop-test .taken) (c .if1 .taken)
+    strayed (list-runs (now (a .names)) (now (a .cells)) (a .hash) (a .key)) (at-loop .loop .p) (at-loop .loop .visits)
+    (at-loop .loop .inv .0) (c .before .loop-test .taken) (c .if1 .taken)
 
 returns-2 : tie.Need-returns-2 Inv-loop μ-loop
 returns-2 c =
     let in-loop = c .before .before in
     let at-loop = in-loop .before in
     let a = at-loop .before .before .before .args in
-    wanting (list-runs (now (a .names)) (now (a .cells)) (a .hash) (a .key)) (at-loop .loop .p) (at-loop .loop .visits) (at-loop .loop .inv .0) (in-loop .loop-test .taken) (c .if2 .taken)
+    wanting (list-runs (now (a .names)) (now (a .cells)) (a .hash) (a .key)) (at-loop .loop .p) (at-loop .loop .visits)
+    (at-loop .loop .inv .0) (in-loop .loop-test .taken) (c .if2 .taken)
 
 sub-visits : tie.Need-sub-visits Inv-loop μ-loop
 sub-visits c = search needs
@@ -110,7 +112,8 @@ returns-4 : tie.Need-returns-4 Inv-loop μ-loop
 returns-4 c =
     let at-loop = c .before in
     let a = at-loop .before .before .before .args in
-    ended (list-runs (now (a .names)) (now (a .cells)) (a .hash) (a .key)) (at-loop .loop .p) (at-loop .loop .visits) (at-loop .loop .inv .0) (c .loop-test .left)
+    ended (list-runs (now (a .names)) (now (a .cells)) (a .hash) (a .key)) (at-loop .loop .p) (at-loop .loop .visits)
+    (at-loop .loop .inv .0) (c .loop-test .left)
 
 pub find-in-list-spec : {M : Type 1} → statement M
 find-in-list-spec =

@@ -54,7 +54,13 @@ loop-again c =
     let at-loop = at-bin .before in
     let a = at-loop .before .before .before .before .before .before .args in (
       at-moved
-          (record { lengths = now (a .lengths); bins = now (a .bins); heads = now (a .heads); names = now (a .names); cells = now (a .cells) })
+          (record {
+            lengths = now (a .lengths);
+            bins = now (a .bins);
+            heads = now (a .heads);
+            names = now (a .names);
+            cells = now (a .cells);
+          })
           (a .hash)
           (a .key)
           (at-loop .loop .k)

@@ -11,7 +11,8 @@ use Rattle.sets.proofs.place.advance.Statement.{statement}
 use Rattle.sets.proofs.place.advance.Tie as tie
 
 abbrev Inv-loop : tie.InvT-loop
-Inv-loop lengths base depth indexes₀ d₀ indexes d = (advanced d lengths base indexes ≡ advanced depth lengths base indexes₀) × (d ≤ depth) × (getD indexes 0 0 + 1 < 2 ^ 32)
+Inv-loop lengths base depth indexes₀ d₀ indexes d =
+    (advanced d lengths base indexes ≡ advanced depth lengths base indexes₀) × (d ≤ depth) × (getD indexes 0 0 + 1 < 2 ^ 32)
 
 abbrev μ-loop : tie.MeasureT-loop
 μ-loop lengths base depth indexes₀ d₀ indexes d = d
@@ -108,7 +109,11 @@ loop-again c =
           (at-if .if1 .left)
           (c .set-index2 .ensures),
       omega arith,
-      omega (arith, at-loop .loop .inv .2, base-stays (at-loop .loop .indexes) (at-loop .loop .d) 0 (at-test .loop-test .taken) (c .set-index2 .ensures)),
+      omega (
+        arith,
+        at-loop .loop .inv .2,
+        base-stays (at-loop .loop .indexes) (at-loop .loop .d) 0 (at-test .loop-test .taken) (c .set-index2 .ensures),
+      ),
     )
 
 index-at-requires-2 : tie.Need-index-at-requires-2 Inv-loop μ-loop

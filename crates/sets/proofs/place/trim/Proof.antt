@@ -36,7 +36,16 @@ returns c =
     let c5 = c4 .before in
     let c6 = c5 .before in
     let c7 = c6 .before in
-    rw (c7 .keep .ensures, c6 .keep2 .ensures, c5 .keep3 .ensures, c4 .keep4 .ensures, c3 .keep5 .ensures, c2 .keep6 .ensures, c1 .keep7 .ensures, c .keep8 .ensures)
+    rw (
+      c7 .keep .ensures,
+      c6 .keep2 .ensures,
+      c5 .keep3 .ensures,
+      c4 .keep4 .ensures,
+      c3 .keep5 .ensures,
+      c2 .keep6 .ensures,
+      c1 .keep7 .ensures,
+      c .keep8 .ensures,
+    )
 
 pub trim-spec : {M : Type 1} → statement M
 trim-spec =

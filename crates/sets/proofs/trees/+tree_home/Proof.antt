@@ -40,13 +40,15 @@ tree-home-calls t = (
 tree-home-returns : (t : ℕ) → tree-home-lts.Need-returns (tree-home-calls t) (tree-home-at t) tree-home.Post
 tree-home-returns t c =
     let c1 = c .before .before .before in
-    home-null (now (c1 .args .names)) (now (c1 .args .cells)) (c1 .args .length) (c1 .args .i) (c1 .args .x) (c1 .args .depth) (c .if1 .taken)
+    home-null (now (c1 .args .names)) (now (c1 .args .cells)) (c1 .args .length) (c1 .args .i) (c1 .args .x) (c1 .args .depth)
+    (c .if1 .taken)
 
 tree-home-returns-2 : (t : ℕ) → tree-home-lts.Need-returns-2 (tree-home-calls t) (tree-home-at t) tree-home.Post
 tree-home-returns-2 t c =
     let c1 = c .before in
     let c2 = c1 .before .before .before in
-    home-zero (now (c2 .args .names)) (now (c2 .args .cells)) (c2 .args .length) (c2 .args .i) (c2 .args .x) (c2 .args .depth) (c1 .if1 .left) (c .if2 .taken)
+    home-zero (now (c2 .args .names)) (now (c2 .args .cells)) (c2 .args .length) (c2 .args .i) (c2 .args .x) (c2 .args .depth)
+    (c1 .if1 .left) (c .if2 .taken)
 
 tree-home-is-home-requires : (t : ℕ) → tree-home-lts.Need-is-home-requires (tree-home-calls t) (tree-home-at t) tree-home.Post
 tree-home-is-home-requires t c κs = search needs
@@ -86,8 +88,16 @@ tree-home-returns-3 t c =
     let c5 = c4 .before in
     let c6 = c5 .before in
     let a = c6 .before .before .before .args in
-    rw (home-on (now (a .names)) (now (a .cells)) (a .length) (a .i) (a .x) (a .depth) (c6 .if1 .left) (c5 .if2 .left), ← c4 .is-home .ensures, ← c1 .get2 .ensures, ← c .tree-home2 .ensures)
-    (and-next _ (c3 .if3 .came) (λ w. (w .0 .taken, w .3 ∙ w .2 .ensures ∙ ap (treeHome (a .depth - 1) (now (a .names)) (now (a .cells)) (a .length) (a .i)) (w .1 .ensures))) (λ w. (w .0 .left, w .1)) (rw (c2 .if4 .taken)))
+    rw (
+      home-on (now (a .names)) (now (a .cells)) (a .length) (a .i) (a .x) (a .depth) (c6 .if1 .left) (c5 .if2 .left),
+      ← c4 .is-home .ensures,
+      ← c1 .get2 .ensures,
+      ← c .tree-home2 .ensures,
+    )
+    (and-next _ (c3 .if3 .came) (λ w. (
+      w .0 .taken,
+      w .3 ∙ w .2 .ensures ∙ ap (treeHome (a .depth - 1) (now (a .names)) (now (a .cells)) (a .length) (a .i)) (w .1 .ensures),
+    )) (λ w. (w .0 .left, w .1)) (rw (c2 .if4 .taken)))
 
 tree-home-returns-4 : (t : ℕ) → tree-home-lts.Need-returns-4 (tree-home-calls t) (tree-home-at t) tree-home.Post
 tree-home-returns-4 t c =
@@ -96,8 +106,14 @@ tree-home-returns-4 t c =
     let c5 = c4 .before in
     let c6 = c5 .before in
     let a = c6 .before .before .before .args in
-    rw (home-on (now (a .names)) (now (a .cells)) (a .length) (a .i) (a .x) (a .depth) (c6 .if1 .left) (c5 .if2 .left), ← c4 .is-home .ensures)
-    (and-next _ (c3 .if3 .came) (λ w. (w .0 .taken, w .3 ∙ w .2 .ensures ∙ ap (treeHome (a .depth - 1) (now (a .names)) (now (a .cells)) (a .length) (a .i)) (w .1 .ensures))) (λ w. (w .0 .left, w .1)) (rw (c .if4 .left)))
+    rw (
+      home-on (now (a .names)) (now (a .cells)) (a .length) (a .i) (a .x) (a .depth) (c6 .if1 .left) (c5 .if2 .left),
+      ← c4 .is-home .ensures,
+    )
+    (and-next _ (c3 .if3 .came) (λ w. (
+      w .0 .taken,
+      w .3 ∙ w .2 .ensures ∙ ap (treeHome (a .depth - 1) (now (a .names)) (now (a .cells)) (a .length) (a .i)) (w .1 .ensures),
+    )) (λ w. (w .0 .left, w .1)) (rw (c .if4 .left)))
 
 pub +tree-home-spec : {M : Type 1} → statement M
 +tree-home-spec = close μ-tree-home λ t. tree-home-lts.spec (tree-home-calls t)

@@ -28,7 +28,8 @@ sub-result c =
     let at-told = c .before in
     let at-chain = at-told .before .before in
     let a = at-chain .before .before .args in
-    chained-within (a .n) (now (a .cells)) (a .n) null (a .first) (at-told .walk .given .0 .0) (sym (at-chain .chain .ensures) ∙ ap restOf (at-told .walk .given .1))
+    chained-within (a .n) (now (a .cells)) (a .n) null (a .first) (at-told .walk .given .0 .0)
+    (sym (at-chain .chain .ensures) ∙ ap restOf (at-told .walk .given .1))
 
 returns-2 : tie.Need-returns-2
 returns-2 c =

@@ -23,7 +23,9 @@ returns : tie.Need-returns Inv-loop μ-loop
 returns c =
     let at-loop = c .before .before in
     let a = at-loop .before .before .before .args in
-    own-spent (now (a .names)) (now (a .cells)) (a .length) (a .i) (at-loop .loop .x) (at-loop .loop .left) (c .before .loop-test .taken) (c .if1 .taken) ∙ at-loop .loop .inv .0
+    own-spent (now (a .names)) (now (a .cells)) (a .length) (a .i) (at-loop .loop .x) (at-loop .loop .left) (c .before .loop-test .taken)
+    (c .if1 .taken)
+    ∙ at-loop .loop .inv .0
 
 is-own-requires : tie.Need-is-own-requires Inv-loop μ-loop
 is-own-requires c κs = search needs
@@ -34,7 +36,9 @@ returns-2 c =
     let at-visits = at-own .before in
     let at-loop = at-visits .before .before in
     let a = at-loop .before .before .before .args in
-    own-wrong (now (a .names)) (now (a .cells)) (a .length) (a .i) (at-loop .loop .x) (at-loop .loop .left) (at-visits .before .loop-test .taken) (at-visits .if1 .left) (at-own .is-own .ensures) (not-true (at-own .is-own .result) (c .if2 .taken))
+    own-wrong (now (a .names)) (now (a .cells)) (a .length) (a .i) (at-loop .loop .x) (at-loop .loop .left)
+    (at-visits .before .loop-test .taken) (at-visits .if1 .left) (at-own .is-own .ensures)
+    (not-true (at-own .is-own .result) (c .if2 .taken))
     ∙ at-loop .loop .inv .0
 
 get-requires : tie.Need-get-requires Inv-loop μ-loop
@@ -53,7 +57,9 @@ loop-again c =
     let at-loop = at-visits .before .before in
     let a = at-loop .before .before .before .args in (
       own-on
-          (now (a .names)) (now (a .cells)) (a .length) (a .i) (at-loop .loop .x) (at-loop .loop .left) (at-visits .before .loop-test .taken) (at-visits .if1 .left) (at-own .is-own .ensures) (not-false (at-own .is-own .result) (c .before .if2 .left))
+          (now (a .names)) (now (a .cells)) (a .length) (a .i) (at-loop .loop .x) (at-loop .loop .left)
+          (at-visits .before .loop-test .taken) (at-visits .if1 .left) (at-own .is-own .ensures)
+          (not-false (at-own .is-own .result) (c .before .if2 .left))
           (c .get .ensures)
           ∙ at-loop .loop .inv .0,
       search needs,
@@ -64,7 +70,8 @@ returns-3 : tie.Need-returns-3 Inv-loop μ-loop
 returns-3 c =
     let at-loop = c .before in
     let a = at-loop .before .before .before .args in
-    own-null (now (a .names)) (now (a .cells)) (a .length) (a .i) (at-loop .loop .x) (at-loop .loop .left) (c .loop-test .left) ∙ at-loop .loop .inv .0
+    own-null (now (a .names)) (now (a .cells)) (a .length) (a .i) (at-loop .loop .x) (at-loop .loop .left) (c .loop-test .left)
+    ∙ at-loop .loop .inv .0
 
 pub chain-own-spec : {M : Type 1} → statement M
 chain-own-spec =

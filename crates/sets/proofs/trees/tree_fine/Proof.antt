@@ -30,7 +30,8 @@ sub-tree-good c =
     let at-told = c .before in
     let at-survey = at-told .before .before in
     let a = at-survey .before .before .before .args in
-    obeyed-within (now (a .names)) (now (a .cells)) (a .root) (a .visits) (ap restOf (sym (at-told .walk .given .1)) ∙ at-survey .survey .ensures)
+    obeyed-within (now (a .names)) (now (a .cells)) (a .root) (a .visits)
+    (ap restOf (sym (at-told .walk .given .1)) ∙ at-survey .survey .ensures)
 
 tree-good-requires : tie.Need-tree-good-requires
 tree-good-requires c κs = search needs

@@ -10,7 +10,8 @@ use Rattle.set_rules.specs.Words.{Set}
 use Rattle.sets.specs.Bins.{binAs}
 use Rattle.set_rules.specs.Walk.{place}
 use Rattle.set_rules.proofs.Turns.{left}
-use Rattle.sets.proofs.Walking.{Going, stops, base-more, passes, passes-less, descends, descends-less, no-table, bad-word, from-list, from-tree, no-first}
+use Rattle.sets.proofs.Walking.{Going, stops, base-more, passes, passes-less, descends, descends-less, no-table, bad-word, from-list}
+use Rattle.sets.proofs.Walking.{from-tree, no-first}
 use Rattle.sets.proofs.walk.seek.Statement.{statement}
 use Rattle.sets.proofs.walk.seek.Tie as tie
 
@@ -59,7 +60,9 @@ advance-requires c κs =
     let a = at-loop .before .before .before .before .before .args in
     let s : Set = record { lengths = now (a .lengths); bins = now (a .bins); heads = now (a .heads); names = now (a .names); cells = [] } in
     let g = at-loop .loop .inv .0 .good in
-    let more = base-more s (a .base) (at-loop .loop .d) (at-loop .loop .indexes) (place (a .depth) (now (a .indexes))) (at-loop .loop .inv .0) (at-index .index-at .ensures) (at-length .length-at .ensures) (at-here .if1 .left) (at-bin .bin-at .ensures) in
+    let more =
+    base-more s (a .base) (at-loop .loop .d) (at-loop .loop .indexes) (place (a .depth) (now (a .indexes))) (at-loop .loop .inv .0)
+    (at-index .index-at .ensures) (at-length .length-at .ensures) (at-here .if1 .left) (at-bin .bin-at .ensures) in
     let most = at-loop .before .before .before .before .shared-slice-known .given (a .base) in
     (omega (arith, g .deep, g .few), omega (arith, g .deep, g .few), omega (arith, more, most))
 
@@ -97,7 +100,8 @@ loop-again c =
     let at-index = at-length .before in
     let at-loop = at-index .before .before in
     let a = at-loop .before .before .before .before .before .args in
-    let s : Set = record { lengths = now (a .lengths); bins = now (a .bins); heads = now (a .heads); names = now (a .names); cells = [] } in (
+    let s : Set =
+    record { lengths = now (a .lengths); bins = now (a .bins); heads = now (a .heads); names = now (a .names); cells = [] } in (
       passes
           s
           (a .base)
@@ -170,7 +174,8 @@ loop-again-2 c =
     let at-index = at-length .before in
     let at-loop = at-index .before .before in
     let a = at-loop .before .before .before .before .before .args in
-    let s : Set = record { lengths = now (a .lengths); bins = now (a .bins); heads = now (a .heads); names = now (a .names); cells = [] } in (
+    let s : Set =
+    record { lengths = now (a .lengths); bins = now (a .bins); heads = now (a .heads); names = now (a .names); cells = [] } in (
       descends
           s
           (a .base)
@@ -205,7 +210,9 @@ advance-requires-2 c κs =
     let a = at-loop .before .before .before .before .before .args in
     let s : Set = record { lengths = now (a .lengths); bins = now (a .bins); heads = now (a .heads); names = now (a .names); cells = [] } in
     let g = at-loop .loop .inv .0 .good in
-    let more = base-more s (a .base) (at-loop .loop .d) (at-loop .loop .indexes) (place (a .depth) (now (a .indexes))) (at-loop .loop .inv .0) (at-index .index-at .ensures) (at-length .length-at .ensures) (at-here .if1 .left) (at-bin .bin-at .ensures) in
+    let more =
+    base-more s (a .base) (at-loop .loop .d) (at-loop .loop .indexes) (place (a .depth) (now (a .indexes))) (at-loop .loop .inv .0)
+    (at-index .index-at .ensures) (at-length .length-at .ensures) (at-here .if1 .left) (at-bin .bin-at .ensures) in
     let most = at-loop .before .before .before .before .shared-slice-known .given (a .base) in
     (omega (arith, g .deep, g .few), omega (arith, g .deep, g .few), omega (arith, more, most))
 
@@ -233,7 +240,9 @@ advance-requires-3 c κs =
     let a = at-loop .before .before .before .before .before .args in
     let s : Set = record { lengths = now (a .lengths); bins = now (a .bins); heads = now (a .heads); names = now (a .names); cells = [] } in
     let g = at-loop .loop .inv .0 .good in
-    let more = base-more s (a .base) (at-loop .loop .d) (at-loop .loop .indexes) (place (a .depth) (now (a .indexes))) (at-loop .loop .inv .0) (at-index .index-at .ensures) (at-length .length-at .ensures) (at-here .if1 .left) (at-bin .bin-at .ensures) in
+    let more =
+    base-more s (a .base) (at-loop .loop .d) (at-loop .loop .indexes) (place (a .depth) (now (a .indexes))) (at-loop .loop .inv .0)
+    (at-index .index-at .ensures) (at-length .length-at .ensures) (at-here .if1 .left) (at-bin .bin-at .ensures) in
     let most = at-loop .before .before .before .before .shared-slice-known .given (a .base) in
     (omega (arith, g .deep, g .few), omega (arith, g .deep, g .few), omega (arith, more, most))
 

@@ -24,7 +24,8 @@ returns c =
     let at-get = at-link .before in
     let at-trim = at-get .before in
     let a = at-trim .before .before .before .before .before .before .before .before .args in
-    let s : Set = record { lengths = now (a .lengths); bins = now (a .bins); heads = now (a .heads); names = now (a .names); cells = now (a .cells) } in
+    let s : Set =
+    record { lengths = now (a .lengths); bins = now (a .bins); heads = now (a .heads); names = now (a .names); cells = now (a .cells) } in
     link-stray s (cursorOf (a .cursor)) (at-get .get .ensures) (at-link .if1 .taken) (c .if2 .taken)
 
 returns-2 : tie.Need-returns-2
@@ -33,7 +34,8 @@ returns-2 c =
     let at-get = at-link .before in
     let at-trim = at-get .before in
     let a = at-trim .before .before .before .before .before .before .before .before .args in
-    let s : Set = record { lengths = now (a .lengths); bins = now (a .bins); heads = now (a .heads); names = now (a .names); cells = now (a .cells) } in
+    let s : Set =
+    record { lengths = now (a .lengths); bins = now (a .bins); heads = now (a .heads); names = now (a .names); cells = now (a .cells) } in
     link-next s (cursorOf (a .cursor)) (at-get .get .ensures) (at-trim .trim .ensures) (at-link .if1 .taken) (c .if2 .left)
 
 seek-requires : tie.Need-seek-requires
@@ -42,7 +44,8 @@ seek-requires c κs =
     let at-get = at-none .before in
     let at-trim = at-get .before in
     let a = at-trim .before .before .before .before .before .before .before .before .args in
-    let s : Set = record { lengths = now (a .lengths); bins = now (a .bins); heads = now (a .heads); names = now (a .names); cells = now (a .cells) } in
+    let s : Set =
+    record { lengths = now (a .lengths); bins = now (a .bins); heads = now (a .heads); names = now (a .names); cells = now (a .cells) } in
     let pre = at-trim .before .before .before .before .before .before .before .before .pre in
     rw (at-trim .trim .ensures) pre
 
@@ -67,7 +70,8 @@ returns-3 c =
     let at-get = at-none .before in
     let at-trim = at-get .before in
     let a = at-trim .before .before .before .before .before .before .before .before .args in
-    let s : Set = record { lengths = now (a .lengths); bins = now (a .bins); heads = now (a .heads); names = now (a .names); cells = now (a .cells) } in
+    let s : Set =
+    record { lengths = now (a .lengths); bins = now (a .bins); heads = now (a .heads); names = now (a .names); cells = now (a .cells) } in
     from-bins
     s
     (cursorOf (a .cursor))
@@ -85,7 +89,8 @@ returns-4 c =
     let at-get = at-none .before in
     let at-trim = at-get .before in
     let a = at-trim .before .before .before .before .before .before .before .before .args in
-    let s : Set = record { lengths = now (a .lengths); bins = now (a .bins); heads = now (a .heads); names = now (a .names); cells = now (a .cells) } in
+    let s : Set =
+    record { lengths = now (a .lengths); bins = now (a .bins); heads = now (a .heads); names = now (a .names); cells = now (a .cells) } in
     rw (c .length-at .ensures)
     (from-bins
     s
@@ -93,7 +98,8 @@ returns-4 c =
     (at-get .get .ensures)
     (at-trim .trim .ensures)
     (at-none .if1 .left)
-    (ap (λ (o : Sought). soughtOf o (at-seek .seek .last .1 .1 .1 .1 .1 .1 .0)) (sym (at-told .enum-told .given .1)) ∙ at-seek .seek .ensures))
+    (ap (λ (o : Sought). soughtOf o (at-seek .seek .last .1 .1 .1 .1 .1 .1 .0)) (sym (at-told .enum-told .given .1))
+    ∙ at-seek .seek .ensures))
 
 returns-5 : tie.Need-returns-5
 returns-5 c =
@@ -103,7 +109,8 @@ returns-5 c =
     let at-get = at-none .before in
     let at-trim = at-get .before in
     let a = at-trim .before .before .before .before .before .before .before .before .args in
-    let s : Set = record { lengths = now (a .lengths); bins = now (a .bins); heads = now (a .heads); names = now (a .names); cells = now (a .cells) } in
+    let s : Set =
+    record { lengths = now (a .lengths); bins = now (a .bins); heads = now (a .heads); names = now (a .names); cells = now (a .cells) } in
     from-bins
     s
     (cursorOf (a .cursor))

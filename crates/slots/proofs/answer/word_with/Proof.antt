@@ -36,7 +36,8 @@ returns : tie.Need-returns
 returns c =
     let c2 = c .before .before in
     let a = c2 .before .before .args in
-    c .packed .ensures ∙ ap (λ v. valueBeside (a .bare) (a .answer .number) (valueOf v) + 4294967296 * a .answer .number) (sym (c2 .value .given .1))
+    c .packed .ensures
+    ∙ ap (λ v. valueBeside (a .bare) (a .answer .number) (valueOf v) + 4294967296 * a .answer .number) (sym (c2 .value .given .1))
 
 returns-2 : tie.Need-returns-2
 returns-2 c =
@@ -53,4 +54,5 @@ returns-3 c =
     ∙ ap (λ v. valueBeside (a .bare) (a .answer .number) (valueOf v) + 4294967296 * a .answer .number) (sym (c2 .enum-told .given .1))
 
 pub word-with-spec : {M : Type 1} → statement M
-word-with-spec = tie.close (tie.spec enum-known-value packed-requires enum-told packed-requires-2 packed-requires-3 returns returns-2 returns-3)
+word-with-spec =
+    tie.close (tie.spec enum-known-value packed-requires enum-told packed-requires-2 packed-requires-3 returns returns-2 returns-3)

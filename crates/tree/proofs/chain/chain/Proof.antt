@@ -27,13 +27,17 @@ returns : tie.Need-returns Inv-loop μ-loop
 returns c =
     let at-loop = c .before .before in
     let a = at-loop .before .before .args in
-    chain-outside (a .n) (now (a .cells)) (at-loop .loop .q) (at-loop .loop .i) (at-loop .loop .visits) (c .before .loop-test .taken) (c .if1 .taken) ∙ at-loop .loop .inv .0
+    chain-outside (a .n) (now (a .cells)) (at-loop .loop .q) (at-loop .loop .i) (at-loop .loop .visits) (c .before .loop-test .taken)
+    (c .if1 .taken)
+    ∙ at-loop .loop .inv .0
 
 returns-2 : tie.Need-returns-2 Inv-loop μ-loop
 returns-2 c =
     let at-loop = c .before .before .before in
     let a = at-loop .before .before .args in
-    chain-spent (a .n) (now (a .cells)) (at-loop .loop .q) (at-loop .loop .i) (at-loop .loop .visits) (c .before .before .loop-test .taken) (c .if2 .taken) ∙ at-loop .loop .inv .0
+    chain-spent (a .n) (now (a .cells)) (at-loop .loop .q) (at-loop .loop .i) (at-loop .loop .visits) (c .before .before .loop-test .taken)
+    (c .if2 .taken)
+    ∙ at-loop .loop .inv .0
 
 get-requires : tie.Need-get-requires Inv-loop μ-loop
 get-requires c κs = search needs
@@ -43,7 +47,9 @@ returns-3 c =
     let at-range = c .before .before .before in
     let at-loop = at-range .before .before in
     let a = at-loop .before .before .args in
-    chain-astray (a .n) (now (a .cells)) (at-loop .loop .q) (at-loop .loop .i) (at-loop .loop .visits) (at-range .before .loop-test .taken) (at-range .if1 .left) (c .before .get .ensures) (c .if3 .taken) ∙ at-loop .loop .inv .0
+    chain-astray (a .n) (now (a .cells)) (at-loop .loop .q) (at-loop .loop .i) (at-loop .loop .visits) (at-range .before .loop-test .taken)
+    (at-range .if1 .left) (c .before .get .ensures) (c .if3 .taken)
+    ∙ at-loop .loop .inv .0
 
 get-requires-2 : tie.Need-get-requires-2 Inv-loop μ-loop
 get-requires-2 c κs = search needs
@@ -87,7 +93,8 @@ returns-4 : tie.Need-returns-4 Inv-loop μ-loop
 returns-4 c =
     let at-loop = c .before in
     let a = at-loop .before .before .args in
-    chain-null (a .n) (now (a .cells)) (at-loop .loop .q) (at-loop .loop .i) (at-loop .loop .visits) (c .loop-test .left) ∙ at-loop .loop .inv .0
+    chain-null (a .n) (now (a .cells)) (at-loop .loop .q) (at-loop .loop .i) (at-loop .loop .visits) (c .loop-test .left)
+    ∙ at-loop .loop .inv .0
 
 pub chain-spec : {M : Type 1} → statement M
 chain-spec =

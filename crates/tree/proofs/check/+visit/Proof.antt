@@ -67,7 +67,8 @@ visit-returns-4 t c =
     let at-range = at-visits .before in
     let at-null = at-range .before in
     let a = at-null .before .before .before .args in
-    loose (now (a .names)) (now (a .cells)) (a .i) (a .visits) (at-null .if1 .left) (at-range .if2 .left) (at-visits .if3 .left) (at-links .links-in .ensures) (not-true (at-links .links-in .result) (c .if4 .taken))
+    loose (now (a .names)) (now (a .cells)) (a .i) (a .visits) (at-null .if1 .left) (at-range .if2 .left) (at-visits .if3 .left)
+    (at-links .links-in .ensures) (not-true (at-links .links-in .result) (c .if4 .taken))
 
 visit-first-failing-requires : (t : ℕ) → visit-lts.Need-first-failing-requires (visit-calls t) (visit-at t) visit.Post
 visit-first-failing-requires t c κs = search needs

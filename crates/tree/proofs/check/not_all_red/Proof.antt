@@ -27,7 +27,8 @@ is-red-requires-3 c κs = search needs
 -- What is asked of the slot is what the last `||` is asked.
 asked : (c : tie.Joined3) {s : Bool}
     → let a = c .before .before .before .before .before .before .before .args in
-    s ≡ pick (c .if3 .if4) true (not (redSlot (now (a .cells)) (c .before .before .before .before .get2 .result))) → s ≡ notAllRed (now (a .cells)) (a .i)
+    s ≡ pick (c .if3 .if4) true (not (redSlot (now (a .cells)) (c .before .before .before .before .get2 .result)))
+    → s ≡ notAllRed (now (a .cells)) (a .i)
 unfolding notAllRed
 asked c e =
     let c1 = c .before .before in

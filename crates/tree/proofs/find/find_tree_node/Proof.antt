@@ -41,7 +41,8 @@ returns c =
     let at-range = c .before in
     let at-loop = at-range .before .before in
     let a = at-loop .before .before .before .args in
-    outside (tree-runs (now (a .names)) (now (a .cells)) (a .hash) (a .key)) (at-loop .loop .p) (at-loop .loop .visits) (at-loop .loop .inv .0) (at-range .if1 .taken) (c .off .ensures)
+    outside (tree-runs (now (a .names)) (now (a .cells)) (a .hash) (a .key)) (at-loop .loop .p) (at-loop .loop .visits)
+    (at-loop .loop .inv .0) (at-range .if1 .taken) (c .off .ensures)
 
 sub-looks-2 : tie.Need-sub-looks-2 Inv-loop μ-loop
 sub-looks-2 c = search needs
@@ -50,7 +51,8 @@ returns-2 : tie.Need-returns-2 Inv-loop μ-loop
 returns-2 c =
     let at-loop = c .before .before .before in
     let a = at-loop .before .before .before .args in
-    ended (tree-runs (now (a .names)) (now (a .cells)) (a .hash) (a .key)) (at-loop .loop .p) (at-loop .loop .visits) (at-loop .loop .inv .0) (c .if2 .taken)
+    ended (tree-runs (now (a .names)) (now (a .cells)) (a .hash) (a .key)) (at-loop .loop .p) (at-loop .loop .visits)
+    (at-loop .loop .inv .0) (c .if2 .taken)
 
 sub-visits : tie.Need-sub-visits Inv-loop μ-loop
 sub-visits c = search needs
@@ -120,7 +122,8 @@ returns-4 : tie.Need-returns-4 Inv-loop μ-loop
 returns-4 c =
     let at-loop = c .before .before in
     let a = at-loop .before .before .before .args in
-    spent (tree-runs (now (a .names)) (now (a .cells)) (a .hash) (a .key)) (at-loop .loop .p) (at-loop .loop .visits) (at-loop .loop .inv .0) (c .before .loop-test .left) (c .off2 .ensures)
+    spent (tree-runs (now (a .names)) (now (a .cells)) (a .hash) (a .key)) (at-loop .loop .p) (at-loop .loop .visits)
+    (at-loop .loop .inv .0) (c .before .loop-test .left) (c .off2 .ensures)
 
 pub find-tree-node-spec : {M : Type 1} → statement M
 find-tree-node-spec =

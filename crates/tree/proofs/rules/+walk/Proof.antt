@@ -59,19 +59,22 @@ walk-returns-2 : (t : ℕ) → walk-lts.Need-returns-2 (walk-calls t) (walk-at t
 walk-returns-2 t c =
     let at-null = c .before in
     let a = at-null .before .before .before .before .args in
-    walk-outside (now (a .names)) (now (a .cells)) (now (a .sizes)) (a .q) (a .last) (a .i) (a .depth) (a .visits) (at-null .if1 .left) (c .if2 .taken)
+    walk-outside (now (a .names)) (now (a .cells)) (now (a .sizes)) (a .q) (a .last) (a .i) (a .depth) (a .visits) (at-null .if1 .left)
+    (c .if2 .taken)
 
 walk-returns-3 : (t : ℕ) → walk-lts.Need-returns-3 (walk-calls t) (walk-at t) walk.Post
 walk-returns-3 t c =
     let at-null = c .before .before in
     let a = at-null .before .before .before .before .args in
-    walk-spent (now (a .names)) (now (a .cells)) (now (a .sizes)) (a .q) (a .last) (a .i) (a .depth) (a .visits) (at-null .if1 .left) (c .if3 .taken)
+    walk-spent (now (a .names)) (now (a .cells)) (now (a .sizes)) (a .q) (a .last) (a .i) (a .depth) (a .visits) (at-null .if1 .left)
+    (c .if3 .taken)
 
 walk-returns-4 : (t : ℕ) → walk-lts.Need-returns-4 (walk-calls t) (walk-at t) walk.Post
 walk-returns-4 t c =
     let at-null = c .before .before .before in
     let a = at-null .before .before .before .before .args in
-    walk-deep (now (a .names)) (now (a .cells)) (now (a .sizes)) (a .q) (a .last) (a .i) (a .depth) (a .visits) (at-null .if1 .left) (c .if4 .taken)
+    walk-deep (now (a .names)) (now (a .cells)) (now (a .sizes)) (a .q) (a .last) (a .i) (a .depth) (a .visits) (at-null .if1 .left)
+    (c .if4 .taken)
 
 walk-stand-requires : (t : ℕ) → walk-lts.Need-stand-requires (walk-calls t) (walk-at t) walk.Post
 walk-stand-requires t c κs = search needs
@@ -312,7 +315,8 @@ walk-sub-has-size t c =
     let rights = ap partOf (sym (at-rights .rights .given .1)) ∙ at-walk2 .walk2 .ensures in
     omega (
       arith,
-      walk-within (now (a .names)) (now (a .cells)) (now (a .sizes)) (a .i) (a .last) (at-left .get .result) (a .depth - 1) (a .visits - 1) lefts,
+      walk-within (now (a .names)) (now (a .cells)) (now (a .sizes)) (a .i) (a .last) (at-left .get .result) (a .depth - 1)
+          (a .visits - 1) lefts,
       walk-within (now (a .names)) (now (a .cells)) (now (a .sizes)) (a .i) (a .i) (at-right .get2 .result) (a .depth - 1) _ rights,
     )
 
@@ -434,7 +438,8 @@ walk-add-t26 t c =
     let lefts = ap partOf (sym (at-lefts .lefts .given .1)) ∙ at-walk .walk .ensures in
     omega (
       arith,
-      walk-blacks (now (a .names)) (now (a .cells)) (now (a .sizes)) (a .i) (a .last) (at-left .get .result) (a .depth - 1) (a .visits - 1) lefts,
+      walk-blacks (now (a .names)) (now (a .cells)) (now (a .sizes)) (a .i) (a .last) (at-left .get .result) (a .depth - 1)
+          (a .visits - 1) lefts,
       at-deep .if4 .left,
       at-null .before .before .before .before .fits .depth,
     )

@@ -31,7 +31,14 @@ returns-2 c =
     let c2 = c1 .before in
     let c3 = c2 .before in
     let c4 = c3 .before in
-    rw (ne-eqb _ _ (c4 .before .if1 .left), ← c4 .name .ensures, ← c3 .name2 .ensures, ← c2 .name3 .ensures, ← c1 .name4 .ensures, ← c .comes-before .ensures)
+    rw (
+      ne-eqb _ _ (c4 .before .if1 .left),
+      ← c4 .name .ensures,
+      ← c3 .name2 .ensures,
+      ← c2 .name3 .ensures,
+      ← c1 .name4 .ensures,
+      ← c .comes-before .ensures,
+    )
 
 pub follow-spec : {M : Type 1} → statement M
 follow-spec =

@@ -25,7 +25,8 @@ get-requires-3 c κs = search needs
 
 -- What is asked of the slot is what the last `&&` is asked.
 asked : (c : tie.Joined1) (x : Bool) {s : Bool} → s ≡ c .if1 .if2 and x
-    → let a = c .before .before .before .before .args in s ≡ eqb (cell (now (a .cells)) (a .i) parent) (a .q) and inUse (now (a .cells)) (a .i) and x
+    → let a = c .before .before .before .before .args in
+    s ≡ eqb (cell (now (a .cells)) (a .i) parent) (a .q) and inUse (now (a .cells)) (a .i) and x
 asked c x e =
     rw (← c .before .get2 .ensures)
     (and-next x (c .if1 .came) (λ w. (eq-eqb _ _ (w .0 .taken), w .2 ∙ w .1 .ensures)) (λ w. (ne-eqb _ _ (w .0 .left), w .1)) e)

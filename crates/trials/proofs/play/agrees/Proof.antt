@@ -22,7 +22,8 @@ returns : tie.Need-returns Inv-loop μ-loop
 returns c =
     let l = c .before .before in
     let a = l .before .args in
-    agreed-short (now (a .expected)) (l .loop .at) (now (a .part)) (l .loop .i) (c .before .loop-test .taken) (c .if1 .taken) ∙ l .loop .inv .0
+    agreed-short (now (a .expected)) (l .loop .at) (now (a .part)) (l .loop .i) (c .before .loop-test .taken) (c .if1 .taken)
+    ∙ l .loop .inv .0
 
 shared-slice-read-if2 : tie.Need-shared-slice-read-if2 Inv-loop μ-loop
 shared-slice-read-if2 c = search needs

@@ -17,7 +17,8 @@ use Rattle.trials.proofs.play.play.Tie as tie
 
 abbrev Inv-loop : tie.InvT-loop
 Inv-loop input cut expected names₀ cells₀ head₀ sizes₀ lines₀ out₀ kept₀ at₀ said₀ names cells head sizes lines out kept at said =
-    Left cut expected input at said (deskOf (lineOf kept) (lent names cells head sizes lines) out) (playing cut expected input (lent names₀ cells₀ head₀ sizes₀ lines₀) out₀)
+    Left cut expected input at said (deskOf (lineOf kept) (lent names cells head sizes lines) out)
+    (playing cut expected input (lent names₀ cells₀ head₀ sizes₀ lines₀) out₀)
     × (at ≤ length input)
     × (length input < 2 ^ 64)
     × (length names ≡ length names₀)
@@ -28,7 +29,8 @@ Inv-loop input cut expected names₀ cells₀ head₀ sizes₀ lines₀ out₀ k
     × (length out ≡ length out₀)
 
 abbrev μ-loop : tie.MeasureT-loop
-μ-loop input cut expected names₀ cells₀ head₀ sizes₀ lines₀ out₀ kept₀ at₀ said₀ names cells head sizes lines out kept at said = length input - at
+μ-loop input cut expected names₀ cells₀ head₀ sizes₀ lines₀ out₀ kept₀ at₀ said₀ names cells head sizes lines out kept at said =
+    length input - at
 
 blank-requires : tie.Need-blank-requires Inv-loop μ-loop
 blank-requires c κs = search needs
@@ -100,37 +102,49 @@ returns c =
 
 same-length-7 : tie.Need-same-length-7 Inv-loop μ-loop
 same-length-7 c =
-    let c1 = c .before .before .before .before .before .before .before .before .before .before .before .before .before .before .before .before .before in
+    let c1 =
+    c .before .before .before .before .before .before .before .before .before .before .before .before .before .before .before
+    .before .before in
     let c2 = c1 .before .before .before .before .before .before .before .before .before in
     c1 .feed-first .kept .1 .1 .1 .0 ∙ c2 .loop .inv .3
 
 same-length-8 : tie.Need-same-length-8 Inv-loop μ-loop
 same-length-8 c =
-    let c1 = c .before .before .before .before .before .before .before .before .before .before .before .before .before .before .before .before .before in
+    let c1 =
+    c .before .before .before .before .before .before .before .before .before .before .before .before .before .before .before
+    .before .before in
     let c2 = c1 .before .before .before .before .before .before .before .before .before in
     c1 .feed-first .kept .1 .1 .1 .1 .0 ∙ c2 .loop .inv .4
 
 same-length-9 : tie.Need-same-length-9 Inv-loop μ-loop
 same-length-9 c =
-    let c1 = c .before .before .before .before .before .before .before .before .before .before .before .before .before .before .before .before .before in
+    let c1 =
+    c .before .before .before .before .before .before .before .before .before .before .before .before .before .before .before
+    .before .before in
     let c2 = c1 .before .before .before .before .before .before .before .before .before in
     c1 .feed-first .kept .1 .1 .1 .1 .1 .0 ∙ c2 .loop .inv .5
 
 same-length-10 : tie.Need-same-length-10 Inv-loop μ-loop
 same-length-10 c =
-    let c1 = c .before .before .before .before .before .before .before .before .before .before .before .before .before .before .before .before .before in
+    let c1 =
+    c .before .before .before .before .before .before .before .before .before .before .before .before .before .before .before
+    .before .before in
     let c2 = c1 .before .before .before .before .before .before .before .before .before in
     c1 .feed-first .kept .1 .1 .1 .1 .1 .1 .0 ∙ c2 .loop .inv .6
 
 same-length-11 : tie.Need-same-length-11 Inv-loop μ-loop
 same-length-11 c =
-    let c1 = c .before .before .before .before .before .before .before .before .before .before .before .before .before .before .before .before .before in
+    let c1 =
+    c .before .before .before .before .before .before .before .before .before .before .before .before .before .before .before
+    .before .before in
     let c2 = c1 .before .before .before .before .before .before .before .before .before in
     c1 .feed-first .kept .1 .1 .1 .1 .1 .1 .1 .0 ∙ c2 .loop .inv .7
 
 same-length-12 : tie.Need-same-length-12 Inv-loop μ-loop
 same-length-12 c =
-    let c1 = c .before .before .before .before .before .before .before .before .before .before .before .before .before .before .before .before .before in
+    let c1 =
+    c .before .before .before .before .before .before .before .before .before .before .before .before .before .before .before
+    .before .before in
     let c2 = c1 .before .before .before .before .before .before .before .before .before in
     c1 .feed-first .kept .1 .1 .1 .1 .1 .1 .1 .1 .0 ∙ c2 .loop .inv .8
 
@@ -147,7 +161,9 @@ returns-2 c =
 
 add-at : tie.Need-add-at Inv-loop μ-loop
 add-at c =
-    let c1 = c .before .before .before .before .before .before .before .before .before .before .before .before .before .before .before .before .before .before in
+    let c1 =
+    c .before .before .before .before .before .before .before .before .before .before .before .before .before .before .before .before
+    .before .before in
     let c2 = c1 .before .before .before .before .before .before .before .before .before in
     omega (arith, c2 .loop .inv, simp length-take at (c1 .feed-first .ensures .1 .1))
 

@@ -27,7 +27,10 @@ enum-told-4 c = search needs
 
 returns : tie.Need-returns
 unfolding loweredBy
-returns c = c .lesser .ensures ∙ ap (λ (s : Removed). loweredBy (removedOf s) (c .before .before .before .before .args .floor)) (sym (c .before .before .self .given .1))
+returns c =
+    c .lesser .ensures
+    ∙ ap (λ (s : Removed). loweredBy (removedOf s) (c .before .before .before .before .args .floor))
+    (sym (c .before .before .self .given .1))
 
 returns-2 : tie.Need-returns-2
 unfolding loweredBy

@@ -46,7 +46,9 @@ take-byte-requires c κs =
 
 add-i : tie.Need-add-i Inv-loop μ-loop
 add-i c =
-    let c1 = c .before .before .before .before .before .before .before .before .before .before .before .before .before .before .before .before .before in
+    let c1 =
+    c .before .before .before .before .before .before .before .before .before .before .before .before .before .before .before
+    .before .before in
     let c2 = c1 .before .before .before .before .before .before .before .before .before .before in
     let bytes = c2 .args .chunk in
     let below = c1 .loop-test .taken in
@@ -95,7 +97,8 @@ returns-2 c =
     let c3 = c2 .before in
     let c4 = c3 .before in
     let c5 = c4 .before .before .before .before .before .before .before in
-    chunk-in _ (c4 .fits-reader .ensures) (now (c5 .args .chunk)) (not-false (c4 .fits-reader .result) (c3 .if1 .left)) (turn-end (c2 .loop .inv) (c1 .loop-test .left)) (c .reply-of .ensures)
+    chunk-in _ (c4 .fits-reader .ensures) (now (c5 .args .chunk)) (not-false (c4 .fits-reader .result) (c3 .if1 .left))
+    (turn-end (c2 .loop .inv) (c1 .loop-test .left)) (c .reply-of .ensures)
 
 pub chunk-spec : {M : Type 1} → statement M
 chunk-spec =

@@ -33,7 +33,8 @@ returns-2 c =
     let c1 = c .before in
     let c2 = c1 .before .before in
     let c3 = c2 .before in
-    end-noted _ (c3 .fits-reader .ensures) (not-false (c3 .fits-reader .result) (c2 .if1 .left)) (ap noteOf (c1 .enum-told2 .given .1)) (c .reply-of .ensures)
+    end-noted _ (c3 .fits-reader .ensures) (not-false (c3 .fits-reader .result) (c2 .if1 .left)) (ap noteOf (c1 .enum-told2 .given .1))
+    (c .reply-of .ensures)
 
 close-requires : tie.Need-close-requires
 close-requires c κs =
@@ -72,7 +73,8 @@ returns-3 c =
     let c2 = c1 .before .before .before .before .before .before in
     let c3 = c2 .before .before in
     let c4 = c3 .before in
-    end-on _ (c4 .fits-reader .ensures) (not-false (c4 .fits-reader .result) (c3 .if1 .left)) (ap noteOf (c2 .enum-told .given .1)) (c1 .close .ensures) (c .reply-of2 .ensures)
+    end-on _ (c4 .fits-reader .ensures) (not-false (c4 .fits-reader .result) (c3 .if1 .left)) (ap noteOf (c2 .enum-told .given .1))
+    (c1 .close .ensures) (c .reply-of2 .ensures)
 
 pub end-spec : {M : Type 1} → statement M
 end-spec =

@@ -17,7 +17,8 @@ returns : tie.Need-returns
 returns c =
     let at-fit = c .before in
     let a = at-fit .before .before .before .before .before .before .args in
-    let s : Set = record { lengths = now (a .lengths); bins = now (a .bins); heads = now (a .heads); names = now (a .names); cells = now (a .cells) } in
+    let s : Set =
+    record { lengths = now (a .lengths); bins = now (a .bins); heads = now (a .heads); names = now (a .names); cells = now (a .cells) } in
     next-unfit s (cursorOf (a .self)) (at-fit .fit-set .ensures) (not-true (at-fit .fit-set .result) (c .if1 .taken))
 
 fine-requires : tie.Need-fine-requires
@@ -32,8 +33,10 @@ returns-2 c =
     let at-if1 = at-fine .before .before .before in
     let at-fit = at-if1 .before in
     let a = at-fit .before .before .before .before .before .before .args in
-    let s : Set = record { lengths = now (a .lengths); bins = now (a .bins); heads = now (a .heads); names = now (a .names); cells = now (a .cells) } in
-    next-bad s (cursorOf (a .self)) (at-fit .fit-set .ensures) (not-false (at-fit .fit-set .result) (at-if1 .if1 .left)) (at-fine .fine .ensures) (not-true (at-fine .fine .result) (c .if2 .taken))
+    let s : Set =
+    record { lengths = now (a .lengths); bins = now (a .bins); heads = now (a .heads); names = now (a .names); cells = now (a .cells) } in
+    next-bad s (cursorOf (a .self)) (at-fit .fit-set .ensures) (not-false (at-fit .fit-set .result) (at-if1 .if1 .left))
+    (at-fine .fine .ensures) (not-true (at-fine .fine .result) (c .if2 .taken))
 
 walk-requires : tie.Need-walk-requires
 walk-requires c κs =
@@ -41,8 +44,10 @@ walk-requires c κs =
     let at-if1 = at-fine .before .before .before in
     let at-fit = at-if1 .before in
     let a = at-fit .before .before .before .before .before .before .args in
-    let s : Set = record { lengths = now (a .lengths); bins = now (a .bins); heads = now (a .heads); names = now (a .names); cells = now (a .cells) } in
-    next-stands s (cursorOf (a .self)) (at-fit .fit-set .ensures) (not-false (at-fit .fit-set .result) (at-if1 .if1 .left)) (at-fine .fine .ensures) (not-false (at-fine .fine .result) (c .if2 .left))
+    let s : Set =
+    record { lengths = now (a .lengths); bins = now (a .bins); heads = now (a .heads); names = now (a .names); cells = now (a .cells) } in
+    next-stands s (cursorOf (a .self)) (at-fit .fit-set .ensures) (not-false (at-fit .fit-set .result) (at-if1 .if1 .left))
+    (at-fine .fine .ensures) (not-false (at-fine .fine .result) (c .if2 .left))
 
 returns-3 : tie.Need-returns-3
 returns-3 c =
@@ -51,7 +56,8 @@ returns-3 c =
     let at-if1 = at-fine .before .before .before in
     let at-fit = at-if1 .before in
     let a = at-fit .before .before .before .before .before .before .args in
-    let s : Set = record { lengths = now (a .lengths); bins = now (a .bins); heads = now (a .heads); names = now (a .names); cells = now (a .cells) } in
+    let s : Set =
+    record { lengths = now (a .lengths); bins = now (a .bins); heads = now (a .heads); names = now (a .names); cells = now (a .cells) } in
     next-walked
     s
     (cursorOf (a .self))
