@@ -21,18 +21,40 @@ pub(crate) fn more(count: u32, by: u32) -> u32 {
 
 // The index that an upload starts on.
 pub(crate) fn begin(
+    names: &mut [u64],
+    cells: &mut [u32],
+    head: &mut [u32],
+    sizes: &mut [u32],
+    lines: &mut [u64],
+) {
+    fresh(names, cells, head, sizes, lines);
+    insert(names, cells, head, sizes, lines, 9, 9, 77);
+}
+
+// The same in an index of eight slots and eight lines.
+fn begin_here(
     names: &mut [u64; 16],
     cells: &mut [u32; 56],
     head: &mut [u32; 3],
     sizes: &mut [u32; 8],
     lines: &mut [u64; 49],
 ) {
-    fresh(names, cells, head, sizes, lines);
-    insert(names, cells, head, sizes, lines, 9, 9, 77);
+    begin(names, cells, head, sizes, lines);
+}
+
+// One name more.
+fn plant(
+    names: &mut [u64; 16],
+    cells: &mut [u32; 56],
+    head: &mut [u32; 3],
+    sizes: &mut [u32; 8],
+    lines: &mut [u64; 49],
+) {
+    insert(names, cells, head, sizes, lines, 1, 2, 3);
 }
 
 // The bytes from i to before j as one chunk; all of them where i and j are not in their order within them.
-pub(crate) fn read_part(
+fn read_part(
     reader: Reader,
     names: &mut [u64; 16],
     cells: &mut [u32; 56],
@@ -51,7 +73,34 @@ pub(crate) fn read_part(
     reader.chunk(names, cells, head, sizes, lines, bytes)
 }
 
-// The upload in three chunks, cut at i and j: what the end call answers.
+// Whether two indexes have the same words.
+pub(crate) fn same(
+    names: &[u64; 16],
+    cells: &[u32; 56],
+    head: &[u32; 3],
+    sizes: &[u32; 8],
+    lines: &[u64; 49],
+    names2: &[u64; 16],
+    cells2: &[u32; 56],
+    head2: &[u32; 3],
+    sizes2: &[u32; 8],
+    lines2: &[u64; 49],
+) -> bool {
+    same_index(
+        names,
+        cells,
+        head,
+        sizes,
+        lines,
+        names2,
+        cells2,
+        head2,
+        sizes2,
+        lines2,
+    )
+}
+
+// The upload in three chunks, cut at i and j, into an index begun anew: what the end call answers.
 fn read_cut(
     names: &mut [u64; 16],
     cells: &mut [u32; 56],
@@ -62,6 +111,7 @@ fn read_cut(
     i: usize,
     j: usize,
 ) -> Answer {
+    begin(names, cells, head, sizes, lines);
     let started = Reader::start(names, cells, head, sizes, lines);
     let first = read_part(
         started.reader,
@@ -82,185 +132,77 @@ fn read_cut(
     reply.answer()
 }
 
-// Reads it cut at i and j on an index begun anew: 1 where the answer or a word of the index is another than that of the index beside it.
-fn differs(
-    names: &mut [u64; 16],
-    cells: &mut [u32; 56],
-    head: &mut [u32; 3],
-    sizes: &mut [u32; 8],
-    lines: &mut [u64; 49],
-    names2: &[u64; 16],
-    cells2: &[u32; 56],
-    head2: &[u32; 3],
-    sizes2: &[u32; 8],
-    lines2: &[u64; 49],
-    wanted: u64,
-    bytes: &[u8],
-    i: usize,
-    j: usize,
-) -> u32 {
-    begin(names, cells, head, sizes, lines);
-    let told = answer_word(read_cut(names, cells, head, sizes, lines, bytes, i, j));
-    let same = same_index(
-        names,
-        cells,
-        head,
-        sizes,
-        lines,
-        names2,
-        cells2,
-        head2,
-        sizes2,
-        lines2,
+// 1 where the upload cut at i and j has another answer, or leaves another word, than it has uncut.
+fn differs(bytes: &[u8], i: usize, j: usize) -> u32 {
+    let mut names = [0u64; 16];
+    let mut cells = [0u32; 56];
+    let mut head = [0u32; 3];
+    let mut sizes = [0u32; 8];
+    let mut lines = [0u64; 49];
+    let mut names2 = [0u64; 16];
+    let mut cells2 = [0u32; 56];
+    let mut head2 = [0u32; 3];
+    let mut sizes2 = [0u32; 8];
+    let mut lines2 = [0u64; 49];
+    let cut = read_cut(
+        &mut names,
+        &mut cells,
+        &mut head,
+        &mut sizes,
+        &mut lines,
+        bytes,
+        i,
+        j,
     );
-    one(told != wanted || !same)
+    let uncut = read_cut(
+        &mut names2,
+        &mut cells2,
+        &mut head2,
+        &mut sizes2,
+        &mut lines2,
+        bytes,
+        0,
+        0,
+    );
+    let left = same(
+        &names,
+        &cells,
+        &head,
+        &sizes,
+        &lines,
+        &names2,
+        &cells2,
+        &head2,
+        &sizes2,
+        &lines2,
+    );
+    one(answer_word(cut) != answer_word(uncut) || !left)
 }
 
 // The same for every j from i on: how many differ.
-fn differ_from(
-    names: &mut [u64; 16],
-    cells: &mut [u32; 56],
-    head: &mut [u32; 3],
-    sizes: &mut [u32; 8],
-    lines: &mut [u64; 49],
-    names2: &[u64; 16],
-    cells2: &[u32; 56],
-    head2: &[u32; 3],
-    sizes2: &[u32; 8],
-    lines2: &[u64; 49],
-    wanted: u64,
-    bytes: &[u8],
-    i: usize,
-) -> u32 {
+fn differ_from(bytes: &[u8], i: usize) -> u32 {
     let mut count: u32 = 0;
     let mut j = i;
     while j <= bytes.len() {
-        count = more(
-            count,
-            differs(
-                names,
-                cells,
-                head,
-                sizes,
-                lines,
-                names2,
-                cells2,
-                head2,
-                sizes2,
-                lines2,
-                wanted,
-                bytes,
-                i,
-                j,
-            ),
-        );
+        count = more(count, differs(bytes, i, j));
         j += 1;
     }
     count
 }
 
 // The same for every i.
-fn differ_in_all(
-    names: &mut [u64; 16],
-    cells: &mut [u32; 56],
-    head: &mut [u32; 3],
-    sizes: &mut [u32; 8],
-    lines: &mut [u64; 49],
-    names2: &[u64; 16],
-    cells2: &[u32; 56],
-    head2: &[u32; 3],
-    sizes2: &[u32; 8],
-    lines2: &[u64; 49],
-    wanted: u64,
-    bytes: &[u8],
-) -> u32 {
+fn differ_in_all(bytes: &[u8]) -> u32 {
     let mut count: u32 = 0;
     let mut i = 0;
     while i <= bytes.len() {
-        count = more(
-            count,
-            differ_from(
-                names,
-                cells,
-                head,
-                sizes,
-                lines,
-                names2,
-                cells2,
-                head2,
-                sizes2,
-                lines2,
-                wanted,
-                bytes,
-                i,
-            ),
-        );
+        count = more(count, differ_from(bytes, i));
         i += 1;
     }
     count
 }
 
-// Reads the upload whole: prints the answer, and hands it back as its word.
-fn read_whole(
-    label: &[u8],
-    names: &mut [u64; 16],
-    cells: &mut [u32; 56],
-    head: &mut [u32; 3],
-    sizes: &mut [u32; 8],
-    lines: &mut [u64; 49],
-    bytes: &[u8],
-) -> u64 {
-    begin(names, cells, head, sizes, lines);
-    let told = read_cut(names, cells, head, sizes, lines, bytes, 0, 0);
-    answer(label, b"entries ", told);
-    answer_word(told)
-}
-
-// Prints whether an index is the one of the start, begun anew beside it, and whether a name planted there is noticed.
-fn hold_to_start(
-    names: &mut [u64; 16],
-    cells: &mut [u32; 56],
-    head: &mut [u32; 3],
-    sizes: &mut [u32; 8],
-    lines: &mut [u64; 49],
-    names2: &[u64; 16],
-    cells2: &[u32; 56],
-    head2: &[u32; 3],
-    sizes2: &[u32; 8],
-    lines2: &[u64; 49],
-) {
-    begin(names, cells, head, sizes, lines);
-    let same = same_index(
-        names,
-        cells,
-        head,
-        sizes,
-        lines,
-        names2,
-        cells2,
-        head2,
-        sizes2,
-        lines2,
-    );
-    number(b", as at the start ", one(same));
-    insert(names, cells, head, sizes, lines, 1, 2, 3);
-    let unnoticed = same_index(
-        names,
-        cells,
-        head,
-        sizes,
-        lines,
-        names2,
-        cells2,
-        head2,
-        sizes2,
-        lines2,
-    );
-    number(b", planted and noticed ", one(!unnoticed));
-    say(b"\n");
-}
-
-// The upload whole, and then cut in three at every pair of bytes.
+// Prints what the upload is answered, in how many ways to cut it that differs, whether it leaves the index of the start, and whether a
+// name planted there is noticed.
 pub(crate) fn whole_and_cut(label: &[u8], bytes: &[u8]) {
     let mut names = [0u64; 16];
     let mut cells = [0u32; 56];
@@ -272,40 +214,45 @@ pub(crate) fn whole_and_cut(label: &[u8], bytes: &[u8]) {
     let mut head2 = [0u32; 3];
     let mut sizes2 = [0u32; 8];
     let mut lines2 = [0u64; 49];
-    let wanted = read_whole(
-        label,
+    let told = read_cut(
         &mut names2,
         &mut cells2,
         &mut head2,
         &mut sizes2,
         &mut lines2,
         bytes,
+        0,
+        0,
     );
-    let count = differ_in_all(
-        &mut names,
-        &mut cells,
-        &mut head,
-        &mut sizes,
-        &mut lines,
-        &names2,
-        &cells2,
-        &head2,
-        &sizes2,
-        &lines2,
-        wanted,
-        bytes,
-    );
-    number(b", differences where it is cut ", count);
-    hold_to_start(
-        &mut names,
-        &mut cells,
-        &mut head,
-        &mut sizes,
-        &mut lines,
+    begin_here(&mut names, &mut cells, &mut head, &mut sizes, &mut lines);
+    let left = same(
+        &names,
+        &cells,
+        &head,
+        &sizes,
+        &lines,
         &names2,
         &cells2,
         &head2,
         &sizes2,
         &lines2,
     );
+    plant(&mut names, &mut cells, &mut head, &mut sizes, &mut lines);
+    let unnoticed = same(
+        &names,
+        &cells,
+        &head,
+        &sizes,
+        &lines,
+        &names2,
+        &cells2,
+        &head2,
+        &sizes2,
+        &lines2,
+    );
+    answer(label, b"entries ", told);
+    number(b", differences where it is cut ", differ_in_all(bytes));
+    number(b", as at the start ", one(left));
+    number(b", planted and noticed ", one(!unnoticed));
+    say(b"\n");
 }

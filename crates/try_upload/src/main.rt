@@ -1,13 +1,19 @@
-// Reads uploads cut at every pair of bytes and holds each run against the one that is not cut; sees that a refusal leaves the index of
-// the start, that a planted name is noticed, and what comes of foreign writes between two chunks.
+// Reads uploads cut at every pair of bytes and holds each run against the one that is not cut; has a sample refused at every byte where
+// that can be, and sees that each refusal leaves the index of the start and that a planted name is noticed; and has somebody else write
+// between two calls.
 mod cuts;
-mod ended;
 mod foreign;
+mod refused;
+mod sample;
 mod table;
 
 use cuts::whole_and_cut;
-use ended::try_ended;
 use foreign::try_foreign;
+use refused::try_refused;
+use sample::LENGTH;
+use sample::ROOM;
+use sample::fill;
+use sample::first;
 use table::try_full;
 
 // The uploads, each of the name that its line has.
@@ -33,6 +39,11 @@ const IN_AN_ENTRY: [u8; 43] =
 const A_BYTE_MORE: [u8; 45] =
     *b"\x01\x01\0\x01\0\0\0\0\0\0\0\x02\0\0\0\0\0\0\0\x02\0\0\x03\0\0\x04\x01\0\x01\0\0\0\0\0\0\0\x03\0\0\0\0\0\0\0\0";
 
+// The sample of the trials.
+fn cut_sample(bytes: &[u8; ROOM]) {
+    whole_and_cut(b"the sample: ", first(bytes, LENGTH));
+}
+
 fn main() {
     whole_and_cut(b"accepted: ", &ACCEPTED);
     whole_and_cut(b"wrong kind at once: ", &WRONG_AT_ONCE);
@@ -49,7 +60,10 @@ fn main() {
     whole_and_cut(b"cut inside an entry: ", &IN_AN_ENTRY);
     whole_and_cut(b"nothing: ", b"");
     whole_and_cut(b"a byte more: ", &A_BYTE_MORE);
-    try_ended(&ACCEPTED);
+    let mut sample = [0u8; ROOM];
+    fill(&mut sample);
+    cut_sample(&sample);
+    try_refused();
     try_full();
-    try_foreign();
+    try_foreign(&ACCEPTED);
 }

@@ -8,12 +8,10 @@ use Rattle.try_upload.proofs.cuts.differ_from.Statement.{statement}
 use Rattle.try_upload.proofs.cuts.differ_from.Tie as tie
 
 abbrev Inv-loop : tie.InvT-loop
-Inv-loop names₀ cells₀ head₀ sizes₀ lines₀ names2 cells2 head2 sizes2 lines2 wanted bytes i count₀ j₀ names cells head sizes lines count j =
-    Unit
+Inv-loop bytes i count₀ j₀ count j = Unit
 
 abbrev μ-loop : tie.MeasureT-loop
-μ-loop names₀ cells₀ head₀ sizes₀ lines₀ names2 cells2 head2 sizes2 lines2 wanted bytes i count₀ j₀ names cells head sizes lines count j =
-    length bytes + 1 - j
+μ-loop bytes i count₀ j₀ count j = length bytes + 1 - j
 
 loop-holds : tie.Need-loop-holds Inv-loop μ-loop
 loop-holds c = tt

@@ -8,12 +8,10 @@ use Rattle.try_upload.proofs.cuts.differ_in_all.Statement.{statement}
 use Rattle.try_upload.proofs.cuts.differ_in_all.Tie as tie
 
 abbrev Inv-loop : tie.InvT-loop
-Inv-loop names₀ cells₀ head₀ sizes₀ lines₀ names2 cells2 head2 sizes2 lines2 wanted bytes count₀ i₀ names cells head sizes lines count i =
-    Unit
+Inv-loop bytes count₀ i₀ count i = Unit
 
 abbrev μ-loop : tie.MeasureT-loop
-μ-loop names₀ cells₀ head₀ sizes₀ lines₀ names2 cells2 head2 sizes2 lines2 wanted bytes count₀ i₀ names cells head sizes lines count i =
-    length bytes + 1 - i
+μ-loop bytes count₀ i₀ count i = length bytes + 1 - i
 
 loop-holds : tie.Need-loop-holds Inv-loop μ-loop
 loop-holds c = tt
