@@ -2,13 +2,13 @@
 use mathlib.Core.Path.{_≡_, ap, sym, _∙_}
 use Rattle.script_rules.specs.Feeding.{Line as Held, Fed as Outcome}
 use Rattle.console.specs.Meanings.{fedOf}
-use Rattle.console.specs.Feeding.{Call, indexOf, Feeding}
+use Rattle.console.specs.Feeding.{FeedCall, indexOf, Feeding}
 use Rattle.console.specs.declared.feed.Line.{Line}
 
 abbrev lineBack : Held → Line
 lineBack l = record { bytes = l .bytes; count = l .count }
 
-abbrev back : Outcome → Call
+abbrev back : Outcome → FeedCall
 back o = record {
   fed = record { number = o .number; line = lineBack (o .desk .line); taken = o .taken; written = o .desk .paper .at };
   names = o .desk .index .live .names;
@@ -19,7 +19,7 @@ back o = record {
   out = o .desk .paper .bytes;
 }
 
-one : {o : Outcome} (a b : Call) → fedOf (a .fed) (indexOf a) (a .out) ≡ o → fedOf (b .fed) (indexOf b) (b .out) ≡ o → a ≡ b
+one : {o : Outcome} (a b : FeedCall) → fedOf (a .fed) (indexOf a) (a .out) ≡ o → fedOf (b .fed) (indexOf b) (b .out) ≡ o → a ≡ b
 one a b e f = ap back (e ∙ sym f)
 
 pub feeding : Feeding

@@ -5,17 +5,19 @@ use mathlib.Core.List.{List}
 use Prim.Native.Nat.{ℕ, _<_, _≤_}
 use lib.ListN.{length, drop}
 use borrow.Author.Tests.{lt-ltb, le-ltb}
-use Rattle.script_rules.specs.Text.{read, unread, readNumber, readNext, begins, plusWord, minusWord, askWord, rollWord, markWord, listWord}
-use Rattle.script_rules.specs.Commands.{Command, insert, remove, find, rollback, mark, list, bad, most64, most32, alone, entryOf, pairOf}
+use Rattle.script_rules.specs.Text.{read, unread, readNumber, readNext, startsWith, plusWord, minusWord, askWord, rollWord, markWord}
+use Rattle.script_rules.specs.Text.{listWord}
+use Rattle.script_rules.specs.Commands.{Command, insert, remove, find, rollback, mark, list, bad, most64, most32, alone, insertOf}
+use Rattle.script_rules.specs.Commands.{pairCommandOf}
 use Rattle.script_rules.specs.Commands.{markOf, meant, spoken}
 
 module _ (l : List ℕ) where
-  pub entry-none : unread ≡ readNumber most64 l → bad ≡ entryOf l
-  unfolding entryOf
+  pub entry-none : unread ≡ readNumber most64 l → bad ≡ insertOf l
+  unfolding insertOf
   entry-none e = rw (← e)
 
-  pub pair-none : (c : ℕ → ℕ → Command) → unread ≡ readNumber most64 l → bad ≡ pairOf c l
-  unfolding pairOf
+  pub pair-none : (c : ℕ → ℕ → Command) → unread ≡ readNumber most64 l → bad ≡ pairCommandOf c l
+  unfolding pairCommandOf
   pair-none c e = rw (← e)
 
   pub mark-none : unread ≡ readNumber most32 l → bad ≡ markOf l
@@ -27,59 +29,59 @@ module _ (l : List ℕ) where
   mark-all e = rw (← e)
 
   module _ {h : ℕ} {rest : List ℕ} (first : read h rest ≡ readNumber most64 l) where
-    pub entry-one : unread ≡ readNext most64 rest → bad ≡ entryOf l
-    unfolding entryOf
+    pub entry-one : unread ≡ readNext most64 rest → bad ≡ insertOf l
+    unfolding insertOf
     entry-one e = rw (← first, ← e)
 
-    pub pair-one : (c : ℕ → ℕ → Command) → unread ≡ readNext most64 rest → bad ≡ pairOf c l
-    unfolding pairOf
+    pub pair-one : (c : ℕ → ℕ → Command) → unread ≡ readNext most64 rest → bad ≡ pairCommandOf c l
+    unfolding pairCommandOf
     pair-one c e = rw (← first, ← e)
 
-    pub pair-all : (c : ℕ → ℕ → Command) {k : ℕ} {end : List ℕ} → read k end ≡ readNext most64 rest → alone (c h k) end ≡ pairOf c l
-    unfolding pairOf
+    pub pair-all : (c : ℕ → ℕ → Command) {k : ℕ} {end : List ℕ} → read k end ≡ readNext most64 rest → alone (c h k) end ≡ pairCommandOf c l
+    unfolding pairCommandOf
     pair-all c e = rw (← first, ← e)
 
     module _ {k : ℕ} {more : List ℕ} (second : read k more ≡ readNext most64 rest) where
-      pub entry-two : unread ≡ readNext most32 more → bad ≡ entryOf l
-      unfolding entryOf
+      pub entry-two : unread ≡ readNext most32 more → bad ≡ insertOf l
+      unfolding insertOf
       entry-two e = rw (← first, ← second, ← e)
 
-      pub entry-all : {p : ℕ} {end : List ℕ} → read p end ≡ readNext most32 more → alone (insert h k p) end ≡ entryOf l
-      unfolding entryOf
+      pub entry-all : {p : ℕ} {end : List ℕ} → read p end ≡ readNext most32 more → alone (insert h k p) end ≡ insertOf l
+      unfolding insertOf
       entry-all e = rw (← first, ← second, ← e)
 
 -- The words are asked in turn; what the first that fits says is the line's meaning.
 module _ (l : List ℕ) where
-  pub by-plus : {d : Command} → begins plusWord l ≡ true → d ≡ entryOf (drop 2 l) → d ≡ meant l
+  pub by-plus : {d : Command} → startsWith plusWord l ≡ true → d ≡ insertOf (drop 2 l) → d ≡ meant l
   unfolding meant
   by-plus w e = rw w e
 
-  module _ (plus : begins plusWord l ≡ false) where
-    pub by-minus : {d : Command} → begins minusWord l ≡ true → d ≡ pairOf remove (drop 2 l) → d ≡ meant l
+  module _ (plus : startsWith plusWord l ≡ false) where
+    pub by-minus : {d : Command} → startsWith minusWord l ≡ true → d ≡ pairCommandOf remove (drop 2 l) → d ≡ meant l
     unfolding meant
     by-minus w e = rw (plus, w) e
 
-    module _ (minus : begins minusWord l ≡ false) where
-      pub by-ask : {d : Command} → begins askWord l ≡ true → d ≡ pairOf find (drop 2 l) → d ≡ meant l
+    module _ (minus : startsWith minusWord l ≡ false) where
+      pub by-ask : {d : Command} → startsWith askWord l ≡ true → d ≡ pairCommandOf find (drop 2 l) → d ≡ meant l
       unfolding meant
       by-ask w e = rw (plus, minus, w) e
 
-      module _ (ask : begins askWord l ≡ false) where
-        pub by-roll : {d : Command} → begins rollWord l ≡ true → d ≡ markOf (drop 2 l) → d ≡ meant l
+      module _ (ask : startsWith askWord l ≡ false) where
+        pub by-roll : {d : Command} → startsWith rollWord l ≡ true → d ≡ markOf (drop 2 l) → d ≡ meant l
         unfolding meant
         by-roll w e = rw (plus, minus, ask, w) e
 
-        module _ (roll : begins rollWord l ≡ false) where
-          pub by-mark : {d : Command} → begins markWord l ≡ true → d ≡ alone mark (drop 1 l) → d ≡ meant l
+        module _ (roll : startsWith rollWord l ≡ false) where
+          pub by-mark : {d : Command} → startsWith markWord l ≡ true → d ≡ alone mark (drop 1 l) → d ≡ meant l
           unfolding meant
           by-mark w e = rw (plus, minus, ask, roll, w) e
 
-          module _ (marks : begins markWord l ≡ false) where
-            pub by-list : {d : Command} → begins listWord l ≡ true → d ≡ alone list (drop 1 l) → d ≡ meant l
+          module _ (marks : startsWith markWord l ≡ false) where
+            pub by-list : {d : Command} → startsWith listWord l ≡ true → d ≡ alone list (drop 1 l) → d ≡ meant l
             unfolding meant
             by-list w e = rw (plus, minus, ask, roll, marks, w) e
 
-            pub by-none : begins listWord l ≡ false → bad ≡ meant l
+            pub by-none : startsWith listWord l ≡ false → bad ≡ meant l
             unfolding meant
             by-none w = rw (plus, minus, ask, roll, marks, w)
 

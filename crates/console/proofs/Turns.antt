@@ -10,10 +10,10 @@ use Rattle.index_rules.specs.Index.{Index, Outcome, outcome}
 use Rattle.script_rules.specs.Text.{space, noText}
 use Rattle.script_rules.specs.Answers.{numbered, numberLine, valueLine, told, foundValue, foundText, searchLine}
 use Rattle.script_rules.specs.Commands.{Command}
-use Rattle.script_rules.specs.Feeding.{Paper, Turn, typed, performed}
+use Rattle.script_rules.specs.Feeding.{Paper, CommandTurn, typed, performed}
 use Rattle.script_rules.proofs.Feeding.{Within, typed-within}
 
-abbrev turn : Index → Paper → Turn
+abbrev turn : Index → Paper → CommandTurn
 turn ix p = record { index = ix; paper = p }
 
 -- A refusal is printed with its number, any other answer by its value.
@@ -52,7 +52,7 @@ said word p o {a} {b} {l} {q} e f g =
     cc
 
 -- The command that was meant.
-pub turn-of : (ix : Index) (p : Paper) {c d : Command} {t : Turn} → t ≡ performed ix p d → c ≡ d → t ≡ performed ix p c
+pub turn-of : (ix : Index) (p : Paper) {c d : Command} {t : CommandTurn} → t ≡ performed ix p d → c ≡ d → t ≡ performed ix p c
 turn-of ix p e f = rw f e
 
 -- A command that only reads leaves the tree and the journal.
@@ -60,5 +60,5 @@ pub read-turn : (ix : Index) {q t : Paper} → q ≡ t → turn ix q ≡ turn ix
 read-turn ix e = ap (turn ix) e
 
 -- An answer is written within its buffer.
-pub turn-within : (ix : Index) (p : Paper) (c : Command) {t : Turn} → t ≡ performed ix p c → Within p → Within (t .paper)
+pub turn-within : (ix : Index) (p : Paper) (c : Command) {t : CommandTurn} → t ≡ performed ix p c → Within p → Within (t .paper)
 turn-within ix p c e w = rw e (typed-within p _ w)

@@ -13,13 +13,13 @@ abbrev pub metOf : Met → Count
 metOf (Slots c) = some c
 metOf Lost = none
 
-abbrev pub lineOf : Line → Held
-lineOf l = record { bytes = l .bytes; count = l .count }
+abbrev pub heldLine : Line → Held
+heldLine l = record { bytes = l .bytes; count = l .count }
 
 -- A call's answer, with what it leaves of the tree, the journal and the buffer.
 abbrev pub fedOf : Fed → Index → List ℕ → Outcome
 fedOf r ix out = record {
   number = r .number;
-  desk = record { line = lineOf (r .line); index = ix; paper = record { bytes = out; at = r .written } };
+  desk = record { line = heldLine (r .line); index = ix; paper = record { bytes = out; at = r .written } };
   taken = r .taken;
 }

@@ -30,7 +30,7 @@ ghost use Rattle.slots.specs.Coded.{answerOf};
 ghost use Rattle.tree_rules.specs.Find.{counted as countedLooks};
 ghost use Rattle.tree.specs.Find.{countedOf};
 ghost use Rattle.script_rules.specs.Answers.{numbered, numberLine, told, foundText, searchLine};
-ghost use Rattle.script_rules.specs.Answers.{met, entryLine, entryLines, listing, marking};
+ghost use Rattle.script_rules.specs.Answers.{met, entryLine, entryLines, listText, marking};
 ghost use Rattle.script_rules.specs.Commands.{insert as inserting, remove as removing, rollback as rolling};
 ghost use Rattle.script_rules.specs.Feeding.{typed, performed, lentPaper, lentTurn};
 ghost use Rattle.console.specs.Phrases.{commandOf};
@@ -135,7 +135,7 @@ fn tell_list(
 ) -> usize
     ensures { λ r. ⌜ lentPaper (now (out .exit)) r
         ≡ typed (lentPaper (now (out .entry)) at)
-        (listing (lentTree (now (names .entry)) (now (cells .entry)) (now (head .entry)) (now (sizes .entry)))) ⌝ }
+        (listText (lentTree (now (names .entry)) (now (cells .entry)) (now (head .entry)) (now (sizes .entry)))) ⌝ }
 {
     if !fit(names, cells, head, sizes) {
         return tell(out, at, b"no ", 1);

@@ -6,9 +6,9 @@ ghost use Prim.Native.Nat.{_≤_};
 ghost use lib.ListN.{length, replicate, take};
 ghost use Rattle.index_rules.specs.Index.{lent};
 ghost use Rattle.script_rules.specs.Commands.{spoken};
-ghost use Rattle.script_rules.specs.Feeding.{Line as Held, blank as blankLine, performed, heldOf, noted, fedByte, feeds, finishes};
+ghost use Rattle.script_rules.specs.Feeding.{Line as Held, blankLine, performed, heldOf, noted, fedByte, feeds, finishes};
 ghost use Rattle.script_rules.specs.Feeding.{lentPaper, lentTurn, lentDesk};
-ghost use Rattle.console.specs.Meanings.{lineOf, fedOf};
+ghost use Rattle.console.specs.Meanings.{heldLine, fedOf};
 
 // No answer is longer: 4,096 entries of at most 63 bytes, and the line before them.
 pub const LONGEST: usize = 262144;
@@ -33,7 +33,7 @@ pub struct Fed {
 
 // No line has begun.
 pub fn blank() -> Line
-    ensures { λ r. ⌜ lineOf r ≡ blankLine ⌝ }
+    ensures { λ r. ⌜ heldLine r ≡ blankLine ⌝ }
 {
     Line {
         bytes: [0u8; 81],
@@ -43,7 +43,7 @@ pub fn blank() -> Line
 
 // One byte more of the line.
 fn note(line: Line, b: u8) -> Line
-    ensures { λ r. ⌜ lineOf r ≡ noted (lineOf line) b ⌝ }
+    ensures { λ r. ⌜ heldLine r ≡ noted (heldLine line) b ⌝ }
 {
     let mut bytes = line.bytes;
     let count = line.count;
@@ -114,7 +114,7 @@ fn reply_kept(
     ensures { λ r. ⌜ lentTurn (now (names .exit)) (now (cells .exit)) (now (head .exit)) (now (sizes .exit)) (now (lines .exit))
         (now (out .exit)) r
         ≡ performed (lent (now (names .entry)) (now (cells .entry)) (now (head .entry)) (now (sizes .entry)) (now (lines .entry)))
-        (lentPaper (now (out .entry)) at) (spoken (heldOf (lineOf line))) ⌝ }
+        (lentPaper (now (out .entry)) at) (spoken (heldOf (heldLine line))) ⌝ }
 {
     let bytes = line.bytes;
     reply_first(
@@ -147,9 +147,9 @@ fn take_byte(
     out: &mut [u8],
     at: usize,
 ) -> Step
-    ensures { λ r. ⌜ lentDesk (lineOf (r .line)) (now (names .exit)) (now (cells .exit)) (now (head .exit)) (now (sizes .exit))
+    ensures { λ r. ⌜ lentDesk (heldLine (r .line)) (now (names .exit)) (now (cells .exit)) (now (head .exit)) (now (sizes .exit))
         (now (lines .exit)) (now (out .exit)) (r .at)
-        ≡ fedByte (lentDesk (lineOf line) (now (names .entry)) (now (cells .entry)) (now (head .entry)) (now (sizes .entry))
+        ≡ fedByte (lentDesk (heldLine line) (now (names .entry)) (now (cells .entry)) (now (head .entry)) (now (sizes .entry))
         (now (lines .entry)) (now (out .entry)) at) b ⌝ }
 {
     if b == b'\n' {
@@ -179,7 +179,7 @@ pub fn feed(
     ensures { λ r. ⌜ fedOf r
         (lent (now (names .exit)) (now (cells .exit)) (now (head .exit)) (now (sizes .exit)) (now (lines .exit))) (now (out .exit))
         ≡ feeds (now (chunk .entry))
-        (lentDesk (lineOf line) (now (names .entry)) (now (cells .entry)) (now (head .entry)) (now (sizes .entry))
+        (lentDesk (heldLine line) (now (names .entry)) (now (cells .entry)) (now (head .entry)) (now (sizes .entry))
         (now (lines .entry)) (now (out .entry)) 0) ⌝ }
     ensures bounds { λ r. ⌜ (r .written ≤ length (now (out .exit))) × (r .taken ≤ length (now (chunk .entry))) ⌝ }
 {
@@ -239,7 +239,7 @@ pub fn finish(
 ) -> Fed
     ensures { λ r. ⌜ fedOf r
         (lent (now (names .exit)) (now (cells .exit)) (now (head .exit)) (now (sizes .exit)) (now (lines .exit))) (now (out .exit))
-        ≡ finishes (lentDesk (lineOf line) (now (names .entry)) (now (cells .entry)) (now (head .entry)) (now (sizes .entry))
+        ≡ finishes (lentDesk (heldLine line) (now (names .entry)) (now (cells .entry)) (now (head .entry)) (now (sizes .entry))
         (now (lines .entry)) (now (out .entry)) 0) ⌝ }
     ensures bounds { λ r. ⌜ r .written ≤ length (now (out .exit)) ⌝ }
 {

@@ -2,9 +2,9 @@
 ghost use mathlib.Core.Path.{_≡_};
 ghost use Prim.Native.Nat.{ℕ, _≤_};
 ghost use lib.ListN.{drop};
-ghost use Rattle.script_rules.specs.Text.{readOn, readNumber, readNext, begins as starts};
+ghost use Rattle.script_rules.specs.Text.{readOn, readNumber, readNext, startsWith as starts};
 ghost use Rattle.script_rules.specs.Commands.{Command as Meant, remove as removing, find as finding};
-ghost use Rattle.script_rules.specs.Commands.{entryOf, pairOf, markOf, alone, meant, spoken};
+ghost use Rattle.script_rules.specs.Commands.{insertOf, pairCommandOf, markOf, alone, meant, spoken};
 ghost use Rattle.console.specs.Phrases.{readOf, commandOf, pairCommand};
 
 // The largest number of a field.
@@ -108,7 +108,7 @@ pub enum Command {
 
 // Hash, key and place, and the end of the line.
 fn entry(line: &[u8], at: usize) -> Command
-    ensures { λ r. ⌜ commandOf r ≡ entryOf (drop at (now (line .entry))) ⌝ }
+    ensures { λ r. ⌜ commandOf r ≡ insertOf (drop at (now (line .entry))) ⌝ }
 {
     let first = first_number(line, MOST64, at);
     let Number::Value(hash, after_hash) = first else {
@@ -136,7 +136,7 @@ enum Pair {
 
 // Hash and key, and the end of the line.
 fn two_numbers(line: &[u8], at: usize) -> Pair
-    ensures { λ r. ⌜ ((c : ℕ → ℕ → Meant) → pairCommand c r ≡ pairOf c (drop at (now (line .entry)))) ⌝ }
+    ensures { λ r. ⌜ ((c : ℕ → ℕ → Meant) → pairCommand c r ≡ pairCommandOf c (drop at (now (line .entry)))) ⌝ }
 {
     let first = first_number(line, MOST64, at);
     let Number::Value(hash, after_hash) = first else {
@@ -177,7 +177,7 @@ fn alone_after(line: &[u8], at: usize, command: Command) -> Command
 }
 
 fn removal(line: &[u8], at: usize) -> Command
-    ensures { λ r. ⌜ commandOf r ≡ pairOf removing (drop at (now (line .entry))) ⌝ }
+    ensures { λ r. ⌜ commandOf r ≡ pairCommandOf removing (drop at (now (line .entry))) ⌝ }
 {
     let named = two_numbers(line, at);
     match named {
@@ -187,7 +187,7 @@ fn removal(line: &[u8], at: usize) -> Command
 }
 
 fn question(line: &[u8], at: usize) -> Command
-    ensures { λ r. ⌜ commandOf r ≡ pairOf finding (drop at (now (line .entry))) ⌝ }
+    ensures { λ r. ⌜ commandOf r ≡ pairCommandOf finding (drop at (now (line .entry))) ⌝ }
 {
     let named = two_numbers(line, at);
     match named {

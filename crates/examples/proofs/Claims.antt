@@ -34,7 +34,7 @@ use Rattle.index_rules.specs.Calls.{after}
 use Rattle.index_rules.specs.Insert.{freeFrom, lowestFree, soughtIn, seated, grown, inserts}
 use Rattle.index_rules.specs.Present.{wherePresent}
 use Rattle.index_rules.specs.Remove.{unchained, wiped, shrunk, removalOf, afterRemove, removes}
-use Rattle.set_rules.specs.Words.{begins, doubling, doubled, fitTables, binOf, bini}
+use Rattle.set_rules.specs.Words.{binsBefore, doubling, doubled, fitTables, binOf, bini}
 use Rattle.set_rules.specs.Words.{fits as setFits}
 use Rattle.set_rules.specs.Accepting.{isHome, isListSlot, samePair, unlike, listSlotFine, listFine, wellPlaced as mayStand, ownFine}
 use Rattle.set_rules.specs.Accepting.{binAsks, belowFine, binFine, tableFine, isBlank, headersFine, allHeld, accepted, accepts}
@@ -66,18 +66,19 @@ at-length ix fit h =
 
 -- The walk of the worked tables.
 walk-order : walks 7 tables (starts tables 0 .cursor) ≡ bin 2 0 ∷ (bin 2 4 ∷ (bin 2 2 ∷ (bin 2 6 ∷ (bin 1 1 ∷ (bin 1 3 ∷ [])))))
-unfolding walks tables listSlots cell nameOf begins doubling doubled fitTables setFits binOf starts levelFine levelsFine baseFine fine kept
+unfolding walks tables listSlots cell nameOf binsBefore doubling doubled fitTables setFits binOf starts levelFine levelsFine
+    baseFine fine kept
     advanced sought under stepsOn nexts
 walk-order = refl
 
 tables-accepted : accepts tables ≡ given 1
-unfolding tables listSlots cell nameOf tally linksIn isCleared slotFine slotsFine begins doubling doubled fitTables setFits binOf bini
+unfolding tables listSlots cell nameOf tally linksIn isCleared slotFine slotsFine binsBefore doubling doubled fitTables setFits binOf bini
     isHome isListSlot samePair unlike listSlotFine listFine mayStand ownFine binAsks belowFine binFine tableFine isBlank headersFine allHeld
     accepted accepts
 tables-accepted = refl
 
 walk-done : nexts tables (stepped 6 tables (starts tables 0 .cursor)) .answer ≡ nothing
-unfolding tables listSlots cell begins doubling doubled fitTables setFits binOf starts levelFine levelsFine baseFine fine kept advanced
+unfolding tables listSlots cell binsBefore doubling doubled fitTables setFits binOf starts levelFine levelsFine baseFine fine kept advanced
     sought under stepsOn nexts stepped
 walk-done = refl
 

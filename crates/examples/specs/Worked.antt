@@ -78,13 +78,13 @@ tables =
     }
 
 -- The pairs that a walk gives, at most n, until an answer without a slot.
-abbrev pub onward : Value → Set → (ℕ → List Pair) → List Pair
-onward noValue s rest = []
-onward (some x) s rest = rest x
+abbrev pub afterEntry : Value → Set → (ℕ → List Pair) → List Pair
+afterEntry noValue s rest = []
+afterEntry (some x) s rest = rest x
 
 unfoldable pub entriesGiven : ℕ → Set → Cursor → List Pair
 entriesGiven zero s c = []
-entriesGiven (suc n) s c = onward (nexts s c .answer .value) s (λ x. pairOf (s .names) x ∷ entriesGiven n s (nexts s c .cursor))
+entriesGiven (suc n) s c = afterEntry (nexts s c .answer .value) s (λ x. pairOf (s .names) x ∷ entriesGiven n s (nexts s c .cursor))
 
 -- Bin i of table k, as the entry there names it.
 abbrev pub bin : ℕ → ℕ → Pair

@@ -22,9 +22,9 @@ use Rattle.set_rules.specs.Words.{fits as setFits}
 use Rattle.set_rules.proofs.Fit.{fits-fit as set-fit, fit-fits as set-fits, slots-are}
 use Rattle.set_rules.proofs.Gates.{lookups-claims}
 use Rattle.set_rules.proofs.Naming.{ranges}
-use Rattle.set_rules.specs.Lookup.{listLook, listed, homeBin, asked, forwarded, lookups}
+use Rattle.set_rules.specs.Lookup.{listLook, soughtInList, homeBin, asked, forwarded, lookups}
 use Rattle.set_rules.specs.Cursor.{Cursor, Step, fineCursor}
-use Rattle.set_rules.specs.Walk.{Place, deepest, binHere, Sought, entered, sought, turnsIn, stepped, standing, stepsOn, nexts}
+use Rattle.set_rules.specs.Walk.{WalkPlace, deepest, binHere, Sought, entered, sought, turnsIn, stepped, standing, stepsOn, nexts}
 use Rattle.slots.specs.Answers.{answerWord}
 use Rattle.exports.specs.Words.{searchWord}
 use Rattle.exports.specs.Cursors.{cursorIn}
@@ -72,13 +72,13 @@ module _ (names cells : List ℕ) (hash key : ℕ) where
   unfolding found
   found-plain root = searched-plain (slotsOf names) root
 
-  listed-plain : (v p : ℕ) → Found (listed names cells v p hash key)
-  unfolding listed
+  listed-plain : (v p : ℕ) → Found (soughtInList names cells v p hash key)
+  unfolding soughtInList
   listed-plain zero p = picked Found (eqb p null) (λ e. none) (λ e. nine)
   listed-plain (suc v) p =
       picked Found (eqb p null) (λ e. none)
       (λ e. picked Found (leb (slotsOf names) p) (λ f. nine)
-      (λ f. after-plain p (leb-false _ _ f) (λ q. listed names cells v q hash key) (listLook names cells p hash key)
+      (λ f. after-plain p (leb-false _ _ f) (λ q. soughtInList names cells v q hash key) (listLook names cells p hash key)
       (λ q. listed-plain v q)))
 
 -- An answer with whatever looks.
@@ -124,14 +124,14 @@ module _ (s : Set) (c : Cursor) where
   abbrev Gives : Sought → Type 0
   Gives g = Plain (slotsOf (s .names)) (stepped s c g .answer)
 
-  sought-plain : (turns base : ℕ) (p : Place) → Gives (sought turns s base p)
+  sought-plain : (turns base : ℕ) (p : WalkPlace) → Gives (sought turns s base p)
   unfolding sought
   sought-plain zero base p = none
   sought-plain (suc turns) base p =
       picked Gives (leb (lengthAt s (base + p .depth)) (deepest p)) (λ e. none)
       (λ e. go (binHere s base p) refl (λ q. sought-plain turns base q))
     where
-      go : (b : Bin) → binHere s base p ≡ b → ((q : Place) → Gives (sought turns s base q))
+      go : (b : Bin) → binHere s base p ≡ b → ((q : WalkPlace) → Gives (sought turns s base q))
           → Gives (entered s base p b (λ q. sought turns s base q))
       go empty e again = again _
       go moved e again = picked Gives (ltb (base + p .depth + 1) (tablesOf s)) (λ f. again _) (λ f. nine)

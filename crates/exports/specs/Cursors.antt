@@ -37,12 +37,12 @@ pub record Kept : Type 0 where
   pub word : ℕ
   pub cursor : List ℕ
 
-abbrev pub stepped : List ℕ → Step → Kept
-stepped w s = record { word = answerWord (s .answer); cursor = leftIn w (answerWord (s .answer)) (s .cursor) }
+abbrev pub keptStep : List ℕ → Step → Kept
+keptStep w s = record { word = answerWord (s .answer); cursor = leftIn w (answerWord (s .answer)) (s .cursor) }
 
 -- "another length is 1"
 abbrev pub ofEleven : List ℕ → Step → Kept
-ofEleven w s = pick (eqb (length w) 11) (stepped w s) (record { word = answerWord (refused 1); cursor = w })
+ofEleven w s = pick (eqb (length w) 11) (keptStep w s) (record { word = answerWord (refused 1); cursor = w })
 
 unfoldable pub startedInto : Set → ℕ → List ℕ → Kept
 startedInto s table w = ofEleven w (starts s table)

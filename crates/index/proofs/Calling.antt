@@ -10,7 +10,7 @@ use Rattle.slots.proofs.Laws.{told-apart}
 use Rattle.index_rules.specs.Index.{Outcome}
 use Rattle.index.specs.Calls.{fitnessOf, insertedOf, removedOf, replacedOf}
 use Rattle.index.specs.Fresh.{freshOf}
-use Rattle.index.specs.Calling.{Call, outcomeOf, Calling}
+use Rattle.index.specs.Calling.{CallReturned, outcomeOf, Calling}
 use Rattle.index.specs.declared.fit_index.Fitness.{Fitness}
 use Rattle.index.specs.declared.fit_index.Fitness.the-variants.{Fit, Unfit}
 use Rattle.index.specs.declared.fresh.Freshness.{Freshness}
@@ -90,11 +90,11 @@ fitness-one-to-one Unfit Unfit e = refl
 -- Calls whose outcomes are one are one.
 module _ {A : Type 0} (f : A → Answer) (apart : (a b : A) → f a ≡ f b → a ≡ b) where
   call : {a b : A} {n c h s l n′ c′ h′ s′ l′ : List ℕ} → a ≡ b → n ≡ n′ → c ≡ c′ → h ≡ h′ → s ≡ s′ → l ≡ l′
-      → _≡_ {A = Call A} (record { answer = a; names = n; cells = c; head = h; sizes = s; lines = l })
+      → _≡_ {A = CallReturned A} (record { answer = a; names = n; cells = c; head = h; sizes = s; lines = l })
       (record { answer = b; names = n′; cells = c′; head = h′; sizes = s′; lines = l′ })
   call e1 e2 e3 e4 e5 e6 = rw (e1, e2, e3, e4, e5, e6)
 
-  pub one : (o : Outcome) (c d : Call A) → outcomeOf f c ≡ o → outcomeOf f d ≡ o → c ≡ d
+  pub one : (o : Outcome) (c d : CallReturned A) → outcomeOf f c ≡ o → outcomeOf f d ≡ o → c ≡ d
   one o c d p q =
       let e = p ∙ sym q in
       call

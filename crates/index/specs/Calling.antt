@@ -19,7 +19,7 @@ use Rattle.index.specs.declared.remove.Removed.{Removed}
 use Rattle.index.specs.declared.replace.Replaced.{Replaced}
 
 -- What a call returns, and the words of the five slices after it.
-pub record Call (A : Type 0) : Type 0 where
+pub record CallReturned (A : Type 0) : Type 0 where
   pub answer : A
   pub names : List ℕ
   pub cells : List ℕ
@@ -27,7 +27,7 @@ pub record Call (A : Type 0) : Type 0 where
   pub sizes : List ℕ
   pub lines : List ℕ
 
-abbrev pub outcomeOf : {A : Type 0} → (A → Answer) → Call A → Outcome
+abbrev pub outcomeOf : {A : Type 0} → (A → Answer) → CallReturned A → Outcome
 outcomeOf f c =
     record {
       answer = f (c .answer);

@@ -13,7 +13,7 @@ use Rattle.index_rules.specs.Live.{Live, Fit, firstOf, countOf}
 use Rattle.index_rules.specs.Sound.{Sound, used}
 use Rattle.index_rules.proofs.Fit.{fit-fits, half}
 use Rattle.script_rules.specs.Text.{entriesText}
-use Rattle.script_rules.specs.Answers.{numberLine, more, met, entryLine, entryLines, entryLinesOf, listing}
+use Rattle.script_rules.specs.Answers.{numberLine, more, met, entryLine, entryLines, entryLinesOf, listText}
 use Rattle.script_rules.proofs.Listing.{met-null, met-on}
 use Rattle.tree_rules.specs.Find.{slotsOf}
 
@@ -31,8 +31,8 @@ lines-chain n names cells (ended e) = refl
 lines-chain n names cells {q} {i} (linked w p c) = ap (λ (m : List ℕ). entryLine names cells i ++ m) (lines-chain n names cells c)
 
 pub listed : (t : Live) → Fit t → (h : Sound t)
-    → listing t ≡ numberLine entriesText (countOf t) ++ entryLinesOf (t .names) (t .cells) (h .chain)
-unfolding listing
+    → listText t ≡ numberLine entriesText (countOf t) ++ entryLinesOf (t .names) (t .cells) (h .chain)
+unfolding listText
 listed t fit h =
     let n = slotsOf (t .names) in
     let small : n ≤ null = omega (arith, half fit, fit .most) in

@@ -8,7 +8,7 @@ use native.Mathlib.Omega.{arith}
 use lib.ListN.{length, length-append}
 use borrow.Author.Tests.{lt-ltb, le-ltb}
 use Rattle.index_rules.specs.Index.{Index}
-use Rattle.script_rules.specs.Commands.{Command, insert, remove, find, rollback, mark, list, bad, meant, spoken, textOf, Fits}
+use Rattle.script_rules.specs.Commands.{Command, insert, remove, find, rollback, mark, list, bad, meant, spoken, textOf, InFields}
 use Rattle.script_rules.specs.Feeding.{Line, longest, Desk, Fed, feeds, deskOf}
 use Rattle.script_rules.specs.Claims.{Means, Calls, Claims}
 use Rattle.script_rules.proofs.Numbers.{decimal-claims}
@@ -38,17 +38,17 @@ short-meant : (l : List ℕ) → length l ≤ 80 → spoken l ≡ meant l
 unfolding spoken
 short-meant l h = rw (le-ltb _ _ h)
 
-told : (l : List ℕ) (c : Command) → spoken l ≡ c → (c ≡ bad) ⊎ (Fits c × (l ≡ textOf c))
+told : (l : List ℕ) (c : Command) → spoken l ≡ c → (c ≡ bad) ⊎ (InFields c × (l ≡ textOf c))
 told l c e = go (decLt 80 (length l))
   where
-    go : Dec (80 < length l) → (c ≡ bad) ⊎ (Fits c × (l ≡ textOf c))
+    go : Dec (80 < length l) → (c ≡ bad) ⊎ (InFields c × (l ≡ textOf c))
     go (yes h) = inl (sym e ∙ long-bad l h)
     go (no n) = meant-told l c (sym (short-meant l (omega arith)) ∙ e)
 
-spoken-text : (l : List ℕ) (c : Command) → Fits c → l ≡ textOf c → spoken l ≡ c
+spoken-text : (l : List ℕ) (c : Command) → InFields c → l ≡ textOf c → spoken l ≡ c
 spoken-text l c f e = ap spoken e ∙ short-meant (textOf c) (text-short c) ∙ text-meant c f
 
-not-bad : (c : Command) → Fits c → c ≢ bad
+not-bad : (c : Command) → InFields c → c ≢ bad
 not-bad c f e = rw e at f
 
 means : (l : List ℕ) → Means l
@@ -62,7 +62,8 @@ means l = record {
     sure n (inl e) = absurd (n e)
     sure n (inr h) = h
 
-    none-bad : ((c : Command) → Fits c → l ≡ textOf c → ⊥) → (spoken l ≡ bad) ⊎ (Fits (spoken l) × (l ≡ textOf (spoken l))) → spoken l ≡ bad
+    none-bad : ((c : Command) → InFields c → l ≡ textOf c → ⊥) → (spoken l ≡ bad) ⊎ (InFields (spoken l) × (l ≡ textOf (spoken l)))
+        → spoken l ≡ bad
     none-bad none (inl e) = e
     none-bad none (inr h) = absurd (none (spoken l) (h .0) (h .1))
 

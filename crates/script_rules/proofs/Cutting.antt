@@ -10,7 +10,8 @@ use Rattle.index_rules.specs.Index.{Index}
 use Rattle.script_rules.specs.Text.{newline}
 use Rattle.script_rules.specs.Commands.{spoken}
 use Rattle.script_rules.specs.Answers.{Said, carriedOut}
-use Rattle.script_rules.specs.Feeding.{Line, blank, heldOf, longest, Desk, answered, fedByte, Fed, roomLeft, feeding, feeds, Heard}
+use Rattle.script_rules.specs.Feeding.{Line, blankLine, heldOf, longest, Desk, answered, fedByte, Fed, roomLeft, feeding, feeds}
+use Rattle.script_rules.specs.Feeding.{Heard}
 use Rattle.script_rules.specs.Feeding.{prefixed, heard, deskOf, printed, Run, over, call}
 use Rattle.script_rules.proofs.Feeding.{Within, byte-within, feeds-short, feeds-long}
 use Rattle.script_rules.proofs.Room.{answer-short, typed-whole}
@@ -34,8 +35,8 @@ byte-heard d b l w r = go (ℕ-discrete b newline)
     go (yes e) =
         let all = typed-whole (d .paper) (said .text) (omega (arith, answer-short (d .index) (spoken (heldOf (d .line))))) in
         rw (eq-eqb b newline e)
-        (ap (λ (t : List ℕ). prefixed t (heard blank (said .left) l)) (all .behind)
-        ∙ prefixed-twice (take (d .paper .at) (d .paper .bytes)) (said .text) (heard blank (said .left) l))
+        (ap (λ (t : List ℕ). prefixed t (heard blankLine (said .left) l)) (all .behind)
+        ∙ prefixed-twice (take (d .paper .at) (d .paper .bytes)) (said .text) (heard blankLine (said .left) l))
     go (no n) = rw (ne-eqb b newline n)
 
 -- A chunk: no more is taken than there is, and the rest is heard after it.

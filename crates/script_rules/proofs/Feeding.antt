@@ -10,7 +10,8 @@ use lib.ListN.{length, drop, getD, length-set}
 use borrow.Author.Tests.{lt-ltb, le-ltb, eq-eqb, ne-eqb}
 use Rattle.script_rules.specs.Text.{newline}
 use Rattle.script_rules.specs.Commands.{spoken}
-use Rattle.script_rules.specs.Feeding.{Line, blank, heldOf, noted, Paper, typedOne, typed, longest, Turn, performed, Desk, answered}
+use Rattle.script_rules.specs.Feeding.{Line, blankLine, heldOf, noted, Paper, typedOne, typed, longest, CommandTurn, performed, Desk}
+use Rattle.script_rules.specs.Feeding.{answered}
 use Rattle.script_rules.specs.Feeding.{fedByte, Fed, fed, roomLeft, feeding, feeds, finishes}
 use Rattle.script_rules.proofs.Reading.{from, past}
 
@@ -31,7 +32,8 @@ typed-within p [] h = h
 typed-within p (b ∷ l) h = typed-within (typedOne p b) l (one-within p b h)
 
 module _ (d : Desk) (b : ℕ) where
-  pub byte-newline : {t : Turn} {l : Line} → b ≡ newline → t ≡ performed (d .index) (d .paper) (spoken (heldOf (d .line))) → l ≡ blank
+  pub byte-newline : {t : CommandTurn} {l : Line} → b ≡ newline → t ≡ performed (d .index) (d .paper) (spoken (heldOf (d .line)))
+      → l ≡ blankLine
       → _≡_ {A = Desk} (record { line = l; index = t .index; paper = t .paper }) (fedByte d b)
   unfolding fedByte answered
   byte-newline e f g = rw (eq-eqb b newline e, f, g)
@@ -85,7 +87,8 @@ module _ (d : Desk) where
     unfolding finishes
     ends-none e = rw (le-ltb _ _ room, eq-eqb _ _ e)
 
-    pub ends-line : {t : Turn} {l : Line} → d .line .count ≢ 0 → t ≡ performed (d .index) (d .paper) (spoken (heldOf (d .line))) → l ≡ blank
+    pub ends-line : {t : CommandTurn} {l : Line} → d .line .count ≢ 0 → t ≡ performed (d .index) (d .paper) (spoken (heldOf (d .line)))
+        → l ≡ blankLine
         → fed 0 (record { line = l; index = t .index; paper = t .paper }) ≡ finishes d
     unfolding finishes answered
     ends-line n f g = rw (le-ltb _ _ room, ne-eqb _ _ n, f, g)

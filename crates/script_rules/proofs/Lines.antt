@@ -13,7 +13,8 @@ use Rattle.index_rules.specs.Index.{Index}
 use Rattle.script_rules.specs.Text.{newline}
 use Rattle.script_rules.specs.Commands.{Command, spoken}
 use Rattle.script_rules.specs.Answers.{Said, carriedOut}
-use Rattle.script_rules.specs.Feeding.{width, Line, blank, heldOf, noted, longest, answered, Fed, finishes, prefixed, heard, deskOf}
+use Rattle.script_rules.specs.Feeding.{width, Line, blankLine, heldOf, noted, longest, answered, Fed, finishes, prefixed, heard}
+use Rattle.script_rules.specs.Feeding.{deskOf}
 use Rattle.script_rules.specs.Feeding.{printed, NoNewline, nothing, another}
 use Rattle.script_rules.proofs.Feeding.{ends-none}
 use Rattle.script_rules.proofs.Room.{answer-short, typed-whole}
@@ -65,7 +66,7 @@ held line (b ∷ l) k = go (decLt (line .count) width) (held (noted line b) l (n
         again ∙ ap (λ (x : Line). take width (heldOf x ++ l)) (noted-full line b (omega arith))
         ∙ take-append-le width (heldOf line) l f ∙ sym (take-append-le width (heldOf line) (b ∷ l) f)
 
-blank-kept : Kept blank
+blank-kept : Kept blankLine
 blank-kept = record { long = length-replicate {A = ℕ} width 0; within = omega arith }
 
 -- What was kept means what the line means.
@@ -79,8 +80,8 @@ spoken-kept l = go (decLe (length l) width)
         let m : 80 < length (take width l) = simp length-take (omega arith) in
         rw (lt-ltb 80 (length (take width l)) m, lt-ltb 80 (length l) (omega arith))
 
-kept-means : (l : List ℕ) → spoken (heldOf (notedAll blank l)) ≡ spoken l
-kept-means l = ap spoken (held blank l blank-kept) ∙ spoken-kept l
+kept-means : (l : List ℕ) → spoken (heldOf (notedAll blankLine l)) ≡ spoken l
+kept-means l = ap spoken (held blankLine l blank-kept) ∙ spoken-kept l
 
 heard-line : (line : Line) (ix : Index) (l rest : List ℕ) → NoNewline l
     → heard line ix (l ++ rest) ≡ heard (notedAll line l) ix rest
@@ -89,11 +90,12 @@ heard-line line ix [] rest nothing = refl
 heard-line line ix (b ∷ l) rest (another n m) = rw (ne-eqb b newline n) (heard-line (noted line b) ix l rest m)
 
 pub line-heard : (ix : Index) (l rest : List ℕ) → NoNewline l
-    → heard blank ix (l ++ (newline ∷ rest)) ≡ prefixed (carriedOut ix (spoken l) .text) (heard blank (carriedOut ix (spoken l) .left) rest)
+    → heard blankLine ix (l ++ (newline ∷ rest))
+    ≡ prefixed (carriedOut ix (spoken l) .text) (heard blankLine (carriedOut ix (spoken l) .left) rest)
 unfolding heard
 line-heard ix l rest n =
-    heard-line blank ix l (newline ∷ rest) n
-    ∙ ap (λ (s : Said). prefixed (s .text) (heard blank (s .left) rest)) (ap (carriedOut ix) (kept-means l))
+    heard-line blankLine ix l (newline ∷ rest) n
+    ∙ ap (λ (s : Said). prefixed (s .text) (heard blankLine (s .left) rest)) (ap (carriedOut ix) (kept-means l))
 
 -- A line that has begun has a byte.
 noted-some : (line : Line) (b : ℕ) → 0 < noted line b .count
@@ -108,21 +110,21 @@ unfolding notedAll
 all-some line [] h = h
 all-some line (b ∷ l) h = all-some (noted line b) l (noted-some line b)
 
-begun : (l : List ℕ) → l ≢ [] → 0 < notedAll blank l .count
+begun : (l : List ℕ) → l ≢ [] → 0 < notedAll blankLine l .count
 unfolding notedAll
 begun [] n = absurd (n refl)
-begun (b ∷ l) n = all-some (noted blank b) l (noted-some blank b)
+begun (b ∷ l) n = all-some (noted blankLine b) l (noted-some blankLine b)
 
-heard-part : (ix : Index) (l : List ℕ) → NoNewline l → heard blank ix l ≡ record { text = []; line = notedAll blank l; index = ix }
+heard-part : (ix : Index) (l : List ℕ) → NoNewline l → heard blankLine ix l ≡ record { text = []; line = notedAll blankLine l; index = ix }
 unfolding heard
-heard-part ix l n = ap (heard blank ix) (sym (append-nil l)) ∙ heard-line blank ix l [] n
+heard-part ix l n = ap (heard blankLine ix) (sym (append-nil l)) ∙ heard-line blankLine ix l [] n
 
 -- The line that is left at the end is answered.
 record Last (ix : Index) (l : List ℕ) (f : Fed) : Type 0 where
   text : printed f ≡ carriedOut ix (spoken l) .text
   left : f .desk .index ≡ carriedOut ix (spoken l) .left
 
-ended : (ix : Index) (l buffer : List ℕ) (line : Line) → line ≡ notedAll blank l → l ≢ [] → longest ≤ length buffer
+ended : (ix : Index) (l buffer : List ℕ) (line : Line) → line ≡ notedAll blankLine l → l ≢ [] → longest ≤ length buffer
     → Last ix l (finishes (deskOf line ix buffer))
 unfolding finishes answered
 ended ix l buffer line e n r =
@@ -140,13 +142,13 @@ ended ix l buffer line e n r =
     not-none h = omega arith
 
 pub last-heard : (ix : Index) (l buffer : List ℕ) → NoNewline l → l ≢ [] → longest ≤ length buffer
-    → let f = finishes (deskOf (heard blank ix l .line) (heard blank ix l .index) buffer) in
-    (heard blank ix l .text ≡ []) × (printed f ≡ carriedOut ix (spoken l) .text) × (f .desk .index ≡ carriedOut ix (spoken l) .left)
+    → let f = finishes (deskOf (heard blankLine ix l .line) (heard blankLine ix l .index) buffer) in
+    (heard blankLine ix l .text ≡ []) × (printed f ≡ carriedOut ix (spoken l) .text) × (f .desk .index ≡ carriedOut ix (spoken l) .left)
 last-heard ix l buffer n m r =
     let h = heard-part ix l n in
-    let e = ended ix l buffer (notedAll blank l) refl m r in
+    let e = ended ix l buffer (notedAll blankLine l) refl m r in
     rw h (refl, e .text, e .left)
 
 pub none-heard : (ix : Index) (buffer : List ℕ) → longest ≤ length buffer
-    → (printed (finishes (deskOf blank ix buffer)) ≡ []) × (finishes (deskOf blank ix buffer) .desk .index ≡ ix)
-none-heard ix buffer r = let e = ends-none (deskOf blank ix buffer) r refl in rw (← e) (refl, refl)
+    → (printed (finishes (deskOf blankLine ix buffer)) ≡ []) × (finishes (deskOf blankLine ix buffer) .desk .index ≡ ix)
+none-heard ix buffer r = let e = ends-none (deskOf blankLine ix buffer) r refl in rw (← e) (refl, refl)

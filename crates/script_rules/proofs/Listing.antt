@@ -11,7 +11,7 @@ use Rattle.slots.specs.Answers.{Value, none, some}
 use Rattle.index_rules.specs.Live.{Live, fits, firstOf}
 use Rattle.index_rules.specs.Index.{Index, fitsIndex, fitsJournal, lengthOf}
 use Rattle.script_rules.specs.Text.{newline, space, decimal, entriesText, noText, markText}
-use Rattle.script_rules.specs.Answers.{numberLine, more, met, entryLine, entryLines, listing, marking}
+use Rattle.script_rules.specs.Answers.{numberLine, more, met, entryLine, entryLines, listText, marking}
 use Rattle.script_rules.specs.Feeding.{Paper, typedOne, typed}
 use Rattle.script_rules.proofs.Typing.{typed-append}
 use Rattle.tree_rules.specs.Find.{slotsOf}
@@ -102,20 +102,20 @@ entries-on p names cells (suc left) i h e f =
 
 -- A list is refused, lost, or printed whole.
 module _ (p : Paper) (t : Live) {b : Bool} (f : b ≡ fits t) where
-  pub list-unfit : {q : Paper} → b ≡ false → q ≡ typed p (numberLine noText 1) → q ≡ typed p (listing t)
-  unfolding listing
+  pub list-unfit : {q : Paper} → b ≡ false → q ≡ typed p (numberLine noText 1) → q ≡ typed p (listText t)
+  unfolding listText
   list-unfit n e = rw (← f, n) e
 
   module _ (y : b ≡ true) {first : ℕ} (at : first ≡ firstOf t) where
     pub list-lost : {q : Paper} → none ≡ met (slotsOf (t .names)) (slotsOf (t .names)) (t .cells) first → q ≡ typed p (numberLine noText 9)
-        → q ≡ typed p (listing t)
-    unfolding listing
+        → q ≡ typed p (listText t)
+    unfolding listText
     list-lost m e = rw (← f, y, ← at, ← m) e
 
     pub list-all : {c : ℕ} {q r : Paper} → some c ≡ met (slotsOf (t .names)) (slotsOf (t .names)) (t .cells) first
         → q ≡ typed p (numberLine entriesText c)
-        → r ≡ typed q (entryLines c (t .names) (t .cells) first) → r ≡ typed p (listing t)
-    unfolding listing
+        → r ≡ typed q (entryLines c (t .names) (t .cells) first) → r ≡ typed p (listText t)
+    unfolding listText
     list-all {c} m e g =
         rw (← f, y, ← at, ← m, ← at)
         (g ∙ ap (λ (x : Paper). typed x (entryLines c (t .names) (t .cells) first)) e ∙ sym (typed-append p (numberLine entriesText c) _))

@@ -10,15 +10,16 @@ use lib.Dec.{eqb}
 use borrow.Author.Tests.{eqb-true}
 use Rattle.slots.specs.Words.{pick}
 use Rattle.index_rules.proofs.Fit.{both}
-use Rattle.script_rules.specs.Text.{decimal, Read, read, unread, readNumber, readNext, begins, space, plusWord, minusWord, askWord}
+use Rattle.script_rules.specs.Text.{decimal, Read, read, unread, readNumber, readNext, startsWith, space, plusWord, minusWord}
+use Rattle.script_rules.specs.Text.{askWord}
 use Rattle.script_rules.specs.Text.{rollWord, markWord, listWord}
 use Rattle.script_rules.specs.Commands.{Command, insert, remove, find, rollback, mark, list, bad, most64, most32, readThen, alone}
-use Rattle.script_rules.specs.Commands.{pairOf, entryOf, markOf, meant, textOf, Fits}
+use Rattle.script_rules.specs.Commands.{pairCommandOf, insertOf, markOf, meant, textOf, InFields}
 use Rattle.script_rules.proofs.Numbers.{picked, Stops, ended, other, Written, number-read, number-written}
 
 -- A word of one byte or two that stands at the front.
-front-two : (v w : ℕ) (l : List ℕ) → begins (v ∷ (w ∷ [])) l ≡ true → l ≡ (v ∷ (w ∷ [])) ++ drop 2 l
-unfolding begins
+front-two : (v w : ℕ) (l : List ℕ) → startsWith (v ∷ (w ∷ [])) l ≡ true → l ≡ (v ∷ (w ∷ [])) ++ drop 2 l
+unfolding startsWith
 front-two v w [] e = absurd (false≢true e)
 front-two v w (b ∷ []) e = absurd (false≢true (both (eqb v b) false e .1))
 front-two v w (b ∷ (c ∷ l)) e =
@@ -28,8 +29,8 @@ front-two v w (b ∷ (c ∷ l)) e =
     let y : w ≡ c = eqb-true w c (g .0) in
     cc
 
-front-one : (v : ℕ) (l : List ℕ) → begins (v ∷ []) l ≡ true → l ≡ (v ∷ []) ++ drop 1 l
-unfolding begins
+front-one : (v : ℕ) (l : List ℕ) → startsWith (v ∷ []) l ≡ true → l ≡ (v ∷ []) ++ drop 1 l
+unfolding startsWith
 front-one v [] e = absurd (false≢true e)
 front-one v (b ∷ l) e = let x : v ≡ b = eqb-true v b (both (eqb v b) _ e .0) in cc
 
@@ -75,8 +76,8 @@ record Two (c : ℕ → ℕ → Command) (m : List ℕ) (d : Command) : Type 0 w
   hb : h ≤ most64
   kb : k ≤ most64
 
-pair-text : (c : ℕ → ℕ → Command) (m : List ℕ) (d : Command) → pairOf c m ≡ d → (d ≡ bad) ⊎ Two c m d
-unfolding pairOf
+pair-text : (c : ℕ → ℕ → Command) (m : List ℕ) (d : Command) → pairCommandOf c m ≡ d → (d ≡ bad) ⊎ Two c m d
+unfolding pairCommandOf
 pair-text c m d e = first (readNumber most64 m) refl e
   where
     last : (h k : ℕ) (rest end : List ℕ) → Written most64 m h rest → Spaced most64 rest k end → alone (c h k) end ≡ d
@@ -112,8 +113,8 @@ record Three (m : List ℕ) (d : Command) : Type 0 where
   kb : k ≤ most64
   pb : p ≤ most32
 
-entry-text : (m : List ℕ) (d : Command) → entryOf m ≡ d → (d ≡ bad) ⊎ Three m d
-unfolding entryOf
+entry-text : (m : List ℕ) (d : Command) → insertOf m ≡ d → (d ≡ bad) ⊎ Three m d
+unfolding insertOf
 entry-text m d e = first (readNumber most64 m) refl e
   where
     last : (h k p : ℕ) (rest more end : List ℕ) → Written most64 m h rest → Spaced most64 rest k more → Spaced most32 more p end
@@ -170,7 +171,7 @@ mark-text m d e = first (readNumber most32 m) refl e
 
 -- What a line means, it is the text of.
 abbrev Told : List ℕ → Command → Type 0
-Told l d = (d ≡ bad) ⊎ (Fits d × (l ≡ textOf d))
+Told l d = (d ≡ bad) ⊎ (InFields d × (l ≡ textOf d))
 
 below : {x : ℕ} → x ≤ most64 → x < 2 ^ 64
 below h = omega arith
@@ -216,12 +217,12 @@ asked false e here on = on e
 pub meant-told : (l : List ℕ) (d : Command) → meant l ≡ d → Told l d
 unfolding meant
 meant-told l d e =
-    asked (begins plusWord l) e (λ w f. told-entry l d (front-two _ _ l w) (entry-text (drop 2 l) d f))
-    (λ e1. asked (begins minusWord l) e1 (λ w f. told-remove l d (front-two _ _ l w) (pair-text remove (drop 2 l) d f))
-    (λ e2. asked (begins askWord l) e2 (λ w f. told-find l d (front-two _ _ l w) (pair-text find (drop 2 l) d f))
-    (λ e3. asked (begins rollWord l) e3 (λ w f. told-roll l d (front-two _ _ l w) (mark-text (drop 2 l) d f))
-    (λ e4. asked (begins markWord l) e4 (λ w f. told-mark l (drop 1 l) d (front-one _ l w) f)
-    (λ e5. asked (begins listWord l) e5 (λ w f. told-list l (drop 1 l) d (front-one _ l w) f) (λ e6. inl (sym e6)))))))
+    asked (startsWith plusWord l) e (λ w f. told-entry l d (front-two _ _ l w) (entry-text (drop 2 l) d f))
+    (λ e1. asked (startsWith minusWord l) e1 (λ w f. told-remove l d (front-two _ _ l w) (pair-text remove (drop 2 l) d f))
+    (λ e2. asked (startsWith askWord l) e2 (λ w f. told-find l d (front-two _ _ l w) (pair-text find (drop 2 l) d f))
+    (λ e3. asked (startsWith rollWord l) e3 (λ w f. told-roll l d (front-two _ _ l w) (mark-text (drop 2 l) d f))
+    (λ e4. asked (startsWith markWord l) e4 (λ w f. told-mark l (drop 1 l) d (front-one _ l w) f)
+    (λ e5. asked (startsWith listWord l) e5 (λ w f. told-list l (drop 1 l) d (front-one _ l w) f) (λ e6. inl (sym e6)))))))
 
 most : {x : ℕ} → x < 2 ^ 64 → x ≤ most64
 most h = omega arith
@@ -230,8 +231,8 @@ mostly : {x : ℕ} → x < 2 ^ 32 → x ≤ most32
 mostly h = omega arith
 
 -- A command's text means it.
-pub text-meant : (d : Command) → Fits d → meant (textOf d) ≡ d
-unfolding meant begins entryOf pairOf markOf
+pub text-meant : (d : Command) → InFields d → meant (textOf d) ≡ d
+unfolding meant startsWith insertOf pairCommandOf markOf
 text-meant (insert h k p) (hb, kb, pb) =
     rw (
       number-written most64 h {r = space ∷ (decimal k ++ (space ∷ decimal p))} (most hb) (omega arith) space-stops,

@@ -9,7 +9,7 @@ use native.Mathlib.Omega.{arith}
 use lib.ListN.{length, drop, getD}
 use lib.Seq.{drop-cons}
 use borrow.Author.Tests.{le-leb, lt-leb, eq-eqb, ne-eqb}
-use Rattle.script_rules.specs.Text.{read, unread, isDigit, readOn, readNumber, readNext, begins}
+use Rattle.script_rules.specs.Text.{read, unread, isDigit, readOn, readNumber, readNext, startsWith}
 use Rattle.script_rules.specs.Commands.{Command, bad, alone}
 
 -- The bytes from a place on are the byte there and those after it; past the end there are none.
@@ -93,21 +93,21 @@ module _ (most : ℕ) (l : List ℕ) (i : ℕ) where
 
 -- A word at the front of a line, byte by byte.
 module _ (word l : List ℕ) (i : ℕ) where
-  pub begins-all : length word ≤ i → begins (drop i word) (drop i l) ≡ true
-  unfolding begins
+  pub begins-all : length word ≤ i → startsWith (drop i word) (drop i l) ≡ true
+  unfolding startsWith
   begins-all h = rw (past word i h)
 
-  pub begins-short : i < length word → length l ≤ i → begins (drop i word) (drop i l) ≡ false
-  unfolding begins
+  pub begins-short : i < length word → length l ≤ i → startsWith (drop i word) (drop i l) ≡ false
+  unfolding startsWith
   begins-short h g = rw (from word i h, past l i g)
 
-  pub begins-other : i < length word → i < length l → getD l i 0 ≢ getD word i 0 → begins (drop i word) (drop i l) ≡ false
-  unfolding begins
+  pub begins-other : i < length word → i < length l → getD l i 0 ≢ getD word i 0 → startsWith (drop i word) (drop i l) ≡ false
+  unfolding startsWith
   begins-other h g n = rw (from word i h, from l i g) (simp (ne-eqb _ _ (λ e. n (sym e))))
 
   pub begins-on : i < length word → i < length l → getD l i 0 ≡ getD word i 0
-      → begins (drop i word) (drop i l) ≡ begins (drop (i + 1) word) (drop (i + 1) l)
-  unfolding begins
+      → startsWith (drop i word) (drop i l) ≡ startsWith (drop (i + 1) word) (drop (i + 1) l)
+  unfolding startsWith
   begins-on h g e = rw (from word i h, from l i g) (simp (eq-eqb _ _ (sym e)))
 
 -- A command stands alone where the line ends.

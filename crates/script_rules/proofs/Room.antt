@@ -21,7 +21,7 @@ use Rattle.index_rules.proofs.Fit.{fits-fit, half}
 use Rattle.script_rules.specs.Text.{digits, space, noText, markText, slotText, goneText, backText}
 use Rattle.script_rules.specs.Commands.{Command, insert, remove, find, rollback, mark, list, bad}
 use Rattle.script_rules.specs.Answers.{numbered, numberLine, valueLine, told, foundValue, foundText, searchLine, more, met, entryLine}
-use Rattle.script_rules.specs.Answers.{entryLines, counting, listing, marking, carriedOut}
+use Rattle.script_rules.specs.Answers.{entryLines, counting, listText, marking, carriedOut}
 use Rattle.script_rules.specs.Feeding.{Paper, typedOne, typed, longest}
 use Rattle.tree_rules.specs.Find.{Counted, counted, slotsOf}
 
@@ -101,8 +101,8 @@ met-few (suc v) n cells i {c} e =
     go again false true none q f = let z : _≡_ {A = ℕ} 0 1 = cc in absurd (omega arith)
     go again false false r q f = let z : _≡_ {A = ℕ} 0 1 = cc in absurd (omega arith)
 
-listing-short : (t : Live) → length (listing t) ≤ longest
-unfolding listing
+listing-short : (t : Live) → length (listText t) ≤ longest
+unfolding listText
 listing-short t = go (fits t) refl (met (slotsOf (t .names)) (slotsOf (t .names)) (t .cells) (firstOf t)) refl
   where
     go : (b : Bool) → fits t ≡ b → (r : Value) → met (slotsOf (t .names)) (slotsOf (t .names)) (t .cells) (firstOf t) ≡ r

@@ -74,8 +74,8 @@ counting t (some c) = numberLine entriesText c ++ entryLines c (t .names) (t .ce
 counting t none = numberLine noText 9
 
 -- "`l` lists hash, key, place by the chain from first."
-unfoldable pub listing : Live → List ℕ
-listing t = pick (fits t) (counting t (met (slotsOf (t .names)) (slotsOf (t .names)) (t .cells) (firstOf t))) (numberLine noText 1)
+unfoldable pub listText : Live → List ℕ
+listText t = pick (fits t) (counting t (met (slotsOf (t .names)) (slotsOf (t .names)) (t .cells) (firstOf t))) (numberLine noText 1)
 
 -- "The mark is the length."
 unfoldable pub marking : Index → List ℕ
@@ -95,5 +95,5 @@ carriedOut ix (remove h k) = saying goneText (removes ix h k)
 carriedOut ix (find h k) = record { text = searchLine (counted (finds (unsizedOf (ix .live)) h k)); left = ix }
 carriedOut ix (rollback m) = saying backText (rolls ix m)
 carriedOut ix mark = record { text = marking ix; left = ix }
-carriedOut ix list = record { text = listing (ix .live); left = ix }
+carriedOut ix list = record { text = listText (ix .live); left = ix }
 carriedOut ix bad = record { text = badText ++ (newline ∷ []); left = ix }

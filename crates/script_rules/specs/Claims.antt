@@ -10,9 +10,10 @@ use Rattle.index_rules.specs.Sound.{Sound}
 use Rattle.slots.specs.Answers.{given, nothing, refused}
 use Rattle.index_rules.specs.Find.{finds}
 use Rattle.script_rules.specs.Text.{newline, space, decimal, worth, Digits, atText, noneText, noText, entriesText}
-use Rattle.script_rules.specs.Commands.{Command, find, bad, spoken, textOf, Fits}
-use Rattle.script_rules.specs.Answers.{numberLine, entryLinesOf, listing, carriedOut}
-use Rattle.script_rules.specs.Feeding.{Line, blank, Paper, typed, longest, feeds, finishes, Heard, prefixed, heard, deskOf, printed}
+use Rattle.script_rules.specs.Commands.{Command, find, bad, spoken, textOf, InFields}
+use Rattle.script_rules.specs.Answers.{numberLine, entryLinesOf, listText, carriedOut}
+use Rattle.script_rules.specs.Feeding.{Line, blankLine, Paper, typed, longest, feeds, finishes, Heard, prefixed, heard, deskOf}
+use Rattle.script_rules.specs.Feeding.{printed}
 use Rattle.script_rules.specs.Feeding.{Run, NoNewline}
 
 -- "decimal numbers", "with no leading zero".
@@ -25,8 +26,8 @@ pub record Decimals (x : ℕ) : Type 0 where
 
 -- What a line means: the command of which it is the text, its numbers within their fields; else it is bad.
 pub record Means (l : List ℕ) : Type 0 where
-  pub command : (c : Command) → c ≢ bad → (spoken l ≡ c) ↔ (Fits c × (l ≡ textOf c))
-  pub bad-else : (spoken l ≡ bad) ↔ ((c : Command) → Fits c → l ≡ textOf c → ⊥)
+  pub command : (c : Command) → c ≢ bad → (spoken l ≡ c) ↔ (InFields c × (l ≡ textOf c))
+  pub bad-else : (spoken l ≡ bad) ↔ ((c : Command) → InFields c → l ≡ textOf c → ⊥)
   -- "or over 80 bytes before its newline, prints `bad`"
   pub long : 80 < length l → spoken l ≡ bad
 
@@ -68,15 +69,15 @@ pub record Claims : Type 0 where
   pub cutting : {line : Line} {ix : Index} {input : List ℕ} {h : Heard} → Run line ix input h → h ≡ heard line ix input
   -- line by line: each is answered as it is meant, and the next begins
   pub lines : (ix : Index) (l rest : List ℕ) → NoNewline l
-      → heard blank ix (l ++ (newline ∷ rest))
-      ≡ prefixed (carriedOut ix (spoken l) .text) (heard blank (carriedOut ix (spoken l) .left) rest)
+      → heard blankLine ix (l ++ (newline ∷ rest))
+      ≡ prefixed (carriedOut ix (spoken l) .text) (heard blankLine (carriedOut ix (spoken l) .left) rest)
   -- "An unended last line counts", and where none has begun nothing is printed
   pub last-line : (ix : Index) (l buffer : List ℕ) → NoNewline l → l ≢ [] → longest ≤ length buffer
-      → let f = finishes (deskOf (heard blank ix l .line) (heard blank ix l .index) buffer) in
-      (heard blank ix l .text ≡ []) × (printed f ≡ carriedOut ix (spoken l) .text) × (f .desk .index ≡ carriedOut ix (spoken l) .left)
+      → let f = finishes (deskOf (heard blankLine ix l .line) (heard blankLine ix l .index) buffer) in
+      (heard blankLine ix l .text ≡ []) × (printed f ≡ carriedOut ix (spoken l) .text) × (f .desk .index ≡ carriedOut ix (spoken l) .left)
   pub no-line : (ix : Index) (buffer : List ℕ) → longest ≤ length buffer
-      → (printed (finishes (deskOf blank ix buffer)) ≡ []) × (finishes (deskOf blank ix buffer) .desk .index ≡ ix)
+      → (printed (finishes (deskOf blankLine ix buffer)) ≡ []) × (finishes (deskOf blankLine ix buffer) .desk .index ≡ ix)
   -- "`l` lists hash, key, place by the chain from first"
   pub lists : (t : Live) → Fit t → (h : Sound t)
-      → listing t ≡ numberLine entriesText (countOf t) ++ entryLinesOf (t .names) (t .cells) (h .chain)
+      → listText t ≡ numberLine entriesText (countOf t) ++ entryLinesOf (t .names) (t .cells) (h .chain)
   pub asks : (ix : Index) (h k : ℕ) → Asks ix h k

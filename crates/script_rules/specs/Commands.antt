@@ -4,7 +4,8 @@ use Prim.Native.Nat.{ℕ, _<_, _^_}
 use lib.ListN.{length, drop}
 use lib.Dec.{ltb}
 use Rattle.slots.specs.Words.{pick}
-use Rattle.script_rules.specs.Text.{Read, read, unread, readNumber, readNext, begins, decimal, space, plusWord, minusWord, askWord}
+use Rattle.script_rules.specs.Text.{Read, read, unread, readNumber, readNext, startsWith, decimal, space, plusWord, minusWord}
+use Rattle.script_rules.specs.Text.{askWord}
 use Rattle.script_rules.specs.Text.{rollWord, markWord, listWord}
 
 -- "`+` takes hash, key, place; `-` and `?` hash, key; `r` a mark; `m` and `l` nothing." "A line of another form .. prints `bad`."
@@ -31,11 +32,11 @@ abbrev pub alone : Command → List ℕ → Command
 alone c [] = c
 alone c (b ∷ l) = bad
 
-unfoldable pub pairOf : (ℕ → ℕ → Command) → List ℕ → Command
-pairOf c l = readThen (readNumber most64 l) (λ h rest. readThen (readNext most64 rest) (λ k end. alone (c h k) end))
+unfoldable pub pairCommandOf : (ℕ → ℕ → Command) → List ℕ → Command
+pairCommandOf c l = readThen (readNumber most64 l) (λ h rest. readThen (readNext most64 rest) (λ k end. alone (c h k) end))
 
-unfoldable pub entryOf : List ℕ → Command
-entryOf l =
+unfoldable pub insertOf : List ℕ → Command
+insertOf l =
     readThen (readNumber most64 l)
     (λ h rest. readThen (readNext most64 rest) (λ k more. readThen (readNext most32 more) (λ p end. alone (insert h k p) end)))
 
@@ -45,11 +46,11 @@ markOf l = readThen (readNumber most32 l) (λ m end. alone (rollback m) end)
 -- The command of a line, by the word that it starts with.
 unfoldable pub meant : List ℕ → Command
 meant l =
-    pick (begins plusWord l) (entryOf (drop 2 l))
-    (pick (begins minusWord l) (pairOf remove (drop 2 l))
-    (pick (begins askWord l) (pairOf find (drop 2 l))
-    (pick (begins rollWord l) (markOf (drop 2 l))
-    (pick (begins markWord l) (alone mark (drop 1 l)) (pick (begins listWord l) (alone list (drop 1 l)) bad)))))
+    pick (startsWith plusWord l) (insertOf (drop 2 l))
+    (pick (startsWith minusWord l) (pairCommandOf remove (drop 2 l))
+    (pick (startsWith askWord l) (pairCommandOf find (drop 2 l))
+    (pick (startsWith rollWord l) (markOf (drop 2 l))
+    (pick (startsWith markWord l) (alone mark (drop 1 l)) (pick (startsWith listWord l) (alone list (drop 1 l)) bad)))))
 
 -- "or over 80 bytes before its newline, prints `bad`"
 unfoldable pub spoken : List ℕ → Command
@@ -66,11 +67,11 @@ textOf list = listWord
 textOf bad = []
 
 -- A command's numbers fit their fields; `bad` is no command.
-abbrev pub Fits : Command → Type 0
-Fits (insert h k p) = (h < 2 ^ 64) × (k < 2 ^ 64) × (p < 2 ^ 32)
-Fits (remove h k) = (h < 2 ^ 64) × (k < 2 ^ 64)
-Fits (find h k) = (h < 2 ^ 64) × (k < 2 ^ 64)
-Fits (rollback m) = m < 2 ^ 32
-Fits mark = Unit {0}
-Fits list = Unit {0}
-Fits bad = ⊥
+abbrev pub InFields : Command → Type 0
+InFields (insert h k p) = (h < 2 ^ 64) × (k < 2 ^ 64) × (p < 2 ^ 32)
+InFields (remove h k) = (h < 2 ^ 64) × (k < 2 ^ 64)
+InFields (find h k) = (h < 2 ^ 64) × (k < 2 ^ 64)
+InFields (rollback m) = m < 2 ^ 32
+InFields mark = Unit {0}
+InFields list = Unit {0}
+InFields bad = ⊥

@@ -19,8 +19,8 @@ pub record Line : Type 0 where
   pub bytes : List ℕ
   pub count : ℕ
 
-abbrev pub blank : Line
-blank = record { bytes = replicate width 0; count = 0 }
+abbrev pub blankLine : Line
+blankLine = record { bytes = replicate width 0; count = 0 }
 
 abbrev pub heldOf : Line → List ℕ
 heldOf line = take (line .count) (line .bytes)
@@ -49,15 +49,15 @@ abbrev pub longest : ℕ
 longest = 262144
 
 -- A command obeyed: what is left of the tree and the journal, and the answer on the paper.
-pub record Turn : Type 0 where
+pub record CommandTurn : Type 0 where
   pub index : Index
   pub paper : Paper
 
 -- A lent index and a lent buffer, written so far.
-abbrev pub lentTurn : List ℕ → List ℕ → List ℕ → List ℕ → List ℕ → List ℕ → ℕ → Turn
+abbrev pub lentTurn : List ℕ → List ℕ → List ℕ → List ℕ → List ℕ → List ℕ → ℕ → CommandTurn
 lentTurn names cells head sizes lines out at = record { index = lent names cells head sizes lines; paper = lentPaper out at }
 
-abbrev pub performed : Index → Paper → Command → Turn
+abbrev pub performed : Index → Paper → Command → CommandTurn
 performed ix p c = let s = carriedOut ix c in record { index = s .left; paper = typed p (s .text) }
 
 -- All that the routine works on.
@@ -74,7 +74,7 @@ lentDesk line names cells head sizes lines out at =
 -- The line is answered, and the next one begins.
 unfoldable pub answered : Desk → Desk
 answered d =
-    let t = performed (d .index) (d .paper) (spoken (heldOf (d .line))) in record { line = blank; index = t .index; paper = t .paper }
+    let t = performed (d .index) (d .paper) (spoken (heldOf (d .line))) in record { line = blankLine; index = t .index; paper = t .paper }
 
 unfoldable pub fedByte : Desk → ℕ → Desk
 fedByte d b = pick (eqb b newline) (answered d) (record { line = noted (d .line) b; index = d .index; paper = d .paper })
@@ -119,7 +119,7 @@ unfoldable pub heard : Line → Index → List ℕ → Heard
 heard line ix [] = record { text = []; line = line; index = ix }
 heard line ix (b ∷ l) =
     pick (eqb b newline)
-    (let s = carriedOut ix (spoken (heldOf line)) in prefixed (s .text) (heard blank (s .left) l))
+    (let s = carriedOut ix (spoken (heldOf line)) in prefixed (s .text) (heard blankLine (s .left) l))
     (heard (noted line b) ix l)
 
 abbrev pub deskOf : Line → Index → List ℕ → Desk

@@ -55,10 +55,10 @@ readNext most [] = unread
 readNext most (b ∷ l) = pick (eqb b space) (readNumber most l) unread
 
 -- A word stands at the front of some bytes.
-unfoldable pub begins : List ℕ → List ℕ → Bool
-begins [] l = true
-begins (w ∷ ws) [] = false
-begins (w ∷ ws) (b ∷ l) = eqb w b and begins ws l
+unfoldable pub startsWith : List ℕ → List ℕ → Bool
+startsWith [] l = true
+startsWith (w ∷ ws) [] = false
+startsWith (w ∷ ws) (b ∷ l) = eqb w b and startsWith ws l
 
 -- The words that a line starts with. Those that take numbers end with a space.
 abbrev pub plusWord : List ℕ

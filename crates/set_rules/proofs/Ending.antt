@@ -12,7 +12,7 @@ use Rattle.set_rules.specs.Cursor.{Cursor, Step}
 use Rattle.set_rules.specs.Walk.{nexts}
 use Rattle.set_rules.specs.Held.{Made, cursorAfter}
 use Rattle.set_rules.specs.Whole.{Listing}
-use Rattle.set_rules.specs.Walked.{Walks}
+use Rattle.set_rules.specs.Walked.{WalkFrom}
 use Rattle.set_rules.proofs.Nexting.{nexts-claims}
 use Rattle.set_rules.proofs.Giving.{walk-gives}
 use Rattle.set_rules.proofs.Keeping.{told}
@@ -36,5 +36,5 @@ module _ (s : Set) (fit : Fit s) (acc : Accepted s) where
   made-listing (Made.started {t} b) = let a = told s fit acc t b in (a .given, walk-gives s fit acc t b (a .order))
   made-listing (Made.stepped m) = rest (made-listing m .1)
 
-  pub walks-claims : (c : Cursor) → Made s c → Walks s c
+  pub walks-claims : (c : Cursor) → Made s c → WalkFrom s c
   walks-claims c m = let l = made-listing m in record { never = never (l .1); ends = ends (l .1) }

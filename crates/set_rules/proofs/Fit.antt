@@ -16,7 +16,7 @@ use borrow.Author.Tests.{eqb-true, leb-true, eq-eqb, le-leb}
 use Rattle.slots.specs.Words.{null, pick}
 use Rattle.index_rules.proofs.Fit.{both}
 use Rattle.index_rules.proofs.Rules.{and}
-use Rattle.set_rules.specs.Words.{Set, tablesOf, lengthAt, headersIn, begins, Fit, doubling, doubled, fitTables, fits, bini}
+use Rattle.set_rules.specs.Words.{Set, tablesOf, lengthAt, headersIn, binsBefore, Fit, doubling, doubled, fitTables, fits, bini}
 use Rattle.tree_rules.specs.Find.{slotsOf}
 
 step-power : (p e : ℕ) → 2 * p * 2 ^ e ≡ p * 2 ^ suc e
@@ -157,7 +157,7 @@ fits-fit s e =
     let h = headersIn s in
     let t = tablesOf s in
     let a = both (fitTables (s .lengths)) _ e in
-    let b = both (eqb (length (s .bins)) (begins (s .lengths) t)) _ (a .1) in
+    let b = both (eqb (length (s .bins)) (binsBefore (s .lengths) t)) _ (a .1) in
     let c = both (leb n 4096) _ (b .1) in
     let d = both (eqb (length (s .names)) (2 * n)) _ (c .1) in
     let f = both (eqb (length (s .cells)) (7 * n)) _ (d .1) in

@@ -12,7 +12,7 @@ use Rattle.tree_rules.proofs.Trail.{answers, looks}
 use Rattle.set_rules.specs.Words.{Set, tablesOf, Fit, fits}
 use Rattle.set_rules.proofs.Fit.{fits-fit, fit-fits}
 use Rattle.set_rules.specs.Lookup.{lookups, Astray, Hit, Miss}
-use Rattle.set_rules.specs.Cursor.{Cursor, Step, lone, blank, starts, BadCursor, fineCursor}
+use Rattle.set_rules.specs.Cursor.{Cursor, Step, lone, blankCursor, starts, BadCursor, fineCursor}
 use Rattle.set_rules.specs.Walk.{InTables, standing, stepsOn, nexts}
 use Rattle.set_rules.specs.Ways.{Steps}
 use Rattle.set_rules.specs.Walked.{Lookups, Starts}
@@ -92,15 +92,15 @@ module _ (s : Set) (t hash key : ℕ) where
 
 -- Start.
 module _ (s : Set) (t : ℕ) where
-  start-unfit : (Fit s → ⊥) → starts s t ≡ record { answer = refused 1; cursor = blank }
+  start-unfit : (Fit s → ⊥) → starts s t ≡ record { answer = refused 1; cursor = blankCursor }
   unfolding starts
   start-unfit n = go (fits s) refl
     where
-      go : (b : Bool) → fits s ≡ b → starts s t ≡ record { answer = refused 1; cursor = blank }
+      go : (b : Bool) → fits s ≡ b → starts s t ≡ record { answer = refused 1; cursor = blankCursor }
       go true e = absurd (n (fits-fit s e))
       go false e = rw e
 
-  start-unknown : Fit s → tablesOf s ≤ t → starts s t ≡ record { answer = refused 10; cursor = blank }
+  start-unknown : Fit s → tablesOf s ≤ t → starts s t ≡ record { answer = refused 10; cursor = blankCursor }
   unfolding starts
   start-unknown fit l = rw (fit-fits fit, le-ltb _ _ l)
 
@@ -120,11 +120,11 @@ module _ (s : Set) (t : ℕ) where
         made = (λ e. is-made e (fitted s t 0 0) (decLt t (tablesOf s)), λ h. start-made (h .0) (h .1));
       }
     where
-      not-one : starts s t ≡ record { answer = refused 1; cursor = blank } → Fit s → Dec (t < tablesOf s) → ⊥
+      not-one : starts s t ≡ record { answer = refused 1; cursor = blankCursor } → Fit s → Dec (t < tablesOf s) → ⊥
       not-one e fit (yes l) = omega (arith, told (sym e ∙ start-made fit l))
       not-one e fit (no n) = omega (arith, told (sym e ∙ start-unknown fit (omega arith)))
 
-      is-ten-start : starts s t ≡ record { answer = refused 10; cursor = blank } → Dec (Fit s) → Dec (t < tablesOf s)
+      is-ten-start : starts s t ≡ record { answer = refused 10; cursor = blankCursor } → Dec (Fit s) → Dec (t < tablesOf s)
           → Fit s × (tablesOf s ≤ t)
       is-ten-start e (no n) d = absurd (omega (arith, told (sym e ∙ start-unfit n)))
       is-ten-start e (yes fit) (yes l) = absurd (omega (arith, told (sym e ∙ start-made fit l)))

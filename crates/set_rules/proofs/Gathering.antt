@@ -14,7 +14,7 @@ use Rattle.tree_rules.proofs.Reaching.{hangs-stand, hangs-inside, rooted-unique
 use Rattle.index_rules.specs.Sound.{used}
 use Rattle.index_rules.proofs.Rules.{used-hued}
 use Rattle.set_rules.specs.Words.{Set, Fit, tablesOf, lengthAt, Bin, empty, moved, binAt, bini}
-use Rattle.set_rules.specs.Accepted.{Place, HeldIn, listed, grown, EntryOf}
+use Rattle.set_rules.specs.Accepted.{BinPlace, HeldIn, listed, grown, EntryOf}
 use Rattle.set_rules.proofs.Fit.{small, bini-up, near-parent, far-parent}
 use Rattle.set_rules.proofs.Lists.{Home, apart-once, listed-inside, listed-unique}
 use Rattle.set_rules.proofs.Forest.{Held, as-list, as-tree, Part, whole, beneath, Good, empties, moves, holding, final, two, Row}
@@ -269,7 +269,7 @@ module _ {s : Set} (fit : Fit s) where
     pub all-members : (x : ℕ) → 1 ≤ times x l → Member fit x
     all-members x z = row-member row (omega arith) x z
 
-    pub all-bins : {k j : ℕ} → Place s k j → Sub k j l
+    pub all-bins : {k j : ℕ} → BinPlace s k j → Sub k j l
     all-bins {k} {j} p =
         let u = under-first k j (p .table) (p .index) in
         let r = row-at row (u .0) (u .1) in

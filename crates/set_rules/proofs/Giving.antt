@@ -17,7 +17,8 @@ use Rattle.set_rules.specs.Accepted.{Accepted, Listed}
 use Rattle.set_rules.proofs.Fit.{small, ends}
 use Rattle.set_rules.proofs.Naming.{ranges}
 use Rattle.set_rules.specs.Cursor.{Cursor, Step, lone, starts}
-use Rattle.set_rules.specs.Walk.{Place, place, deepest, advanced, kept, trimmed, onward, below, standing, Sought, at, ended, stepped}
+use Rattle.set_rules.specs.Walk.{WalkPlace, walkPlace, deepest, advanced, kept, trimmed, wentOn, below, standing, Sought, at, ended}
+use Rattle.set_rules.specs.Walk.{stepped}
 use Rattle.set_rules.specs.Walk.{stepsOn, nexts}
 use Rattle.set_rules.specs.Ways.{moved-to}
 use Rattle.set_rules.specs.Held.{Made}
@@ -39,10 +40,10 @@ module _ (s : Set) (base : ℕ) where
     up : {d : ℕ} {x m : List ℕ} → lengthAt s (base + suc d) ≤ getD x (suc d) 0 + lengthAt s (base + d) → Rest d x m → Rest (suc d) x m
 
   -- What is to come from a place on.
-  data From : Place → List ℕ → Type 0 where
-    here : {p : Place} {l m : List ℕ} → Here s base p → Gives s (base + p .depth) (deepest p) l → Rest (p .depth) (p .indexes) m
+  data From : WalkPlace → List ℕ → Type 0 where
+    here : {p : WalkPlace} {l m : List ℕ} → Here s base p → Gives s (base + p .depth) (deepest p) l → Rest (p .depth) (p .indexes) m
         → From p (l ++ m)
-    over : {p : Place} → p .depth ≡ 0 → deepest p ≡ lengthAt s base → From p []
+    over : {p : WalkPlace} → p .depth ≡ 0 → deepest p ≡ lengthAt s base → From p []
 
   -- It depends on the indexes down to the depth.
   rest-agree : {d : ℕ} {x m : List ℕ} (y : List ℕ) → ((j : ℕ) → j ≤ d → getD x j 0 ≡ getD y j 0) → Rest d x m → Rest d y m
@@ -61,7 +62,7 @@ module _ (s : Set) (base : ℕ) where
     row-on x e (Onward.end z) = over refl (getD-set-same x 0 (getD x 0 0 + 1) 0 (omega arith) ∙ omega (arith, z))
     row-on x e (Onward.bin {l = a} {m} w g r) =
         let z : getD (set x 0 (getD x 0 0 + 1)) 0 0 ≡ suc (getD x 0 0) = getD-set-same x 0 (getD x 0 0 + 1) 0 (omega arith) ∙ omega arith in
-        here {p = place 0 (set x 0 (getD x 0 0 + 1))} {l = a} {m = m} (rw (z, add-zero base) w) (rw (z, add-zero base) g)
+        here {p = walkPlace 0 (set x 0 (getD x 0 0 + 1))} {l = a} {m = m} (rw (z, add-zero base) w) (rw (z, add-zero base) g)
         (row {x = set x 0 (getD x 0 0 + 1)} {l = m} (rw z r))
 
     rest-on : (d : ℕ) {x m : List ℕ} → length x ≡ 8 → d < 8 → base + d < tablesOf s → Rest d x m → From (advanced d (s .lengths) base x) m
@@ -71,13 +72,13 @@ module _ (s : Set) (base : ℕ) where
         let z : getD y (suc d) 0 ≡ on (s .lengths) base d x = getD-set-same x (suc d) (on (s .lengths) base d x) 0 (omega arith) in
         let t = twice-at (s .lengths) base twice d b in
         rw (advanced-lt (s .lengths) base d x k)
-        (here {p = place (suc d) y} {l = a} {m = m} (rw z k) (rw z g)
+        (here {p = walkPlace (suc d) y} {l = a} {m = m} (rw z k) (rw z g)
         (up {d = d} {x = y} {m = m} (rw z (omega (arith, t))) (rest-set (on (s .lengths) base d x) r)))
     rest-on (suc d) e l b (up {x = x} k r) =
         rw (advanced-ge (s .lengths) base d x k) (rest-on d (length-set x (suc d) 0 ∙ e) (omega arith) (omega arith) (rest-set 0 r))
 
     -- The place below a Moved bin has what the two bins there give, and what comes after the Moved one.
-    moved-on : (p : Place) {l m r : List ℕ} → Good s base p → Here s base p → base + suc (p .depth) < tablesOf s
+    moved-on : (p : WalkPlace) {l m r : List ℕ} → Good s base p → Here s base p → base + suc (p .depth) < tablesOf s
         → Gives s (suc (base + p .depth)) (deepest p) l
         → Gives s (suc (base + p .depth)) (deepest p + lengthAt s (base + p .depth)) m → Rest (p .depth) (p .indexes) r
         → From (below s base p) (l ++ (m ++ r))
@@ -95,19 +96,19 @@ module _ (s : Set) (base : ℕ) where
 module _ (s : Set) (fit : Fit s) (acc : Accepted s) (base : ℕ) where
   data Sees : List ℕ → Sought → Type 0 where
     none : Sees [] ended
-    some : {x : ℕ} {q : Place} {l m : List ℕ} → Listed (slotsOf (s .names)) (s .cells) (cell (s .cells) x next) l → Good s base q
+    some : {x : ℕ} {q : WalkPlace} {l m : List ℕ} → Listed (slotsOf (s .names)) (s .cells) (cell (s .cells) x next) l → Good s base q
         → From s base q m → Sees (x ∷ (l ++ m)) (at x q)
 
-  onward-on : (p : Place) {m : List ℕ} → Good s base p → Rest s base (p .depth) (p .indexes) m → From s base (onward s base p) m
+  onward-on : (p : WalkPlace) {m : List ℕ} → Good s base p → Rest s base (p .depth) (p .indexes) m → From s base (wentOn s base p) m
   onward-on p h r = rest-on s base (fit .twice) (p .depth) (h .eight) (omega (arith, h .deep, h .few)) (h .deep) r
 
-  sees-list : (p : Place) {a : ℕ} {l m : List ℕ} → Good s base p → Here s base p → Listed (slotsOf (s .names)) (s .cells) a l → a ≢ null
+  sees-list : (p : WalkPlace) {a : ℕ} {l m : List ℕ} → Good s base p → Here s base p → Listed (slotsOf (s .names)) (s .cells) a l → a ≢ null
       → Rest s base (p .depth) (p .indexes) m
-      → Sees (l ++ m) (at a (onward s base p))
+      → Sees (l ++ m) (at a (wentOn s base p))
   sees-list p h w (Listed.ended e) d r = absurd (d e)
   sees-list p h w (Listed.onward b t) d r = some t (good-onward s base p h w) (onward-on p h r)
 
-  sees : (t : ℕ) (p : Place) {l : List ℕ} → Good s base p → From s base p l → leftAt s base p < t → Sees l (seeks s base p)
+  sees : (t : ℕ) (p : WalkPlace) {l : List ℕ} → Good s base p → From s base p l → leftAt s base p < t → Sees l (seeks s base p)
   sees zero p h f k = absurd (omega arith)
   sees (suc t) p h (over d e) k =
       let z : lengthAt s (base + p .depth) ≡ lengthAt s base =
@@ -115,7 +116,7 @@ module _ (s : Set) (fit : Fit s) (acc : Accepted s) (base : ℕ) where
       rw (at-end s base p (omega (arith, z))) none
   sees (suc t) p h (here w (Gives.of-none e) r) k =
       rw (at-empty s base p h w e)
-      (sees t (onward s base p) (good-onward s base p h w) (onward-on p h r) (omega (arith, falls-onward s base p h w)))
+      (sees t (wentOn s base p) (good-onward s base p h w) (onward-on p h r) (omega (arith, falls-onward s base p h w)))
   sees (suc t) p h (here w (Gives.of-list {a = a} e g) r) k =
       let z = ranges (slotsOf (s .names)) (headersIn s) _ .lists a .0 e in
       rw (at-list s base p h w e) (sees-list p h w g (omega (arith, z .3, small fit)) r)
@@ -133,18 +134,18 @@ module _ (s : Set) (fit : Fit s) (acc : Accepted s) (base : ℕ) where
       (omega (arith, falls-below s base p h w n)))
 
   -- A cursor at a place stands where the place is.
-  stands-from : (q : Place) {m : List ℕ} → Good s base q → From s base q m
-      → From s base (place (q .depth) (trimmed (q .depth) (q .indexes))) m
+  stands-from : (q : WalkPlace) {m : List ℕ} → Good s base q → From s base q m
+      → From s base (walkPlace (q .depth) (trimmed (q .depth) (q .indexes))) m
   stands-from q h f = go f (λ j k. trimmed-same (q .depth) (q .indexes) j k (omega (arith, h .deep, h .few)))
     where
-      go : {q : Place} {m : List ℕ} → From s base q m
+      go : {q : WalkPlace} {m : List ℕ} → From s base q m
           → ((j : ℕ) → j ≤ q .depth → getD (trimmed (q .depth) (q .indexes)) j 0 ≡ getD (q .indexes) j 0)
-          → From s base (place (q .depth) (trimmed (q .depth) (q .indexes))) m
+          → From s base (walkPlace (q .depth) (trimmed (q .depth) (q .indexes))) m
       go (over {p = q} d e) z = over d (z (q .depth) (omega arith) ∙ e)
       go (here {p = q} {l} {m} w g r) z =
           let y : List ℕ = trimmed (q .depth) (q .indexes) in
           let i : getD y (q .depth) 0 ≡ deepest q = z (q .depth) (omega arith) in
-          here {p = place (q .depth) y} {l = l} {m = m} (rw i w) (rw i g) (rest-agree s base y (λ j k. sym (z j k)) r)
+          here {p = walkPlace (q .depth) y} {l = l} {m = m} (rw i w) (rw i g) (rest-agree s base y (λ j k. sym (z j k)) r)
 
 -- The steps from a cursor that start and next made.
 module _ (s : Set) (fit : Fit s) (acc : Accepted s) where

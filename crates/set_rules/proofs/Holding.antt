@@ -16,12 +16,12 @@ use Rattle.tree_rules.proofs.Counting.{times-head, times-rest, times-cases, len
 use Rattle.tree_rules.proofs.Reaching.{rooted-most, rooted-unique}
 use Rattle.index_rules.proofs.Seeking.{seeks}
 use Rattle.set_rules.specs.Words.{Set, tablesOf, lengthAt, rootAt, countAt, Fit, Bin, list, tree, bini}
-use Rattle.set_rules.specs.Accepted.{Accepted, Place, Listed, HeldIn, Unlike, Apart}
+use Rattle.set_rules.specs.Accepted.{Accepted, BinPlace, Listed, HeldIn, Unlike, Apart}
 use Rattle.set_rules.proofs.Fit.{small, ends, bini-less}
 use Rattle.set_rules.proofs.Lists.{apart-once, listed-inside, listed-unique}
 use Rattle.tree_rules.proofs.Claims.{looks-squared, claims as shape-claims}
 use Rattle.tree_rules.proofs.Trail.{answers}
-use Rattle.set_rules.specs.Lookup.{listed, homeBin, lookups, Reaches, Astray, Hit, Miss}
+use Rattle.set_rules.specs.Lookup.{soughtInList, homeBin, lookups, Reaches, Astray, Hit, Miss}
 use Rattle.set_rules.specs.Held.{Reached}
 use Rattle.set_rules.specs.Walked.{LooksUp}
 use Rattle.set_rules.proofs.Reading.{at-null}
@@ -73,15 +73,15 @@ module _ (s : Set) (hash key : ℕ) where
   unlike x (Unlike.other {y = z} {l} d u) h = times-cases x z l h (λ e. rw e d) (λ k. unlike x u k)
 
   one-more : slotsOf (s .names) ≤ null → (v p : ℕ) (l : List ℕ) → p < slotsOf (s .names) → Unlike (s .names) p l
-      → Finds (s .names) hash key l (listed (s .names) (s .cells) v (cell (s .cells) p next) hash key .answer)
-      → Finds (s .names) hash key (p ∷ l) (listed (s .names) (s .cells) (suc v) p hash key .answer)
+      → Finds (s .names) hash key l (soughtInList (s .names) (s .cells) v (cell (s .cells) p next) hash key .answer)
+      → Finds (s .names) hash key (p ∷ l) (soughtInList (s .names) (s .cells) (suc v) p hash key .answer)
   one-more few v p l b u rest = go (decided (s .names) p hash key)
     where
       solid : p ≢ null
       solid = omega arith
 
       go : Dec (pairOf (s .names) p ≡ pair hash key)
-          → Finds (s .names) hash key (p ∷ l) (listed (s .names) (s .cells) (suc v) p hash key .answer)
+          → Finds (s .names) hash key (p ∷ l) (soughtInList (s .names) (s .cells) (suc v) p hash key .answer)
       go (yes e) =
           let z = stays (s .names) (s .cells) p hash key v solid b e in
           record {
@@ -97,7 +97,7 @@ module _ (s : Set) (hash key : ℕ) where
 
   list-finds : slotsOf (s .names) ≤ null → {p : ℕ} {l : List ℕ} → Listed (slotsOf (s .names)) (s .cells) p l → Apart (s .names) l
       → (v : ℕ) → length l ≤ v
-      → Finds (s .names) hash key l (listed (s .names) (s .cells) v p hash key .answer)
+      → Finds (s .names) hash key l (soughtInList (s .names) (s .cells) v p hash key .answer)
   unfolding times
   list-finds few {p} (Listed.ended e) Apart.none v h =
       record { at = λ x k f. absurd (omega arith); none = λ n. answers (at-null (s .names) (s .cells) hash key v p e) }
@@ -106,12 +106,12 @@ module _ (s : Set) (hash key : ℕ) where
 
 -- On an accepted set.
 module _ (s : Set) (fit : Fit s) (acc : Accepted s) (hash key : ℕ) where
-  home-place : (k : ℕ) → k < tablesOf s → Place s k (bini (lengthAt s k) hash)
+  home-place : (k : ℕ) → k < tablesOf s → BinPlace s k (bini (lengthAt s k) hash)
   home-place k l = record { table = l; index = bini-less fit k l hash }
 
   list-held : (k p : ℕ) → k < tablesOf s → homeBin s k hash ≡ list p
       → (l : List ℕ) × Listed (slotsOf (s .names)) (s .cells) p l
-      × Finds (s .names) hash key l (listed (s .names) (s .cells) (slotsOf (s .names)) p hash key .answer)
+      × Finds (s .names) hash key l (soughtInList (s .names) (s .cells) (slotsOf (s .names)) p hash key .answer)
   list-held k p b e =
       let g = acc .lists k (bini (lengthAt s k) hash) p (home-place k b) e in
       let few = small fit in

@@ -15,10 +15,11 @@ use borrow.Author.Tests.{le-leb, lt-leb, lt-ltb, le-ltb, eq-eqb, ne-eqb}
 use Rattle.slots.specs.Words.{null, next, cell}
 use Rattle.set_rules.specs.Words.{Set, tablesOf, lengthAt, firstAt, Fit, Bin, empty, moved, bad, list, tree}
 use Rattle.set_rules.specs.Cursor.{Cursor, BadCursor}
-use Rattle.set_rules.specs.Walk.{Place, place, deepest, binHere, advanced, onward, below, Sought, at, ended, lost, trimmed, standing}
+use Rattle.set_rules.specs.Walk.{WalkPlace, walkPlace, deepest, binHere, advanced, wentOn, below, Sought, at, ended, lost, trimmed}
+use Rattle.set_rules.specs.Walk.{standing}
 use Rattle.set_rules.specs.Walk.{stepped, stepsOn, turnsIn, nexts}
 use Rattle.set_rules.specs.NodeIter.{Iter, iter, over, pushed, recovered, proceeds, Yield, yields, ends, stuck, matched, looped}
-use Rattle.set_rules.specs.NodeIter.{called, frames, stateAt, stateOf, IsCall}
+use Rattle.set_rules.specs.NodeIter.{nextCalled, frames, stateAt, stateOf, IsCall}
 use Rattle.set_rules.proofs.Turns.{on, advanced-lt, advanced-ge}
 use Rattle.set_rules.proofs.Standing.{within-or-end, left-all}
 use Rattle.set_rules.proofs.Cursors.{trimmed-same}
@@ -28,7 +29,7 @@ use Rattle.set_rules.proofs.Gates.{next-walked, next-stands}
 use Rattle.tree_rules.specs.Find.{slotsOf}
 
 module _ (s : Set) (base : ℕ) where
-  abbrev state : Place → Iter
+  abbrev state : WalkPlace → Iter
   state p = stateAt s base (p .depth) (p .indexes)
 
   frames-agree : (d : ℕ) (x y : List ℕ) → ((j : ℕ) → j < d → getD x j 0 ≡ getD y j 0) → frames s base d x ≡ frames s base d y
@@ -83,8 +84,8 @@ module _ (s : Set) (base : ℕ) where
           rw (advanced-ge (s .lengths) base d x k, le-ltb (on (s .lengths) base d x) (lengthAt s (base + suc d)) k)
           (sym same ∙ again y (length-set x (suc d) 0 ∙ e))
 
-  module _ (p : Place) (h : Good s base p) where
-    proceeding : proceeds s (lengthAt s base) (state p) ≡ state (onward s base p)
+  module _ (p : WalkPlace) (h : Good s base p) where
+    proceeding : proceeds s (lengthAt s base) (state p) ≡ state (wentOn s base p)
     proceeding = recovers (p .depth) (p .indexes) (h .eight) (omega (arith, h .deep, h .few))
 
     pushing : Here s base p → base + suc (p .depth) < tablesOf s → pushed s (state p) ≡ state (below s base p)
@@ -114,18 +115,18 @@ module _ (s : Set) (base : ℕ) where
 
   -- What the loop comes to is what the source's comes to.
   data Meets : Sought → Yield → Type 0 where
-    given-both : {x : ℕ} {q : Place} → Good s base q → Meets (at x q) (yields x (state q))
+    given-both : {x : ℕ} {q : WalkPlace} → Good s base q → Meets (at x q) (yields x (state q))
     over-both : Meets ended ends
     lost-both : Meets lost stuck
 
-  module _ (t : ℕ) (p : Place) (h : Good s base p) where
+  module _ (t : ℕ) (p : WalkPlace) (h : Good s base p) where
     turn-over : (p .depth ≡ 0) × (lengthAt s (base + p .depth) ≤ deepest p)
         → Meets (seeks s base p) (looped (suc t) s (lengthAt s base) (state p))
     unfolding looped
     turn-over e = rw (at-end s base p (e .1), is-over p h e) over-both
 
     module _ (w : Here s base p)
-        (again : (q : Place) → Good s base q → leftAt s base q < t → Meets (seeks s base q) (looped t s (lengthAt s base) (state q)))
+        (again : (q : WalkPlace) → Good s base q → leftAt s base q < t → Meets (seeks s base q) (looped t s (lengthAt s base) (state q)))
         (k : leftAt s base p < suc t) where
       abbrev turned-to : Bin → Yield
       turned-to b = matched s (lengthAt s base) (state p) b (λ it. looped t s (lengthAt s base) it)
@@ -133,7 +134,7 @@ module _ (s : Set) (base : ℕ) where
       by-bin : (b : Bin) → binHere s base p ≡ b → Meets (seeks s base p) (turned-to b)
       by-bin empty e =
           rw (at-empty s base p h w e, proceeding p h)
-          (again (onward s base p) (good-onward s base p h w) (omega (arith, falls-onward s base p h w)))
+          (again (wentOn s base p) (good-onward s base p h w) (omega (arith, falls-onward s base p h w)))
       by-bin bad e = rw (at-bad s base p h w e) lost-both
       by-bin (list x) e = rw (at-list s base p h w e, proceeding p h) (given-both (good-onward s base p h w))
       by-bin moved e = go (decLt (base + suc (p .depth)) (tablesOf s))
@@ -160,12 +161,12 @@ module _ (s : Set) (base : ℕ) where
       unfolding looped
       turn-on = rw (goes-on p h w) (by-bin (binHere s base p) refl)
 
-  meets : (t : ℕ) (p : Place) → Good s base p → leftAt s base p < t → Meets (seeks s base p) (looped t s (lengthAt s base) (state p))
+  meets : (t : ℕ) (p : WalkPlace) → Good s base p → leftAt s base p < t → Meets (seeks s base p) (looped t s (lengthAt s base) (state p))
   meets zero p h k = absurd (omega arith)
   meets (suc t) p h k = go (within-or-end (s .lengths) base p h) (λ q g l. meets t q g l)
     where
       go : (Here s base p) ⊎ ((p .depth ≡ 0) × (lengthAt s (base + p .depth) ≤ deepest p))
-          → ((q : Place) → Good s base q → leftAt s base q < t → Meets (seeks s base q) (looped t s (lengthAt s base) (state q)))
+          → ((q : WalkPlace) → Good s base q → leftAt s base q < t → Meets (seeks s base q) (looped t s (lengthAt s base) (state q)))
           → Meets (seeks s base p) (looped (suc t) s (lengthAt s base) (state p))
       go (inl w) again = turn-on t p h w again k
       go (inr e) again = turn-over t p h e
@@ -185,7 +186,7 @@ module _ (s : Set) (fit : Fit s) (c : Cursor) (good : BadCursor s c → ⊥) whe
   alike lost-both = refl
 
   pub as-source : (turns : ℕ) → turnsIn s (c .base) < turns
-      → IsCall s c (nexts s c) (called turns s (lengthAt s (c .base)) (stateOf s c) (c .last))
+      → IsCall s c (nexts s c) (nextCalled turns s (lengthAt s (c .base)) (stateOf s c) (c .last))
   unfolding stepsOn
   as-source turns k = rw (next-walked s c fit good) (go (ℕ-discrete link null) (decLt link (slotsOf (s .names))))
     where
@@ -193,7 +194,7 @@ module _ (s : Set) (fit : Fit s) (c : Cursor) (good : BadCursor s c → ⊥) whe
       link = cell (s .cells) (c .last) next
 
       go : Dec (link ≡ null) → Dec (link < slotsOf (s .names))
-          → IsCall s c (stepsOn s c) (called turns s (lengthAt s (c .base)) (stateOf s c) (c .last))
+          → IsCall s c (stepsOn s c) (nextCalled turns s (lengthAt s (c .base)) (stateOf s c) (c .last))
       go (yes e) d =
           rw (eq-eqb link null e)
           (rw begun at (alike (meets s (c .base) turns (standing c) h (omega (arith, left-all (s .lengths) (c .base) (standing c) h)))))

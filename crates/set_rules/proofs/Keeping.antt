@@ -12,7 +12,7 @@ use Rattle.tree_rules.specs.Chain.{Chain}
 use Rattle.tree_rules.proofs.Counting.{times-append}
 use Rattle.tree_rules.proofs.Chaining.{chain-once}
 use Rattle.set_rules.specs.Words.{Set, Fit, tablesOf, lengthAt, firstAt, Bin, empty, moved, bad, list, tree, binAt, bini}
-use Rattle.set_rules.specs.Accepted.{Accepted, Place, Listed, HeldIn, EntryOf, GoodChain}
+use Rattle.set_rules.specs.Accepted.{Accepted, BinPlace, Listed, HeldIn, EntryOf, GoodChain}
 use Rattle.set_rules.proofs.Fit.{small, bini-up, bini-less, near-parent, far-parent, halves}
 use Rattle.set_rules.proofs.Lists.{apart-once, listed-unique}
 use Rattle.set_rules.proofs.Gathering.{not-empty, not-moved, holds-unique}
@@ -46,7 +46,7 @@ pub data KeepsFrom (s : Set) (t : ℕ) : ℕ → List ℕ → Type 0 where
 
 module _ (s : Set) (fit : Fit s) (acc : Accepted s) where
   -- A bin's list or tree holds a slot once.
-  held-once : {k i : ℕ} {l : List ℕ} → Place s k i → HeldIn s (binAt s k i) l → (x : ℕ) → times x l ≤ 1
+  held-once : {k i : ℕ} {l : List ℕ} → BinPlace s k i → HeldIn s (binAt s k i) l → (x : ℕ) → times x l ≤ 1
   held-once {k} {i} p h = go (binAt s k i) refl h
     where
       go : (b : Bin) → binAt s k i ≡ b → {l : List ℕ} → HeldIn s b l → (x : ℕ) → times x l ≤ 1
@@ -57,10 +57,10 @@ module _ (s : Set) (fit : Fit s) (acc : Accepted s) where
   entry-held : {k i x : ℕ} {l : List ℕ} → HeldIn s (binAt s k i) l → EntryOf s k i x → 1 ≤ times x l
   entry-held h f = rw (holds-unique fit (f .holds) h) at (f .member)
 
-  near-place : {k i : ℕ} → Place s k i → suc k < tablesOf s → Place s (suc k) i
+  near-place : {k i : ℕ} → BinPlace s k i → suc k < tablesOf s → BinPlace s (suc k) i
   near-place {k} p n = record { table = n; index = omega (arith, p .index, fit .twice k n) }
 
-  far-place : {k i : ℕ} → Place s k i → suc k < tablesOf s → Place s (suc k) (i + lengthAt s k)
+  far-place : {k i : ℕ} → BinPlace s k i → suc k < tablesOf s → BinPlace s (suc k) (i + lengthAt s k)
   far-place {k} p n = record { table = n; index = omega (arith, p .index, fit .twice k n) }
 
   module _ (x : ℕ) where
@@ -70,7 +70,7 @@ module _ (s : Set) (fit : Fit s) (acc : Accepted s) where
     abbrev home : ℕ → ℕ
     home k = bini (lengthAt s k) hash
 
-    keeps-home : {k i : ℕ} {l : List ℕ} → Keeps s k i l → Place s k i → 1 ≤ times x l → home k ≡ i
+    keeps-home : {k i : ℕ} {l : List ℕ} → Keeps s k i l → BinPlace s k i → 1 ≤ times x l → home k ≡ i
     unfolding times
     keeps-home (Keeps.nothing e) p h = absurd (omega arith)
     keeps-home {k} {i} {l} (Keeps.its g) p h = acc .home k i x (record { place = p; held = l; holds = g; member = h })
@@ -84,7 +84,7 @@ module _ (s : Set) (fit : Fit s) (acc : Accepted s) where
     abbrev Later : ℕ → Type 0
     Later k = (l : ℕ) × (j : ℕ) × (k ≤ l) × EntryOf s l j x
 
-    keeps-entry : {k i : ℕ} {l : List ℕ} → Keeps s k i l → Place s k i → 1 ≤ times x l → Later k
+    keeps-entry : {k i : ℕ} {l : List ℕ} → Keeps s k i l → BinPlace s k i → 1 ≤ times x l → Later k
     unfolding times
     keeps-entry (Keeps.nothing e) p h = absurd (omega arith)
     keeps-entry {k} {i} {l} (Keeps.its g) p h = (k, i, omega arith, record { place = p; held = l; holds = g; member = h })
@@ -93,7 +93,7 @@ module _ (s : Set) (fit : Fit s) (acc : Accepted s) where
         (λ a. (let r = keeps-entry f (near-place p n) a in (r .0, r .1, omega (arith, r .2), r .3)))
         (λ b. (let r = keeps-entry g (far-place p n) b in (r .0, r .1, omega (arith, r .2), r .3)))
 
-    keeps-once : {k i : ℕ} {l : List ℕ} → Keeps s k i l → Place s k i → times x l ≤ 1
+    keeps-once : {k i : ℕ} {l : List ℕ} → Keeps s k i l → BinPlace s k i → times x l ≤ 1
     unfolding times
     keeps-once (Keeps.nothing e) p = omega arith
     keeps-once (Keeps.its g) p = held-once p g x
@@ -123,7 +123,7 @@ module _ (s : Set) (fit : Fit s) (acc : Accepted s) where
         go (yes z) = inl (at-home e (rw z at f))
         go (no d) = inr (rw e at (above {k = k} (omega arith) f), (l, j, omega arith, f))
 
-    entry-keeps : {k i : ℕ} {l : List ℕ} → Keeps s k i l → Place s k i → home k ≡ i → Later k → 1 ≤ times x l
+    entry-keeps : {k i : ℕ} {l : List ℕ} → Keeps s k i l → BinPlace s k i → home k ≡ i → Later k → 1 ≤ times x l
     entry-keeps {k} {i} (Keeps.nothing e) p h r = go (settle h r)
       where
         go : {A : Type 0} → EntryOf s k i x ⊎ ((binAt s k i ≡ moved) × Later (suc k)) → A
@@ -186,7 +186,7 @@ module _ (s : Set) (fit : Fit s) (acc : Accepted s) where
         go (no d) again = omega (arith, again (omega arith), times-append x l m)
 
   -- What a bin gives is there.
-  gives-bin : (k i : ℕ) → Place s k i → (binAt s k i ≡ moved → (l : List ℕ) × Gives s k i l) → (b : Bin) → binAt s k i ≡ b
+  gives-bin : (k i : ℕ) → BinPlace s k i → (binAt s k i ≡ moved → (l : List ℕ) × Gives s k i l) → (b : Bin) → binAt s k i ≡ b
       → (l : List ℕ) × Gives s k i l
   gives-bin k i p below empty e = ([], Gives.of-none e)
   gives-bin k i p below moved e = below e
@@ -199,7 +199,7 @@ module _ (s : Set) (fit : Fit s) (acc : Accepted s) where
       → (l : List ℕ) × Gives s k i l
   both-given e n f g = (f .0 ++ g .0, Gives.of-moved e n (f .1) (g .1))
 
-  gives-all : (left k i : ℕ) → Place s k i → suc k + left ≡ tablesOf s → (l : List ℕ) × Gives s k i l
+  gives-all : (left k i : ℕ) → BinPlace s k i → suc k + left ≡ tablesOf s → (l : List ℕ) × Gives s k i l
   gives-all zero k i p t = gives-bin k i p (λ e. absurd (acc .last-unmoved k i p (omega arith) e)) (binAt s k i) refl
   gives-all (suc left) k i p t =
       let n : suc k < tablesOf s = omega arith in
@@ -217,7 +217,7 @@ module _ (s : Set) (fit : Fit s) (acc : Accepted s) where
       (f .0 ++ g .0, Onward.bin w (f .1) (g .1))
 
   -- What a bin gives is what it leads to: a chain visits exactly its tree's slots.
-  same-times : {k i h : ℕ} {l m : List ℕ} → GoodChain s k i h → Listed (slotsOf (s .names)) (s .cells) (firstAt s h) l → Place s k i
+  same-times : {k i h : ℕ} {l m : List ℕ} → GoodChain s k i h → Listed (slotsOf (s .names)) (s .cells) (firstAt s h) l → BinPlace s k i
       → HeldIn s (binAt s k i) m
       → (x : ℕ) → times x l ≡ times x m
   same-times {k} {i} {h} {l} {m} c g p o x =
@@ -236,7 +236,7 @@ module _ (s : Set) (fit : Fit s) (acc : Accepted s) where
   abbrev Likened : ℕ → ℕ → List ℕ → Type 0
   Likened k i l = (m : List ℕ) × Keeps s k i m × ((x : ℕ) → times x l ≡ times x m)
 
-  likened : {k i : ℕ} {l : List ℕ} → Gives s k i l → Place s k i → Likened k i l
+  likened : {k i : ℕ} {l : List ℕ} → Gives s k i l → BinPlace s k i → Likened k i l
   likened (Gives.of-none e) p = ([], Keeps.nothing e, λ x. refl)
   likened {k} {i} {l} (Gives.of-list e g) p = let h : HeldIn s (binAt s k i) l = rw e (HeldIn.listed g) in (l, Keeps.its h, λ x. refl)
   likened {k} {i} (Gives.of-tree {h = h} e g) p =

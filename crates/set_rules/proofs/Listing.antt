@@ -14,7 +14,7 @@ use Rattle.slots.specs.Pairs.{Pair, pair, pairOf}
 use Rattle.slots.specs.Answers.{Answer, given, nothing, refused}
 use Rattle.tree_rules.specs.Find.{slotsOf}
 use Rattle.tree_rules.proofs.Trail.{answers}
-use Rattle.set_rules.specs.Lookup.{hasPair, listed, ListFollows, start, step, ListLost, ListHere, ListMissed}
+use Rattle.set_rules.specs.Lookup.{hasPair, soughtInList, ListFollows, start, step, ListLost, ListHere, ListMissed}
 use Rattle.set_rules.proofs.Reading.{at-null, out-of-range, visits-spent, at-slot}
 use Rattle.set_rules.proofs.Cursors.{both}
 
@@ -51,15 +51,15 @@ not-has names p hash key n = go (hasPair names p hash key) refl
 
 module _ (names cells : List ℕ) (first hash key : ℕ) where
   abbrev pub whole : Answer
-  whole = listed names cells (slotsOf names) first hash key .answer
+  whole = soughtInList names cells (slotsOf names) first hash key .answer
 
   -- One more visit.
   pub onward : {p : ℕ} (v : ℕ) → p ≢ null → p < slotsOf names → pairOf names p ≢ pair hash key
-      → listed names cells (suc v) p hash key .answer ≡ listed names cells v (cell cells p next) hash key .answer
+      → soughtInList names cells (suc v) p hash key .answer ≡ soughtInList names cells v (cell cells p next) hash key .answer
   onward {p} v n l d = answers (at-slot names cells hash key v p n l) ∙ rw (not-has names p hash key d)
 
   pub stays : {p : ℕ} (v : ℕ) → p ≢ null → p < slotsOf names → pairOf names p ≡ pair hash key
-      → listed names cells (suc v) p hash key .answer ≡ given p
+      → soughtInList names cells (suc v) p hash key .answer ≡ given p
   stays {p} v n l d = answers (at-slot names cells hash key v p n l) ∙ rw (same-has names p hash key d)
 
   fewer : (n k : ℕ) → suc k ≤ n → n - k ≡ suc (n - suc k)
@@ -67,16 +67,18 @@ module _ (names cells : List ℕ) (first hash key : ℕ) where
 
   -- The answer from a link followed in time is the answer.
   trace : {k p : ℕ} → ListFollows names cells first hash key k p → k ≤ slotsOf names
-      → whole ≡ listed names cells (slotsOf names - k) p hash key .answer
-  trace start l = let z : slotsOf names ≡ slotsOf names - 0 = omega arith in ap (λ (v : ℕ). listed names cells v first hash key .answer) z
+      → whole ≡ soughtInList names cells (slotsOf names - k) p hash key .answer
+  trace start l =
+      let z : slotsOf names ≡ slotsOf names - 0 = omega arith in ap (λ (v : ℕ). soughtInList names cells v first hash key .answer) z
   trace (step {k} {p} f n i e) l =
-      trace f (omega arith) ∙ ap (λ (v : ℕ). listed names cells v p hash key .answer) (fewer (slotsOf names) k l)
+      trace f (omega arith) ∙ ap (λ (v : ℕ). soughtInList names cells v p hash key .answer) (fewer (slotsOf names) k l)
       ∙ onward (slotsOf names - suc k) n i e
 
   spent : {k p : ℕ} → ListFollows names cells first hash key k p → p ≢ null → k ≡ slotsOf names → whole ≡ refused 9
   spent {k} {p} f n e =
       let z : slotsOf names - k ≡ 0 = omega arith in
-      trace f (omega arith) ∙ ap (λ (v : ℕ). listed names cells v p hash key .answer) z ∙ answers (visits-spent names cells hash key p n)
+      trace f (omega arith) ∙ ap (λ (v : ℕ). soughtInList names cells v p hash key .answer) z
+      ∙ answers (visits-spent names cells hash key p n)
 
   -- A link followed after more visits than there are slots.
   late : {k p : ℕ} → ListFollows names cells first hash key k p → slotsOf names < k → whole ≡ refused 9
@@ -98,7 +100,7 @@ module _ (names cells : List ℕ) (first hash key : ℕ) where
   pub here-given : {slot : ℕ} → ListHere names cells first hash key slot → whole ≡ given slot
   here-given {slot} h =
       trace (h .follows) (omega (arith, h .timely))
-      ∙ ap (λ (v : ℕ). listed names cells v slot hash key .answer) (fewer (slotsOf names) (h .visited) (h .timely))
+      ∙ ap (λ (v : ℕ). soughtInList names cells v slot hash key .answer) (fewer (slotsOf names) (h .visited) (h .timely))
       ∙ stays (slotsOf names - suc (h .visited)) (h .solid) (h .inside) (h .has)
 
   pub missed-nothing : ListMissed names cells first hash key → whole ≡ nothing
@@ -111,10 +113,10 @@ module _ (names cells : List ℕ) (first hash key : ℕ) where
     miss : ListMissed names cells first hash key → Outcome nothing
 
   from : (v k p : ℕ) → ListFollows names cells first hash key k p → k + v ≡ slotsOf names
-      → Outcome (listed names cells v p hash key .answer)
+      → Outcome (soughtInList names cells v p hash key .answer)
   from zero k p f e = go (ℕ-discrete p null)
     where
-      go : Dec (p ≡ null) → Outcome (listed names cells 0 p hash key .answer)
+      go : Dec (p ≡ null) → Outcome (soughtInList names cells 0 p hash key .answer)
       go (yes z) = rw (at-null names cells hash key 0 p z) (miss (record { visited = k; follows = rw z at f; timely = omega arith }))
       go (no n) =
           rw (visits-spent names cells hash key p n)
@@ -124,8 +126,8 @@ module _ (names cells : List ℕ) (first hash key : ℕ) where
     where
       go : Dec (p ≡ null) → Dec (p < slotsOf names) → Dec (pairOf names p ≡ pair hash key)
           → (ListFollows names cells first hash key (suc k) (cell cells p next)
-          → Outcome (listed names cells v (cell cells p next) hash key .answer))
-          → Outcome (listed names cells (suc v) p hash key .answer)
+          → Outcome (soughtInList names cells v (cell cells p next) hash key .answer))
+          → Outcome (soughtInList names cells (suc v) p hash key .answer)
       go (yes z) d h rest =
           rw (at-null names cells hash key (suc v) p z) (miss (record { visited = k; follows = rw z at f; timely = omega arith }))
       go (no n) (no d) h rest =

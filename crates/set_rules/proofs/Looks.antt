@@ -17,7 +17,7 @@ use Rattle.tree_rules.proofs.Trail.{here-on, on-is, looks, Runs, Trail, start, 
 use Rattle.tree_rules.proofs.Claims.{claims as shape-claims}
 use Rattle.set_rules.specs.Words.{Set, tablesOf, rootAt, Fit, fits, Bin, empty, moved, bad, list, tree}
 use Rattle.set_rules.specs.Accepted.{Listed}
-use Rattle.set_rules.specs.Lookup.{hasPair, listLook, listed, homeBin, asked, forwarded, lookups, ListFollows}
+use Rattle.set_rules.specs.Lookup.{hasPair, listLook, soughtInList, homeBin, asked, forwarded, lookups, ListFollows}
 use Rattle.set_rules.specs.Walked.{LookupLooks}
 use Rattle.set_rules.proofs.Reading.{at-null, out-of-range, visits-spent, at-slot}
 use Rattle.set_rules.proofs.Forwarding.{past-last}
@@ -41,7 +41,7 @@ module _ (names cells : List ℕ) (hash key : ℕ) where
       go true h e = absurd (here-on e)
       go false h e = (λ z. false≢true (sym h ∙ same-has names p hash key z), on-is e)
 
-  pub list-runs : Runs (slotsOf names) (λ p. listLook names cells p hash key) (λ v p. listed names cells v p hash key)
+  pub list-runs : Runs (slotsOf names) (λ p. listLook names cells p hash key) (λ v p. soughtInList names cells v p hash key)
   list-runs =
       record {
         at-null = at-null names cells hash key;
@@ -59,14 +59,15 @@ module _ (names cells : List ℕ) (hash key : ℕ) where
     from k p ListFollows.start = start
     from k p (ListFollows.step {k = i} {p = x} f d l n) = step {q = cell cells x next} (from i x f) d l (rw (not-has names x hash key n))
 
-    pub list-looks : LooksAt names hash key (ListFollows names cells first hash key) (listed names cells (slotsOf names) first hash key)
+    pub list-looks : LooksAt names hash key (ListFollows names cells first hash key)
+        (soughtInList names cells (slotsOf names) first hash key)
     list-looks = looks-at names hash key list-runs is (λ p q e. is-on p q e .0) first (ListFollows names cells first hash key) to from
 
 -- A list that ends is looked at no further than it is long.
 module _ (names cells : List ℕ) (hash key : ℕ) where
   pub list-length : (visits : ℕ) {p : ℕ} {l : List ℕ} → Listed (slotsOf names) cells p l
-      → length (listed names cells visits p hash key .looks) ≤ length l
-  unfolding listed
+      → length (soughtInList names cells visits p hash key .looks) ≤ length l
+  unfolding soughtInList
   list-length zero {p} {l} h = go (eqb p null)
     where
       go : (b : Bool) → length (pick b (ends nothing) (ends (refused 9)) .looks) ≤ length l
@@ -76,9 +77,9 @@ module _ (names cells : List ℕ) (hash key : ℕ) where
   list-length (suc visits) (Listed.onward {i = p} {l = l} b h) =
       go (eqb p null) (leb (slotsOf names) p) (hasPair names p hash key) (list-length visits h)
     where
-      go : (u v w : Bool) → length (listed names cells visits (cell cells p next) hash key .looks) ≤ length l
+      go : (u v w : Bool) → length (soughtInList names cells visits (cell cells p next) hash key .looks) ≤ length l
           → length (pick u (ends nothing) (pick v (ends (refused 9))
-          (lookedThen (pick w here (on (cell cells p next))) p (λ q. listed names cells visits q hash key))) .looks)
+          (lookedThen (pick w here (on (cell cells p next))) p (λ q. soughtInList names cells visits q hash key))) .looks)
           ≤ suc (length l)
       go true v w x = omega arith
       go false true w x = omega arith

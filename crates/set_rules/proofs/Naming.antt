@@ -15,9 +15,10 @@ use Rattle.tree_rules.specs.Tree.{times}
 use Rattle.tree_rules.specs.Chain.{tally}
 use Rattle.tree_rules.proofs.Counting.{times-head, times-else, times-rest, times-cases, exactly, exactly-length}
 use Rattle.index_rules.proofs.Fit.{both}
-use Rattle.set_rules.specs.Words.{Set, Fit, tablesOf, headersIn, begins, rootAt, firstAt, countAt, Bin, empty, moved, bad, list, tree}
+use Rattle.set_rules.specs.Words.{Set, Fit, tablesOf, headersIn, binsBefore, rootAt, firstAt, countAt, Bin, empty, moved, bad, list}
+use Rattle.set_rules.specs.Words.{tree}
 use Rattle.set_rules.specs.Words.{binOf, binAt}
-use Rattle.set_rules.specs.Accepted.{Place, HeadsOnce}
+use Rattle.set_rules.specs.Accepted.{BinPlace, HeadsOnce}
 use Rattle.set_rules.specs.Accepting.{isBlank, filled, namesHeader, naming, headersFine}
 use Rattle.set_rules.specs.Judged.{Ranges}
 use Rattle.tree_rules.specs.Find.{slotsOf}
@@ -122,23 +123,23 @@ module _ (n h w : ℕ) where
       }
 
 -- Each bin has a place in the row of all tables' bins, and each place is a bin's.
-begins-more : (l : List ℕ) (t k : ℕ) → k < t → begins l k + getD l k 0 ≤ begins l t
-unfolding begins
+begins-more : (l : List ℕ) (t k : ℕ) → k < t → binsBefore l k + getD l k 0 ≤ binsBefore l t
+unfolding binsBefore
 begins-more l zero k b = absurd (omega arith)
 begins-more l (suc t) k b = go (ℕ-discrete k t) (λ d. begins-more l t k (omega arith))
   where
-    go : Dec (k ≡ t) → (k ≢ t → begins l k + getD l k 0 ≤ begins l t) → begins l k + getD l k 0 ≤ begins l t + getD l t 0
+    go : Dec (k ≡ t) → (k ≢ t → binsBefore l k + getD l k 0 ≤ binsBefore l t) → binsBefore l k + getD l k 0 ≤ binsBefore l t + getD l t 0
     go (yes e) rest = rw e (omega arith)
     go (no d) rest = omega (arith, rest d)
 
-begins-place : (l : List ℕ) (t p : ℕ) → p < begins l t → (k : ℕ) × (i : ℕ) × (k < t) × (i < getD l k 0) × (begins l k + i ≡ p)
-unfolding begins
+begins-place : (l : List ℕ) (t p : ℕ) → p < binsBefore l t → (k : ℕ) × (i : ℕ) × (k < t) × (i < getD l k 0) × (binsBefore l k + i ≡ p)
+unfolding binsBefore
 begins-place l zero p b = absurd (omega arith)
-begins-place l (suc t) p b = go (decLe (begins l t) p) (λ c. begins-place l t p c)
+begins-place l (suc t) p b = go (decLe (binsBefore l t) p) (λ c. begins-place l t p c)
   where
-    go : Dec (begins l t ≤ p) → (p < begins l t → (k : ℕ) × (i : ℕ) × (k < t) × (i < getD l k 0) × (begins l k + i ≡ p))
-        → (k : ℕ) × (i : ℕ) × (k < suc t) × (i < getD l k 0) × (begins l k + i ≡ p)
-    go (yes c) again = (t, p - begins l t, omega arith, omega arith, omega arith)
+    go : Dec (binsBefore l t ≤ p) → (p < binsBefore l t → (k : ℕ) × (i : ℕ) × (k < t) × (i < getD l k 0) × (binsBefore l k + i ≡ p))
+        → (k : ℕ) × (i : ℕ) × (k < suc t) × (i < getD l k 0) × (binsBefore l k + i ≡ p)
+    go (yes c) again = (t, p - binsBefore l t, omega arith, omega arith, omega arith)
     go (no d) again = let r = again (omega arith) in (r .0, r .1, omega (arith, r .2), r .3, r .4)
 
 -- The bin that the word p of the row is.
@@ -258,13 +259,14 @@ unfolding isBlank
 rooted-filled s h d = rw (ne-eqb _ _ d)
 
 -- Where no two bins name one header and each named header has a root, the counts agree exactly if the other headers are null with count 0.
-module _ {s : Set} (fit : Fit s) (heads : HeadsOnce s) (roots : (k i h : ℕ) → Place s k i → binAt s k i ≡ tree h → rootAt s h ≢ null) where
+module _ {s : Set} (fit : Fit s) (heads : HeadsOnce s)
+    (roots : (k i h : ℕ) → BinPlace s k i → binAt s k i ≡ tree h → rootAt s h ≢ null) where
   abbrev Bins : ℕ → Type 0
-  Bins h = (k : ℕ) × (i : ℕ) × Place s k i × (binAt s k i ≡ tree h)
+  Bins h = (k : ℕ) × (i : ℕ) × BinPlace s k i × (binAt s k i ≡ tree h)
 
   -- A word of the row is a bin's, and a bin's word stands in the row.
   word-place : (p h : ℕ) → p < length (s .bins) → wordBin s p ≡ tree h
-      → (k : ℕ) × (i : ℕ) × Place s k i × (binAt s k i ≡ tree h) × (begins (s .lengths) k + i ≡ p)
+      → (k : ℕ) × (i : ℕ) × BinPlace s k i × (binAt s k i ≡ tree h) × (binsBefore (s .lengths) k + i ≡ p)
   word-place p h b e =
       let q = begins-place (s .lengths) (tablesOf s) p (omega (arith, fit .all)) in
       (q .0, q .1, record { table = q .2; index = q .3 }, ap (wordBin s) (q .4) ∙ e, q .4)
@@ -285,10 +287,10 @@ module _ {s : Set} (fit : Fit s) (heads : HeadsOnce s) (roots : (k i h : ℕ) �
       let u = word-place (r .0) h (r .1) (r .2) in
       (u .0, u .1, u .2, u .3)
 
-  bin-named : (k i h : ℕ) → Place s k i → binAt s k i ≡ tree h → 1 ≤ times h all
+  bin-named : (k i h : ℕ) → BinPlace s k i → binAt s k i ≡ tree h → 1 ≤ times h all
   bin-named k i h p e =
       let l = begins-more (s .lengths) (tablesOf s) k (p .table) in
-      word-named s (length (s .bins)) h (begins (s .lengths) k + i) (omega (arith, p .index, fit .all)) e
+      word-named s (length (s .bins)) h (binsBefore (s .lengths) k + i) (omega (arith, p .index, fit .all)) e
 
   inside : (h : ℕ) → 1 ≤ times h all → h < headersIn s
   inside h m = let r = named-bin h m in ranges (slotsOf (s .names)) (headersIn s) _ .trees h .0 (r .3) .3
@@ -299,7 +301,7 @@ module _ {s : Set} (fit : Fit s) (heads : HeadsOnce s) (roots : (k i h : ℕ) �
   abbrev Counted : Type 0
   Counted = headersFine (slotsOf (s .names)) (headersIn s) (s .heads) (s .bins) ≡ true
 
-  pub headers-blank : Counted → (h : ℕ) → h < headersIn s → ((k i : ℕ) → Place s k i → binAt s k i ≢ tree h) → Blank s h
+  pub headers-blank : Counted → (h : ℕ) → h < headersIn s → ((k i : ℕ) → BinPlace s k i → binAt s k i ≢ tree h) → Blank s h
   unfolding headersFine
   headers-blank e h b none = is-blank s h (go (decLe 1 (times h all)))
     where
@@ -312,7 +314,7 @@ module _ {s : Set} (fit : Fit s) (heads : HeadsOnce s) (roots : (k i h : ℕ) �
       go (yes m) = let r = named-bin h m in absurd (none (r .0) (r .1) (r .2) (r .3))
       go (no d) = omega (arith, same)
 
-  pub blank-headers : ((h : ℕ) → h < headersIn s → ((k i : ℕ) → Place s k i → binAt s k i ≢ tree h) → Blank s h) → Counted
+  pub blank-headers : ((h : ℕ) → h < headersIn s → ((k i : ℕ) → BinPlace s k i → binAt s k i ≢ tree h) → Blank s h) → Counted
   unfolding headersFine
   blank-headers blank = eq-eqb _ _ (sym (exactly-length (headersIn s) all inside (filled (s .heads)) same) ∙ named-length s _)
     where

@@ -10,7 +10,7 @@ use lib.Seq.{getD-set-same, getD-set-other}
 use lib.Dec.{ltb}
 use borrow.Author.Tests.{lt-ltb, le-ltb}
 use Rattle.slots.specs.Words.{pick}
-use Rattle.set_rules.specs.Walk.{Place, place, further, advanced, under}
+use Rattle.set_rules.specs.Walk.{WalkPlace, walkPlace, further, advanced, under}
 
 -- The bins that come after the one at depth d, and those from the place on.
 unfoldable pub later : List ℕ → ℕ → ℕ → List ℕ → ℕ
@@ -44,7 +44,7 @@ module _ (lengths : List ℕ) (base : ℕ) where
     abbrev pub on : ℕ
     on = further lengths base d x
 
-    pub advanced-lt : on < getD lengths (base + suc d) 0 → advanced (suc d) lengths base x ≡ place (suc d) (set x (suc d) on)
+    pub advanced-lt : on < getD lengths (base + suc d) 0 → advanced (suc d) lengths base x ≡ walkPlace (suc d) (set x (suc d) on)
     unfolding advanced
     advanced-lt h = simp (lt-ltb _ _ h)
 
@@ -65,7 +65,7 @@ module _ (lengths : List ℕ) (base : ℕ) where
   unfolding left
   left-suc d x = refl
 
-  abbrev pub leftOf : Place → ℕ
+  abbrev pub leftOf : WalkPlace → ℕ
   leftOf p = left lengths base (p .depth) (p .indexes)
 
   left-first : (x : List ℕ) → length x ≡ 8 → leftOf (advanced 0 lengths base x) ≡ later lengths base 0 x

@@ -32,8 +32,8 @@ pub record Step : Type 0 where
   pub answer : Answer
   pub cursor : Cursor
 
-abbrev pub blank : Cursor
-blank = record { base = 0; depth = 0; indexes = lone 0; last = 0 }
+abbrev pub blankCursor : Cursor
+blankCursor = record { base = 0; depth = 0; indexes = lone 0; last = 0 }
 
 -- A cursor at the first bin of table t, with no slot given; 1, 10 hand back a cursor that is all zero.
 unfoldable pub starts : Set → ℕ → Step
@@ -41,8 +41,8 @@ starts s t =
     pick (fits s)
     (pick (ltb t (tablesOf s))
     (record { answer = given 1; cursor = record { base = t; depth = 0; indexes = lone 0; last = null } })
-    (record { answer = refused 10; cursor = blank }))
-    (record { answer = refused 1; cursor = blank })
+    (record { answer = refused 10; cursor = blankCursor }))
+    (record { answer = refused 1; cursor = blankCursor })
 
 -- "no such base table, indexes out of range (the end excepted) or not congruent to the level above modulo its length, depth past the
 -- last table, last slot neither null nor a slot"

@@ -21,12 +21,12 @@ abbrev pub listLook : List ℕ → List ℕ → ℕ → ℕ → ℕ → Look
 listLook names cells p hash key = pick (hasPair names p hash key) here (on (cell cells p next))
 
 -- The list from the link p read by next, with so many visits left.
-unfoldable pub listed : List ℕ → List ℕ → ℕ → ℕ → ℕ → ℕ → Search
-listed names cells zero p hash key = pick (eqb p null) (ends nothing) (ends (refused 9))
-listed names cells (suc visits) p hash key =
+unfoldable pub soughtInList : List ℕ → List ℕ → ℕ → ℕ → ℕ → ℕ → Search
+soughtInList names cells zero p hash key = pick (eqb p null) (ends nothing) (ends (refused 9))
+soughtInList names cells (suc visits) p hash key =
     pick (eqb p null) (ends nothing)
     (pick (leb (slotsOf names) p) (ends (refused 9))
-    (lookedThen (listLook names cells p hash key) p (λ q. listed names cells visits q hash key)))
+    (lookedThen (listLook names cells p hash key) p (λ q. soughtInList names cells visits q hash key)))
 
 -- The bin of table k for a hash.
 abbrev pub homeBin : Set → ℕ → ℕ → Bin
@@ -37,7 +37,7 @@ abbrev pub asked : Set → Bin → ℕ → ℕ → Search → Search
 asked s empty hash key below = ends nothing
 asked s moved hash key below = below
 asked s bad hash key below = ends (refused 9)
-asked s (list p) hash key below = listed (s .names) (s .cells) (slotsOf (s .names)) p hash key
+asked s (list p) hash key below = soughtInList (s .names) (s .cells) (slotsOf (s .names)) p hash key
 asked s (tree h) hash key below = found (s .names) (s .cells) (rootAt s h) hash key
 
 -- The loop from table k, with so many tables left. Moved in the last table is 9.

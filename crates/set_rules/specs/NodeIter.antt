@@ -14,7 +14,7 @@ use Rattle.set_rules.specs.Cursor.{Cursor, Step}
 use Rattle.tree_rules.specs.Find.{slotsOf}
 
 -- TableStack: a table that was left by a Moved bin, the index of that bin, and the table's length.
-pub record Frame : Type 0 where
+pub record IterFrame : Type 0 where
   pub table : ℕ
   pub index : ℕ
   pub long : ℕ
@@ -24,9 +24,9 @@ pub record Iter : Type 0 where
   pub table : ℕ
   pub index : ℕ
   pub base-index : ℕ
-  pub stack : List Frame
+  pub stack : List IterFrame
 
-abbrev pub iter : ℕ → ℕ → ℕ → List Frame → Iter
+abbrev pub iter : ℕ → ℕ → ℕ → List IterFrame → Iter
 iter table index base-index stack = record { table = table; index = index; base-index = base-index; stack = stack }
 
 -- `base_index >= base_limit`, or `len() <= index`; base_limit and base_size are the base table's length.
@@ -41,7 +41,7 @@ pushed s it =
 
 -- recover_state with the length n of the current table: `index + s.length < n` moves on within the frame, else the frame is popped; with
 -- no frame left `index += base_size`, and from n on comes the next bin of the base table. With no frame at all `next` does the same itself.
-unfoldable pub recovered : List Frame → ℕ → ℕ → ℕ → ℕ → ℕ → Iter
+unfoldable pub recovered : List IterFrame → ℕ → ℕ → ℕ → ℕ → ℕ → Iter
 recovered [] size table index base-index n =
     pick (leb n (index + size)) (iter table (suc base-index) (suc base-index) []) (iter table (index + size) base-index [])
 recovered (f ∷ rest) size table index base-index n =
@@ -72,13 +72,13 @@ looped (suc turns) s size it =
     pick (over s size it) ends (matched s size it (binAt s (it .table) (it .index)) (λ on. looped turns s size on))
 
 -- The whole call: prev's next comes first.
-abbrev pub called : ℕ → Set → ℕ → Iter → ℕ → Yield
-called turns s size it prev =
+abbrev pub nextCalled : ℕ → Set → ℕ → Iter → ℕ → Yield
+nextCalled turns s size it prev =
     let link = cell (s .cells) prev next in
     pick (eqb link null) (looped turns s size it) (pick (ltb link (slotsOf (s .names))) (yields link it) stuck)
 
 -- A cursor as such a state: the frames of the levels above d.
-unfoldable pub frames : Set → ℕ → ℕ → List ℕ → List Frame
+unfoldable pub frames : Set → ℕ → ℕ → List ℕ → List IterFrame
 frames s base zero x = []
 frames s base (suc d) x = record { table = base + d; index = getD x d 0; long = lengthAt s (base + d) } ∷ frames s base d x
 

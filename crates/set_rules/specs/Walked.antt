@@ -15,10 +15,10 @@ use Rattle.index_rules.specs.Sound.{used}
 use Rattle.set_rules.specs.Words.{Set, tablesOf, lengthAt, rootAt, countAt, Fit, empty, moved, bad, list, tree}
 use Rattle.set_rules.specs.Accepted.{Accepted, Listed}
 use Rattle.set_rules.specs.Lookup.{homeBin, lookups, ListFollows, Reaches, Astray, Hit, Miss}
-use Rattle.set_rules.specs.Cursor.{Cursor, Step, indexAt, lone, blank, starts, BadCursor}
+use Rattle.set_rules.specs.Cursor.{Cursor, Step, indexAt, lone, blankCursor, starts, BadCursor}
 use Rattle.set_rules.specs.Walk.{nexts}
 use Rattle.set_rules.specs.Ways.{Strays, Steps}
-use Rattle.set_rules.specs.NodeIter.{called, stateOf, IsCall}
+use Rattle.set_rules.specs.NodeIter.{nextCalled, stateOf, IsCall}
 use Rattle.set_rules.specs.Held.{Reached, EntryFrom, Made, cursorAfter}
 use Rattle.set_rules.specs.Whole.{Onward, Listing}
 
@@ -62,8 +62,8 @@ pub record LooksUp (s : Set) (t hash key : ℕ) : Type 0 where
 
 -- Start: 1, then 10, with a cursor that is all zero; else a cursor at the first bin of the table.
 pub record Starts (s : Set) (t : ℕ) : Type 0 where
-  pub one : (starts s t ≡ record { answer = refused 1; cursor = blank }) ↔ (Fit s → ⊥)
-  pub ten : (starts s t ≡ record { answer = refused 10; cursor = blank }) ↔ (Fit s × (tablesOf s ≤ t))
+  pub one : (starts s t ≡ record { answer = refused 1; cursor = blankCursor }) ↔ (Fit s → ⊥)
+  pub ten : (starts s t ≡ record { answer = refused 10; cursor = blankCursor }) ↔ (Fit s × (tablesOf s ≤ t))
   pub made : (starts s t ≡ record { answer = given 1; cursor = record { base = t; depth = 0; indexes = lone 0; last = null } })
       ↔ (Fit s × (t < tablesOf s))
 
@@ -81,7 +81,7 @@ pub record Nexts (s : Set) (c : Cursor) : Type 0 where
   pub done : nexts s c .answer ≡ nothing → nexts s (nexts s c .cursor) ≡ nexts s c
 
 -- The walk of an accepted set: no step is refused, and repeated steps reach Done.
-pub record Walks (s : Set) (c : Cursor) : Type 0 where
+pub record WalkFrom (s : Set) (c : Cursor) : Type 0 where
   pub never : (n : ℕ) → 1 ≤ n → nexts s c .answer ≢ refused n
   pub ends : (n : ℕ) × (nexts s (cursorAfter n s c) .answer ≡ nothing)
 
@@ -119,10 +119,10 @@ pub record Walked : Type 0 where
   -- a step is a call of the source's next from the same state, and that call has ended within so many turns
   pub as-source : (s : Set) → Fit s → (c : Cursor) → (BadCursor s c → ⊥)
       → (enough : ℕ)
-      × ((turns : ℕ) → enough < turns → IsCall s c (nexts s c) (called turns s (lengthAt s (c .base)) (stateOf s c) (c .last)))
+      × ((turns : ℕ) → enough < turns → IsCall s c (nexts s c) (nextCalled turns s (lengthAt s (c .base)) (stateOf s c) (c .last)))
   -- a cursor that start or next made is never bad, on every fit set
   pub made-never-bad : (s : Set) → Fit s → (c : Cursor) → Made s c → BadCursor s c → ⊥
   pub looking-accepted : (s : Set) → Fit s → Accepted s → (t hash key : ℕ) → t < tablesOf s → LooksUp s t hash key
-  pub walking-accepted : (s : Set) → Fit s → Accepted s → (c : Cursor) → Made s c → Walks s c
+  pub walking-accepted : (s : Set) → Fit s → Accepted s → (c : Cursor) → Made s c → WalkFrom s c
   pub mapping-accepted : (s : Set) → Fit s → Accepted s → Map s
   pub whole-walk : (s : Set) → Fit s → Accepted s → (t : ℕ) → t < tablesOf s → WholeWalk s t

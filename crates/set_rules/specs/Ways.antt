@@ -8,56 +8,56 @@ use Rattle.slots.specs.Words.{null, next, cell}
 use Rattle.slots.specs.Answers.{given, nothing, refused}
 use Rattle.set_rules.specs.Words.{Set, tablesOf, lengthAt, firstAt, Bin, empty, moved, bad, list, tree, binAt}
 use Rattle.set_rules.specs.Cursor.{Cursor, indexAt, Step}
-use Rattle.set_rules.specs.Walk.{Place}
+use Rattle.set_rules.specs.Walk.{WalkPlace}
 use Rattle.tree_rules.specs.Find.{slotsOf}
 
 -- A place of so many levels below the base table, with these indexes.
-abbrev pub spot : ℕ → List ℕ → Place
-spot d x = record { depth = d; indexes = x }
+abbrev pub placeAt : ℕ → List ℕ → WalkPlace
+placeAt d x = record { depth = d; indexes = x }
 
 -- "the indexes name the next bin": the deepest one.
-abbrev pub index : Place → ℕ
-index p = getD (p .indexes) (p .depth) 0
+abbrev pub indexThere : WalkPlace → ℕ
+indexThere p = getD (p .indexes) (p .depth) 0
 
 -- The bin that is named, and that it is there.
-abbrev pub named : Set → ℕ → Place → Bin
-named s base p = binAt s (base + p .depth) (index p)
+abbrev pub named : Set → ℕ → WalkPlace → Bin
+named s base p = binAt s (base + p .depth) (indexThere p)
 
-abbrev pub There : Set → ℕ → Place → Type 0
-There s base p = index p < lengthAt s (base + p .depth)
+abbrev pub There : Set → ℕ → WalkPlace → Type 0
+There s base p = indexThere p < lengthAt s (base + p .depth)
 
 -- Where a step from the cursor begins: at its depth and its eight indexes, "past the depth unread, handed back as 0".
-pub record Begins (c : Cursor) (p : Place) : Type 0 where
+pub record Begins (c : Cursor) (p : WalkPlace) : Type 0 where
   pub depth : p .depth ≡ c .depth
   pub eight : length (p .indexes) ≡ 8
   pub kept : (j : ℕ) → j ≤ c .depth → getD (p .indexes) j 0 ≡ indexAt c j
   pub past : (j : ℕ) → c .depth < j → getD (p .indexes) j 0 ≡ 0
 
 -- "after it comes that index plus the upper length, while below the lower length; then up"; in the base table comes the next bin.
-pub data After (s : Set) (base : ℕ) : Place → Place → Type 0 where
+pub data After (s : Set) (base : ℕ) : WalkPlace → WalkPlace → Type 0 where
   plus : {d : ℕ} {x : List ℕ}
       → getD x (suc d) 0 + lengthAt s (base + d) < lengthAt s (base + suc d)
-      → After s base (spot (suc d) x) (spot (suc d) (set x (suc d) (getD x (suc d) 0 + lengthAt s (base + d))))
-  up : {d : ℕ} {x : List ℕ} {q : Place}
+      → After s base (placeAt (suc d) x) (placeAt (suc d) (set x (suc d) (getD x (suc d) 0 + lengthAt s (base + d))))
+  up : {d : ℕ} {x : List ℕ} {q : WalkPlace}
       → lengthAt s (base + suc d) ≤ getD x (suc d) 0 + lengthAt s (base + d)
-      → After s base (spot d (set x (suc d) 0)) q
-      → After s base (spot (suc d) x) q
-  next-bin : {x : List ℕ} → After s base (spot 0 x) (spot 0 (set x 0 (getD x 0 0 + 1)))
+      → After s base (placeAt d (set x (suc d) 0)) q
+      → After s base (placeAt (suc d) x) q
+  next-bin : {x : List ℕ} → After s base (placeAt 0 x) (placeAt 0 (set x 0 (getD x 0 0 + 1)))
 
 -- From a place, the walk comes to this one: past the empty bins, and down the Moved ones, "to the same index below".
-pub data Comes (s : Set) (base : ℕ) (from : Place) : Place → Type 0 where
+pub data Comes (s : Set) (base : ℕ) (from : WalkPlace) : WalkPlace → Type 0 where
   start : Comes s base from from
-  past : {p q : Place} → Comes s base from p → There s base p → named s base p ≡ empty → After s base p q → Comes s base from q
-  down : {p : Place}
+  past : {p q : WalkPlace} → Comes s base from p → There s base p → named s base p ≡ empty → After s base p q → Comes s base from q
+  down : {p : WalkPlace}
       → Comes s base from p
       → There s base p
       → named s base p ≡ moved
       → base + suc (p .depth) < tablesOf s
-      → Comes s base from (spot (suc (p .depth)) (set (p .indexes) (suc (p .depth)) (index p)))
+      → Comes s base from (placeAt (suc (p .depth)) (set (p .indexes) (suc (p .depth)) (indexThere p)))
 
 -- A step from the cursor c, whose last slot has no next, reads the bin b at the place p.
-pub record Reads (s : Set) (c : Cursor) (b : Bin) (p : Place) : Type 0 where
-  pub from : Place
+pub record Reads (s : Set) (c : Cursor) (b : Bin) (p : WalkPlace) : Type 0 where
+  pub from : WalkPlace
   pub begins : Begins c from
   pub no-next : cell (s .cells) (c .last) next ≡ null
   pub comes : Comes s (c .base) from p
@@ -69,28 +69,28 @@ pub record Reads (s : Set) (c : Cursor) (b : Bin) (p : Place) : Type 0 where
 -- slot that it gives.
 pub data Strays (s : Set) (c : Cursor) : Type 0 where
   stray-next : cell (s .cells) (c .last) next ≢ null → slotsOf (s .names) ≤ cell (s .cells) (c .last) next → Strays s c
-  bad-bin : {p : Place} → Reads s c bad p → Strays s c
-  moved-last : {p : Place} → Reads s c moved p → tablesOf s ≤ c .base + suc (p .depth) → Strays s c
-  no-first : {p : Place} {h : ℕ} → Reads s c (tree h) p → firstAt s h ≡ null → Strays s c
-  stray-first : {p : Place} {h : ℕ} → Reads s c (tree h) p → firstAt s h ≢ null → slotsOf (s .names) ≤ firstAt s h → Strays s c
+  bad-bin : {p : WalkPlace} → Reads s c bad p → Strays s c
+  moved-last : {p : WalkPlace} → Reads s c moved p → tablesOf s ≤ c .base + suc (p .depth) → Strays s c
+  no-first : {p : WalkPlace} {h : ℕ} → Reads s c (tree h) p → firstAt s h ≡ null → Strays s c
+  stray-first : {p : WalkPlace} {h : ℕ} → Reads s c (tree h) p → firstAt s h ≢ null → slotsOf (s .names) ≤ firstAt s h → Strays s c
 
 -- The cursor at a place, with the slot given.
-abbrev pub moved-to : Cursor → Place → ℕ → Cursor
+abbrev pub moved-to : Cursor → WalkPlace → ℕ → Cursor
 moved-to c p x = record { base = c .base; depth = p .depth; indexes = p .indexes; last = x }
 
 -- What a step from a cursor that is not bad answers, and the cursor that comes back.
 pub data Steps (s : Set) (c : Cursor) : Step → Type 0 where
   -- "the last slot's next, if any, comes first"
-  by-next : {from : Place} {x : ℕ} → Begins c from → cell (s .cells) (c .last) next ≡ x → x ≢ null → x < slotsOf (s .names)
+  by-next : {from : WalkPlace} {x : ℕ} → Begins c from → cell (s .cells) (c .last) next ≡ x → x ≢ null → x < slotsOf (s .names)
       → Steps s c (record { answer = given x; cursor = moved-to c from x })
-  by-list : {p q : Place} {x : ℕ} → Reads s c (list x) p → After s (c .base) p q
+  by-list : {p q : WalkPlace} {x : ℕ} → Reads s c (list x) p → After s (c .base) p q
       → Steps s c (record { answer = given x; cursor = moved-to c q x })
   -- "A tree is walked from first by next."
-  by-tree : {p q : Place} {h : ℕ} → Reads s c (tree h) p → firstAt s h < slotsOf (s .names) → After s (c .base) p q
+  by-tree : {p q : WalkPlace} {h : ℕ} → Reads s c (tree h) p → firstAt s h < slotsOf (s .names) → After s (c .base) p q
       → Steps s c (record { answer = given (firstAt s h); cursor = moved-to c q (firstAt s h) })
   -- "Base index equal to the base length, at depth 0, is the end: with no such next it is Done, last slot then null"
-  by-end : {from p : Place} → Begins c from → cell (s .cells) (c .last) next ≡ null → Comes s (c .base) from p → p .depth ≡ 0
-      → index p ≡ lengthAt s (c .base)
+  by-end : {from p : WalkPlace} → Begins c from → cell (s .cells) (c .last) next ≡ null → Comes s (c .base) from p → p .depth ≡ 0
+      → indexThere p ≡ lengthAt s (c .base)
       → Steps s c (record {
         answer = nothing;
         cursor = record { base = c .base; depth = 0; indexes = lengthAt s (c .base) ∷ 0 ∷ 0 ∷ 0 ∷ 0 ∷ 0 ∷ 0 ∷ 0 ∷ []; last = null };

@@ -33,13 +33,13 @@ abbrev pub headersIn : Set → ℕ
 headersIn s = length (s .heads) / 3
 
 -- How many bins the first k tables have: where the bins of table k begin.
-unfoldable pub begins : List ℕ → ℕ → ℕ
-begins lengths zero = 0
-begins lengths (suc k) = begins lengths k + getD lengths k 0
+unfoldable pub binsBefore : List ℕ → ℕ → ℕ
+binsBefore lengths zero = 0
+binsBefore lengths (suc k) = binsBefore lengths k + getD lengths k 0
 
 -- The word of bin i of table k.
 abbrev pub binWord : Set → ℕ → ℕ → ℕ
-binWord s k i = getD (s .bins) (begins (s .lengths) k + i) 0
+binWord s k i = getD (s .bins) (binsBefore (s .lengths) k + i) 0
 
 -- The header h: its root, its first and its count.
 abbrev pub rootAt : Set → ℕ → ℕ
@@ -60,7 +60,7 @@ pub record Fit (s : Set) : Type 0 where
   pub power : (e : ℕ) × (lengthAt s 0 ≡ 2 ^ e)
   pub twice : (k : ℕ) → suc k < tablesOf s → lengthAt s (suc k) ≡ 2 * lengthAt s k
   pub last : lengthAt s (tablesOf s - 1) ≤ mostSlots
-  pub all : length (s .bins) ≡ begins (s .lengths) (tablesOf s)
+  pub all : length (s .bins) ≡ binsBefore (s .lengths) (tablesOf s)
   pub slots : ℕ
   pub slots-most : slots ≤ mostSlots
   pub two : length (s .names) ≡ 2 * slots
@@ -91,7 +91,7 @@ fits s =
     let n = slotsOf (s .names) in
     let h = headersIn s in
     fitTables (s .lengths)
-    and eqb (length (s .bins)) (begins (s .lengths) (tablesOf s))
+    and eqb (length (s .bins)) (binsBefore (s .lengths) (tablesOf s))
     and leb n mostSlots
     and eqb (length (s .names)) (2 * n)
     and eqb (length (s .cells)) (7 * n)

@@ -12,7 +12,7 @@ use Rattle.slots.specs.Words.{null, next, cell}
 use Rattle.slots.specs.Answers.{nothing, refused}
 use Rattle.tree_rules.specs.Find.{here, on, Counted, withLooks, counted, slotsOf, found}
 use Rattle.set_rules.specs.Words.{Set, tablesOf, fits, empty, moved, bad, list, tree}
-use Rattle.set_rules.specs.Lookup.{hasPair, listLook, listed, homeBin, forwarded, lookups}
+use Rattle.set_rules.specs.Lookup.{hasPair, listLook, soughtInList, homeBin, forwarded, lookups}
 use Rattle.set_rules.proofs.Fit.{fits-fit, slots-are}
 use Rattle.set_rules.proofs.Forwarding.{turn, past-last}
 use Rattle.set_rules.proofs.Claims.{claims}
@@ -34,7 +34,7 @@ module _ (s : Set) (hash key k : ℕ) {r : Counted} (i : counted (forwarded (tab
   at-bad e = ap counted (sym (turn s hash key k l e)) ∙ i
 
   pub at-list : {p : ℕ} → list p ≡ homeBin s k hash → {a : Counted}
-      → a ≡ counted (listed (s .names) (s .cells) (slotsOf (s .names)) p hash key) → a ≡ r
+      → a ≡ counted (soughtInList (s .names) (s .cells) (slotsOf (s .names)) p hash key) → a ≡ r
   at-list e h = h ∙ ap counted (sym (turn s hash key k l e)) ∙ i
 
   pub at-tree : {h root : ℕ} → tree h ≡ homeBin s k hash → root ≡ getD (s .heads) (3 * h + 0) null → {a : Counted}

@@ -9,21 +9,21 @@ use native.Mathlib.Decide.{ℕ-discrete, decLt}
 use native.Mathlib.Omega.{arith}
 use lib.ListN.{length, getD, List·getD-eq-default}
 use borrow.Author.Tests.{eq-eqb, ne-eqb, le-leb, lt-leb}
-use Rattle.set_rules.specs.Words.{Set, tablesOf, begins, doubling, doubled, fitTables, fits}
+use Rattle.set_rules.specs.Words.{Set, tablesOf, binsBefore, doubling, doubled, fitTables, fits}
 
 -- One table more.
-pub begins-on : (l : List ℕ) (j : ℕ) → begins l (j + 1) ≡ begins l j + getD l j 0
-unfolding begins
+pub begins-on : (l : List ℕ) (j : ℕ) → binsBefore l (j + 1) ≡ binsBefore l j + getD l j 0
+unfolding binsBefore
 begins-on l j = rw add-one
 
 -- Past the last table nothing is added.
-pub begins-past : (l : List ℕ) (j : ℕ) → length l ≤ j → (k : ℕ) → j ≤ k → begins l k ≡ begins l j
-unfolding begins
+pub begins-past : (l : List ℕ) (j : ℕ) → length l ≤ j → (k : ℕ) → j ≤ k → binsBefore l k ≡ binsBefore l j
+unfolding binsBefore
 begins-past l j h zero g = let z : j ≡ 0 = omega arith in rw z
 begins-past l j h (suc k) g = go (ℕ-discrete (suc k) j) (λ n. begins-past l j h k (omega arith))
   where
-    go : Dec (suc k ≡ j) → (suc k ≢ j → begins l k ≡ begins l j) → begins l (suc k) ≡ begins l j
-    go (yes e) rest = ap (begins l) e
+    go : Dec (suc k ≡ j) → (suc k ≢ j → binsBefore l k ≡ binsBefore l j) → binsBefore l (suc k) ≡ binsBefore l j
+    go (yes e) rest = ap (binsBefore l) e
     go (no n) rest = omega (arith, rest n, List·getD-eq-default l 0 {n = k} (omega arith))
 
 -- One table less.

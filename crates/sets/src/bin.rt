@@ -6,7 +6,7 @@ ghost use mathlib.Core.Path.{_≡_};
 ghost use Prim.Native.Nat.{_+_, _*_, _<_};
 ghost use lib.ListN.{getD};
 ghost use Rattle.slots.specs.Words.{null};
-ghost use Rattle.set_rules.specs.Words.{begins, binOf};
+ghost use Rattle.set_rules.specs.Words.{binsBefore, binOf};
 ghost use Rattle.set_rules.specs.Words.{bini as home};
 ghost use Rattle.sets.specs.Bins.{binAs, homeOf, binis};
 
@@ -20,7 +20,7 @@ pub(crate) fn header(heads: &[u32], h: u32, f: usize) -> u32
 
 // The word of bin i of table k; 0 where there is no such word.
 pub fn bin_word(lengths: &[u32], bins: &[u32], k: u32, i: u32) -> u32
-    ensures { λ r. ⌜ r ≡ getD (now (bins .entry)) (begins (now (lengths .entry)) k + i) 0 ⌝ }
+    ensures { λ r. ⌜ r ≡ getD (now (bins .entry)) (binsBefore (now (lengths .entry)) k + i) 0 ⌝ }
 {
     let from = bins_before(lengths, k);
     if bins.len() <= from {

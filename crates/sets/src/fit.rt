@@ -3,7 +3,7 @@ use slots::MOST_SLOTS;
 use slots::word;
 ghost use mathlib.Core.Path.{_≡_};
 ghost use lib.ListN.{length, getD};
-ghost use Rattle.set_rules.specs.Words.{begins, doubling, fits, lentSet};
+ghost use Rattle.set_rules.specs.Words.{binsBefore, doubling, fits, lentSet};
 ghost use Rattle.set_rules.specs.Words.{doubled as allDoubled, fitTables};
 ghost use Rattle.sets.specs.Bins.{fitSlots};
 ghost use Rattle.index_rules.specs.Index.{lent};
@@ -55,7 +55,7 @@ fn fit_tables(lengths: &[u32]) -> bool
 
 // How many bins the first k tables have: where the bins of table k begin. Past the last table there are none to add.
 pub fn bins_before(lengths: &[u32], k: u32) -> usize
-    ensures { λ r. ⌜ r ≡ begins (now (lengths .entry)) k ⌝ }
+    ensures { λ r. ⌜ r ≡ binsBefore (now (lengths .entry)) k ⌝ }
 {
     let mut sum: usize = 0;
     let mut j: u32 = 0;

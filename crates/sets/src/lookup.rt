@@ -24,11 +24,11 @@ ghost use mathlib.Core.Path.{_≡_};
 ghost use Prim.Native.Nat.{_+_, _-_, _<_, _≤_};
 ghost use lib.ListN.{length, getD};
 ghost use Rattle.tree_rules.specs.Find.{slotsOf, counted as countedLooks};
-ghost use Rattle.set_rules.specs.Words.{begins, binOf, lentSet};
+ghost use Rattle.set_rules.specs.Words.{binsBefore, binOf, lentSet};
 ghost use Rattle.set_rules.specs.Words.{bini as home};
 ghost use Rattle.sets.specs.Bins.{binAs};
 ghost use Rattle.tree.specs.Find.{searchedOf, countedOf};
-ghost use Rattle.set_rules.specs.Lookup.{hasPair, listed, forwarded, lookups};
+ghost use Rattle.set_rules.specs.Lookup.{hasPair, soughtInList, forwarded, lookups};
 ghost use Rattle.sets.specs.Lookups.{lookedOf};
 
 // Slot p has the pair (hash, key).
@@ -42,7 +42,7 @@ fn has_pair(names: &[u64], p: u32, hash: u64, key: u64) -> bool
 // more than there are would be visited.
 fn find_in_list(names: &[u64], cells: &[u32], first: u32, hash: u64, key: u64) -> Found
     ensures { λ r. ⌜ searchedOf r
-        ≡ countedLooks (listed (now (names .entry)) (now (cells .entry)) (slotsOf (now (names .entry))) first hash key) ⌝ }
+        ≡ countedLooks (soughtInList (now (names .entry)) (now (cells .entry)) (slotsOf (now (names .entry))) first hash key) ⌝ }
 {
     let slots = names.len() / 2;
     let mut p = first;
@@ -70,7 +70,7 @@ fn find_in_list(names: &[u64], cells: &[u32], first: u32, hash: u64, key: u64) -
 // The bin of table k for a hash, in a set of n slots and h headers.
 fn home_bin(lengths: &[u32], bins: &[u32], n: usize, h: usize, k: u32, hash: u64) -> Bin
     ensures { λ r. ⌜ binAs r
-        ≡ binOf n h (getD (now (bins .entry)) (begins (now (lengths .entry)) k + home (getD (now (lengths .entry)) k 0) hash) 0) ⌝ }
+        ≡ binOf n h (getD (now (bins .entry)) (binsBefore (now (lengths .entry)) k + home (getD (now (lengths .entry)) k 0) hash) 0) ⌝ }
 {
     let i = index(length_at(lengths, k), hash);
     let word = bin_word(lengths, bins, k, i);

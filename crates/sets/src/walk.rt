@@ -23,10 +23,10 @@ ghost use Rattle.slots.specs.Coded.{answerOf};
 ghost use mathlib.Core.List.{[]};
 ghost use Prim.Native.Nat.{_+_, _-_, _<_, _/_};
 ghost use lib.ListN.{length, getD, set};
-ghost use Rattle.set_rules.specs.Words.{Set, begins, binOf, lentSet};
+ghost use Rattle.set_rules.specs.Words.{Set, binsBefore, binOf, lentSet};
 ghost use Rattle.sets.specs.Bins.{binAs};
 ghost use Rattle.set_rules.specs.Cursor.{starts};
-ghost use Rattle.set_rules.specs.Walk.{place, InTables, turnsIn, sought, standing, stepsOn, nexts};
+ghost use Rattle.set_rules.specs.Walk.{walkPlace, InTables, turnsIn, sought, standing, stepsOn, nexts};
 ghost use Rattle.sets.specs.Cursors.{soughtOf, startedOf, givenOf, stepOf, startOf};
 ghost use Rattle.sets.specs.Cursors.{cursorOf};
 
@@ -39,7 +39,7 @@ enum Sought {
 
 // The bin i of table k, in a set of n slots and h headers.
 fn bin_at(lengths: &[u32], bins: &[u32], n: usize, h: usize, k: u32, i: u32) -> Bin
-    ensures { λ r. ⌜ binAs r ≡ binOf n h (getD (now (bins .entry)) (begins (now (lengths .entry)) k + i) 0) ⌝ }
+    ensures { λ r. ⌜ binAs r ≡ binOf n h (getD (now (bins .entry)) (binsBefore (now (lengths .entry)) k + i) 0) ⌝ }
 {
     let word = bin_word(lengths, bins, k, i);
     bin_of(n, h, word)
@@ -55,10 +55,10 @@ fn seek(
     depth: u32,
     indexes: &mut [u32; 8],
 ) -> Sought
-    requires { ⌜ InTables (now lengths) base (place depth (now indexes)) ⌝ }
+    requires { ⌜ InTables (now lengths) base (walkPlace depth (now indexes)) ⌝ }
     ensures { λ r. ⌜ soughtOf r (now (indexes .exit))
         ≡ (let s : Set = lentSet (now (lengths .entry)) (now (bins .entry)) (now (heads .entry)) (now (names .entry)) [] in sought
-        (turnsIn s base) s base (place depth (now (indexes .entry)))) ⌝ }
+        (turnsIn s base) s base (walkPlace depth (now (indexes .entry)))) ⌝ }
 {
     let n = names.len() / 2;
     let h = heads.len() / 3;

@@ -20,7 +20,7 @@ use Rattle.tree_rules.specs.Tree.{Tree, leaf, node, colour, slots, Calm, nothin
 use Rattle.tree_rules.proofs.Reaching.{refuted, length-node}
 use Rattle.tree_rules.proofs.Height.{Even, bottom, above, even-size, even-height, higher-left, higher-right}
 use Rattle.tree.proofs.Ruling.{rise-null, calm-null, level-null, weigh-null}
-use Rattle.tree.specs.Rules.{Judged, breaks, together, judged, deepestOf}
+use Rattle.tree.specs.Rules.{Verdict, breaks, together, judged, deepestOf}
 
 -- A rule broken breaks all five.
 pub no-rise : (reach : Value) (calm : Bool) (level weight : Value) → breaks ≡ together reach none calm level weight
@@ -240,7 +240,7 @@ module _ (n : ℕ) (cells : List ℕ) where
       )
 
 module _ (names cells sizes : List ℕ) (root visits : ℕ) (few : visits < 18446744073709551616) where
-  abbrev at : ℕ → Judged
+  abbrev at : ℕ → Verdict
   at depth = judged names cells sizes null null root depth visits
 
   -- Two depths that both suffice.

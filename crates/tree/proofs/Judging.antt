@@ -16,21 +16,21 @@ use Rattle.tree_rules.specs.Rules.{obeyed, obeyedSized, isCalm}
 use Rattle.tree_rules.specs.Sizes.{hasSize}
 use Rattle.tree_rules.proofs.Sizing.{obeyed-each, sized-both}
 use Rattle.tree_rules.proofs.Visits.{reached-within, reached-fuel, reach-null, reach-outside, reach-spent, reach-wrong, reach-on}
-use Rattle.tree.specs.Rules.{Judged, obeys, breaks, together, judged, deepestOf}
+use Rattle.tree.specs.Rules.{Verdict, obeys, breaks, together, judged, deepestOf}
 use Rattle.tree.proofs.Depth.{no-rise, no-calm, no-level, no-weight, deepest-enough}
 use Rattle.tree.proofs.Weights.{weight-spent}
 use Rattle.tree.proofs.Ruling.{rise-null, rise-zero, rise-on, calm-null, calm-on, level-null, level-on, level-bound, weigh-null}
 use Rattle.tree.proofs.Ruling.{weigh-on}
 
 -- What comes after a part, where it breaks no rule.
-abbrev pub onward : Judged → (ℕ → ℕ → ℕ → Judged) → Judged
+abbrev pub onward : Verdict → (ℕ → ℕ → ℕ → Verdict) → Verdict
 onward (obeys rest last blacks) f = f rest last blacks
 onward breaks f = breaks
 
 -- The parts on the left and on the right of a slot, whose own rules hold: follow tells whether it rises from what was read last, has
 -- whether its size is a number. The visits that the two parts took tell what they weigh.
 module _ (follow : ℕ → Bool) (red : Bool) (has : ℕ → Bool) (visits : ℕ) where
-  abbrev pub joined : ℕ → ℕ → ℕ → ℕ → Judged
+  abbrev pub joined : ℕ → ℕ → ℕ → ℕ → Verdict
   joined a unspent end b = pick (eqb a b) (pick (has (visits - unspent)) (obeys unspent end (pick red a (a + 1))) breaks) breaks
 
   abbrev evened : ℕ → Value → Value
@@ -213,7 +213,7 @@ module _ (names cells sizes : List ℕ) (q last i depth visits : ℕ) {rest end 
   walk-within = reached-within (slotsOf names) cells visits q i visits rest (parts .0)
 
 -- The whole tree.
-abbrev pub restLeft : Judged → Value
+abbrev pub restLeft : Verdict → Value
 restLeft (obeys rest last blacks) = some rest
 restLeft breaks = none
 

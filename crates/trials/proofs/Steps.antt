@@ -10,7 +10,7 @@ use lib.ListN.{length, take, drop, getD, length-drop}
 use lib.Seq.{take-all, drop-drop}
 use borrow.Author.Tests.{lt-ltb, le-ltb, eq-eqb, ne-eqb}
 use Rattle.index_rules.specs.Index.{Index}
-use Rattle.script_rules.specs.Feeding.{Line, blank, Desk, Fed, feeds, finishes, deskOf}
+use Rattle.script_rules.specs.Feeding.{Line, blankLine, Desk, Fed, feeds, finishes, deskOf}
 use Rattle.script_rules.proofs.Reading.{from, past}
 use Rattle.trials.specs.declared.play.Met.{Met}
 use Rattle.trials.specs.Playing.{agreed, metBy, Played, playedBy, cleared, plays, playing}
@@ -65,7 +65,7 @@ pub record Left (cut : ℕ) (expected input : List ℕ) (at said : ℕ) (d : Des
   enough : length input ≤ at + calls
   same : plays calls cut expected (drop at input) said d ≡ all
 
-pub left-start : (cut : ℕ) (expected input : List ℕ) (ix : Index) (out : List ℕ) {line : Line} → line ≡ blank
+pub left-start : (cut : ℕ) (expected input : List ℕ) (ix : Index) (out : List ℕ) {line : Line} → line ≡ blankLine
     → Left cut expected input 0 0 (deskOf line ix out) (playing cut expected input ix out)
 left-start cut expected input ix out e = record {
   calls = length input;

@@ -14,7 +14,7 @@ use Rattle.index_rules.specs.Index.{Index}
 use Rattle.script_rules.specs.Text.{newline}
 use Rattle.script_rules.specs.Commands.{spoken}
 use Rattle.script_rules.specs.Answers.{Said, carriedOut}
-use Rattle.script_rules.specs.Feeding.{Line, blank, heldOf, noted, Paper, typedOne, typed, longest, Desk, answered, fedByte, Fed, fed}
+use Rattle.script_rules.specs.Feeding.{Line, blankLine, heldOf, noted, Paper, typedOne, typed, longest, Desk, answered, fedByte, Fed, fed}
 use Rattle.script_rules.specs.Feeding.{roomLeft, feeding, feeds, finishes, Heard, prefixed, heard, deskOf, printed}
 use Rattle.script_rules.proofs.Feeding.{ends-none, ends-line}
 use Rattle.script_rules.proofs.Room.{answer-short, typed-whole}
@@ -187,8 +187,8 @@ played-whole cut expected input ix out some r =
       parts = λ s. rw (all .met) (known .parts (sym (ap (λ (m : Met). m .same) (all .met)) ∙ s));
     }
   where
-    all : Whole expected 0 blank ix input out (playing cut expected input ix out)
-    all = whole expected out r (length input) cut 0 blank ix input out some r (omega arith)
+    all : Whole expected 0 blankLine ix input out (playing cut expected input ix out)
+    all = whole expected out r (length input) cut 0 blankLine ix input out some r (omega arith)
 
     known : Agrees expected 0 (allPrinted ix input out)
     known = agrees expected 0 (allPrinted ix input out)

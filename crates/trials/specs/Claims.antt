@@ -7,7 +7,7 @@ use Prim.Native.Nat.{ℕ, _+_, _<_, _≤_}
 use lib.ListN.{length, take, drop, getD}
 use Rattle.slots.specs.Answers.{OneAnswer}
 use Rattle.index_rules.specs.Index.{Index}
-use Rattle.script_rules.specs.Feeding.{blank, longest, Fed, finishes, heard, deskOf, printed}
+use Rattle.script_rules.specs.Feeding.{blankLine, longest, Fed, finishes, heard, deskOf, printed}
 use Rattle.trials.specs.Playing.{agreed, playing}
 use Rattle.trials.specs.Comparing.{sameWords, sameIndex}
 
@@ -28,10 +28,10 @@ pub record Agrees (expected : List ℕ) (from : ℕ) (part : List ℕ) : Type 0 
 
 -- The call at the end of an input, and all that is printed up to then, however the input is cut.
 abbrev pub lastCall : Index → List ℕ → List ℕ → Fed
-lastCall ix input buffer = let h = heard blank ix input in finishes (deskOf (h .line) (h .index) buffer)
+lastCall ix input buffer = let h = heard blankLine ix input in finishes (deskOf (h .line) (h .index) buffer)
 
 abbrev pub allPrinted : Index → List ℕ → List ℕ → List ℕ
-allPrinted ix input buffer = heard blank ix input .text ++ printed (lastCall ix input buffer)
+allPrinted ix input buffer = heard blankLine ix input .text ++ printed (lastCall ix input buffer)
 
 -- An input played in pieces of at least a byte, with room for any answer.
 pub record Plays (cut : ℕ) (expected input : List ℕ) (ix : Index) (out : List ℕ) : Type 0 where

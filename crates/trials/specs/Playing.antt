@@ -6,7 +6,7 @@ use lib.ListN.{length, take, drop, getD}
 use lib.Dec.{eqb, ltb}
 use Rattle.slots.specs.Words.{pick, _and_}
 use Rattle.index_rules.specs.Index.{Index}
-use Rattle.script_rules.specs.Feeding.{blank, Desk, Fed, feeds, finishes, deskOf, printed}
+use Rattle.script_rules.specs.Feeding.{blankLine, Desk, Fed, feeds, finishes, deskOf, printed}
 use Rattle.trials.specs.declared.play.Met.{Met}
 
 -- A part of the answers against what is expected from a place on: up to the first byte that is another, or that is one too many.
@@ -53,4 +53,4 @@ plays (suc calls) cut expected rest said d =
 
 -- The whole input: a call takes a byte at least, so it has no more calls than bytes.
 abbrev pub playing : ℕ → List ℕ → List ℕ → Index → List ℕ → Played
-playing cut expected input ix out = plays (length input) cut expected input 0 (deskOf blank ix out)
+playing cut expected input ix out = plays (length input) cut expected input 0 (deskOf blankLine ix out)

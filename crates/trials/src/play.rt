@@ -9,7 +9,7 @@ ghost use Prim.Native.Nat.{_≤_};
 ghost use lib.ListN.{length, take};
 ghost use Rattle.index_rules.specs.Index.{lent};
 ghost use Rattle.script_rules.specs.Feeding.{feeds, lentDesk};
-ghost use Rattle.console.specs.Meanings.{lineOf, fedOf};
+ghost use Rattle.console.specs.Meanings.{heldLine, fedOf};
 ghost use Rattle.trials.specs.Playing.{agreed, played, playing};
 
 // Whether all was as expected so far, and how much of what is expected has come.
@@ -52,7 +52,7 @@ fn feed_first(
     ensures { λ r. ⌜ fedOf r
         (lent (now (names .exit)) (now (cells .exit)) (now (head .exit)) (now (sizes .exit)) (now (lines .exit))) (now (out .exit))
         ≡ feeds (take cut (now (rest .entry)))
-        (lentDesk (lineOf line) (now (names .entry)) (now (cells .entry)) (now (head .entry)) (now (sizes .entry))
+        (lentDesk (heldLine line) (now (names .entry)) (now (cells .entry)) (now (head .entry)) (now (sizes .entry))
         (now (lines .entry)) (now (out .entry)) 0) ⌝ }
     ensures bounds { λ r. ⌜ (r .written ≤ length (now (out .exit))) × (r .taken ≤ length (now (rest .entry))) ⌝ }
 {

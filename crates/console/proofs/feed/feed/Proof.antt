@@ -6,15 +6,15 @@ use lib.ListN.{length, drop}
 use native.Mathlib.Omega.{arith}
 use Rattle.script_rules.specs.Feeding.{lentDesk, feeding}
 use Rattle.script_rules.proofs.Feeding.{feeding-over, feeding-full, feeding-on, feeds-short, feeds-long, kept-within}
-use Rattle.console.specs.Meanings.{lineOf}
+use Rattle.console.specs.Meanings.{heldLine}
 use borrow.Author.Needs.{needs}
 use Rattle.console.proofs.feed.feed.Statement.{statement}
 use Rattle.console.proofs.feed.feed.Tie as tie
 
 abbrev Inv-loop : tie.InvT-loop
 Inv-loop chunk names₀ cells₀ head₀ sizes₀ lines₀ out₀ kept₀ written₀ i₀ names cells head sizes lines out kept written i =
-    (feeding (drop i chunk) i (lentDesk (lineOf kept) names cells head sizes lines out written)
-    ≡ feeding chunk 0 (lentDesk (lineOf kept₀) names₀ cells₀ head₀ sizes₀ lines₀ out₀ 0))
+    (feeding (drop i chunk) i (lentDesk (heldLine kept) names cells head sizes lines out written)
+    ≡ feeding chunk 0 (lentDesk (heldLine kept₀) names₀ cells₀ head₀ sizes₀ lines₀ out₀ 0))
     × (written ≤ length out)
     × (i ≤ length chunk)
     × (length names ≡ length names₀)
@@ -92,7 +92,7 @@ loop-again c =
     let at-loop = c3 .before in
     let a = at-loop .before .before .before .before .before .before .before .before .before .args in
     let here =
-    lentDesk (lineOf (at-loop .loop .kept)) (at-loop .loop .names) (at-loop .loop .cells) (at-loop .loop .head) (at-loop .loop .sizes)
+    lentDesk (heldLine (at-loop .loop .kept)) (at-loop .loop .names) (at-loop .loop .cells) (at-loop .loop .head) (at-loop .loop .sizes)
     (at-loop .loop .lines) (at-loop .loop .out) (at-loop .loop .written) in (
       feeding-on (now (a .chunk)) (at-loop .loop .i) here (c3 .loop-test .taken) (c2 .if2 .left) (c1 .take-byte .ensures)
           ∙ at-loop .loop .inv .0,

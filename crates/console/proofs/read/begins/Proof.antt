@@ -3,14 +3,14 @@ use mathlib.Core.Path.{_≡_, sym, _∙_}
 use denote.Ref.{now}
 use Prim.Native.Nat.{_≤_, _-_}
 use lib.ListN.{length, drop}
-use Rattle.script_rules.specs.Text.{begins}
+use Rattle.script_rules.specs.Text.{startsWith}
 use Rattle.script_rules.proofs.Reading.{begins-all, begins-short, begins-other, begins-on}
 use borrow.Author.Needs.{needs}
 use Rattle.console.proofs.read.begins.Statement.{statement}
 use Rattle.console.proofs.read.begins.Tie as tie
 
 abbrev Inv-loop : tie.InvT-loop
-Inv-loop line word i₀ i = (begins (drop i word) (drop i line) ≡ begins word line) × (i ≤ length word)
+Inv-loop line word i₀ i = (startsWith (drop i word) (drop i line) ≡ startsWith word line) × (i ≤ length word)
 
 abbrev μ-loop : tie.MeasureT-loop
 μ-loop line word i₀ i = length word - i

@@ -5,7 +5,7 @@ use Prim.Native.Nat.{_+_, _≤_}
 use native.Mathlib.Omega.{arith}
 use lib.ListN.{length, List·getD-eq-default}
 use borrow.Author.Needs.{needs}
-use Rattle.set_rules.specs.Words.{begins}
+use Rattle.set_rules.specs.Words.{binsBefore}
 use Rattle.sets.proofs.bin.bin_word.Statement.{statement}
 use Rattle.sets.proofs.bin.bin_word.Tie as tie
 
@@ -15,7 +15,7 @@ bins-before-requires c κs = search needs
 returns : tie.Need-returns
 returns c =
     let a = c .before .before .before .before .args in
-    let h : length (now (a .bins)) ≤ begins (now (a .lengths)) (a .k) + a .i =
+    let h : length (now (a .bins)) ≤ binsBefore (now (a .lengths)) (a .k) + a .i =
     omega (arith, c .if1 .taken, c .before .bins-before .ensures) in
     sym (List·getD-eq-default (now (a .bins)) 0 h)
 
@@ -26,7 +26,7 @@ returns-2 : tie.Need-returns-2
 returns-2 c =
     let at-from = c .before .before in
     let a = at-from .before .before .before .args in
-    let h : length (now (a .bins)) ≤ begins (now (a .lengths)) (a .k) + a .i =
+    let h : length (now (a .bins)) ≤ binsBefore (now (a .lengths)) (a .k) + a .i =
     omega (arith, c .if2 .taken, at-from .bins-before .ensures) in
     sym (List·getD-eq-default (now (a .bins)) 0 h)
 

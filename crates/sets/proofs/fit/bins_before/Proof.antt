@@ -4,19 +4,19 @@ use denote.Ref.{now}
 use borrow.Author.Needs.{needs}
 use Prim.Native.Nat.{_-_, _*_, _≤_}
 use native.Mathlib.Omega.{arith}
-use Rattle.set_rules.specs.Words.{begins}
+use Rattle.set_rules.specs.Words.{binsBefore}
 use Rattle.sets.proofs.Sized.{begins-on, begins-past}
 use Rattle.sets.proofs.fit.bins_before.Statement.{statement}
 use Rattle.sets.proofs.fit.bins_before.Tie as tie
 
 abbrev Inv-loop : tie.InvT-loop
-Inv-loop lengths k sum₀ j₀ sum j = (sum ≡ begins lengths j) × (sum ≤ 4294967295 * j) × (j ≤ k)
+Inv-loop lengths k sum₀ j₀ sum j = (sum ≡ binsBefore lengths j) × (sum ≤ 4294967295 * j) × (j ≤ k)
 
 abbrev μ-loop : tie.MeasureT-loop
 μ-loop lengths k sum₀ j₀ sum j = k - j
 
 loop-holds : tie.Need-loop-holds Inv-loop μ-loop
-unfolding begins
+unfolding binsBefore
 loop-holds c = search needs
 
 cast-if1 : tie.Need-cast-if1 Inv-loop μ-loop
@@ -55,7 +55,7 @@ returns-2 c =
     let at-loop = c .before in
     let a = at-loop .before .before .args in
     let z : at-loop .loop .j ≡ a .k = omega (arith, c .loop-test .left) in
-    at-loop .loop .inv .0 ∙ ap (begins (now (a .lengths))) z
+    at-loop .loop .inv .0 ∙ ap (binsBefore (now (a .lengths))) z
 
 pub bins-before-spec : {M : Type 1} → statement M
 bins-before-spec =

@@ -7,7 +7,7 @@ use borrow.Author.Needs.{needs}
 use lib.ListN.{length}
 use Rattle.tree_rules.specs.Find.{counted, slotsOf}
 use Rattle.tree.proofs.Searching.{later, begun, ended, strayed, wanting, met, onward}
-use Rattle.set_rules.specs.Lookup.{listed}
+use Rattle.set_rules.specs.Lookup.{soughtInList}
 use Rattle.set_rules.proofs.Looks.{list-runs}
 use Rattle.sets.proofs.Looking.{read-here, read-on}
 use Rattle.sets.proofs.lookup.find_in_list.Statement.{statement}
@@ -15,7 +15,8 @@ use Rattle.sets.proofs.lookup.find_in_list.Tie as tie
 
 abbrev Inv-loop : tie.InvT-loop
 Inv-loop names cells first hash key slots p₀ visits₀ p visits =
-    (later (slots - visits) (listed names cells visits p hash key) ≡ counted (listed names cells (slotsOf names) first hash key))
+    (later (slots - visits) (soughtInList names cells visits p hash key)
+    ≡ counted (soughtInList names cells (slotsOf names) first hash key))
     × (p < 2 ^ 32)
     × (visits ≤ length names / 2)
     × (slots ≡ length names / 2)
@@ -26,7 +27,7 @@ abbrev μ-loop : tie.MeasureT-loop
 loop-holds : tie.Need-loop-holds Inv-loop μ-loop
 loop-holds c =
     let a = c .before .before .args in
-    (begun _ (listed (now (a .names)) (now (a .cells)) _ (a .first) (a .hash) (a .key)), search needs, search needs, search needs)
+    (begun _ (soughtInList (now (a .names)) (now (a .cells)) _ (a .first) (a .hash) (a .key)), search needs, search needs, search needs)
 
 cast-if1 : tie.Need-cast-if1 Inv-loop μ-loop
 cast-if1 c = search needs

@@ -8,7 +8,7 @@ use native.Mathlib.Omega.{arith}
 use lib.ListN.{length}
 use Rattle.set_rules.specs.Words.{Set}
 use Rattle.sets.specs.Bins.{binAs}
-use Rattle.set_rules.specs.Walk.{place}
+use Rattle.set_rules.specs.Walk.{walkPlace}
 use Rattle.set_rules.proofs.Turns.{left}
 use Rattle.sets.proofs.Walking.{Going, stops, base-more, passes, passes-less, descends, descends-less, no-table, bad-word, from-list}
 use Rattle.sets.proofs.Walking.{from-tree, no-first}
@@ -18,7 +18,7 @@ use Rattle.sets.proofs.walk.seek.Tie as tie
 abbrev Inv-loop : tie.InvT-loop
 Inv-loop lengths bins heads names base depth indexes₀ n h d₀ indexes d =
     let s : Set = record { lengths = lengths; bins = bins; heads = heads; names = names; cells = [] } in
-    Going s base (place depth indexes₀) (place d indexes) × (n ≡ length names / 2) × (h ≡ length heads / 3)
+    Going s base (walkPlace depth indexes₀) (walkPlace d indexes) × (n ≡ length names / 2) × (h ≡ length heads / 3)
 
 abbrev μ-loop : tie.MeasureT-loop
 μ-loop lengths bins heads names base depth indexes₀ n h d₀ indexes d = left lengths base d indexes
@@ -61,7 +61,7 @@ advance-requires c κs =
     let s : Set = record { lengths = now (a .lengths); bins = now (a .bins); heads = now (a .heads); names = now (a .names); cells = [] } in
     let g = at-loop .loop .inv .0 .good in
     let more =
-    base-more s (a .base) (at-loop .loop .d) (at-loop .loop .indexes) (place (a .depth) (now (a .indexes))) (at-loop .loop .inv .0)
+    base-more s (a .base) (at-loop .loop .d) (at-loop .loop .indexes) (walkPlace (a .depth) (now (a .indexes))) (at-loop .loop .inv .0)
     (at-index .index-at .ensures) (at-length .length-at .ensures) (at-here .if1 .left) (at-bin .bin-at .ensures) in
     let most = at-loop .before .before .before .before .shared-slice-known .given (a .base) in
     (omega (arith, g .deep, g .few), omega (arith, g .deep, g .few), omega (arith, more, most))
@@ -82,7 +82,7 @@ loop-less c =
     (a .base)
     (at-loop .loop .d)
     (at-loop .loop .indexes)
-    (place (a .depth) (now (a .indexes)))
+    (walkPlace (a .depth) (now (a .indexes)))
     (at-loop .loop .inv .0)
     (at-index .index-at .ensures)
     (at-length .length-at .ensures)
@@ -107,7 +107,7 @@ loop-again c =
           (a .base)
           (at-loop .loop .d)
           (at-loop .loop .indexes)
-          (place (a .depth) (now (a .indexes)))
+          (walkPlace (a .depth) (now (a .indexes)))
           (at-loop .loop .inv .0)
           (at-index .index-at .ensures)
           (at-length .length-at .ensures)
@@ -154,7 +154,7 @@ loop-less-2 c =
     (a .base)
     (at-loop .loop .d)
     (at-loop .loop .indexes)
-    (place (a .depth) (now (a .indexes)))
+    (walkPlace (a .depth) (now (a .indexes)))
     (at-loop .loop .inv .0)
     (at-index .index-at .ensures)
     (at-length .length-at .ensures)
@@ -181,7 +181,7 @@ loop-again-2 c =
           (a .base)
           (at-loop .loop .d)
           (at-loop .loop .indexes)
-          (place (a .depth) (now (a .indexes)))
+          (walkPlace (a .depth) (now (a .indexes)))
           (at-loop .loop .inv .0)
           (at-index .index-at .ensures)
           (at-length .length-at .ensures)
@@ -211,7 +211,7 @@ advance-requires-2 c κs =
     let s : Set = record { lengths = now (a .lengths); bins = now (a .bins); heads = now (a .heads); names = now (a .names); cells = [] } in
     let g = at-loop .loop .inv .0 .good in
     let more =
-    base-more s (a .base) (at-loop .loop .d) (at-loop .loop .indexes) (place (a .depth) (now (a .indexes))) (at-loop .loop .inv .0)
+    base-more s (a .base) (at-loop .loop .d) (at-loop .loop .indexes) (walkPlace (a .depth) (now (a .indexes))) (at-loop .loop .inv .0)
     (at-index .index-at .ensures) (at-length .length-at .ensures) (at-here .if1 .left) (at-bin .bin-at .ensures) in
     let most = at-loop .before .before .before .before .shared-slice-known .given (a .base) in
     (omega (arith, g .deep, g .few), omega (arith, g .deep, g .few), omega (arith, more, most))
@@ -241,7 +241,7 @@ advance-requires-3 c κs =
     let s : Set = record { lengths = now (a .lengths); bins = now (a .bins); heads = now (a .heads); names = now (a .names); cells = [] } in
     let g = at-loop .loop .inv .0 .good in
     let more =
-    base-more s (a .base) (at-loop .loop .d) (at-loop .loop .indexes) (place (a .depth) (now (a .indexes))) (at-loop .loop .inv .0)
+    base-more s (a .base) (at-loop .loop .d) (at-loop .loop .indexes) (walkPlace (a .depth) (now (a .indexes))) (at-loop .loop .inv .0)
     (at-index .index-at .ensures) (at-length .length-at .ensures) (at-here .if1 .left) (at-bin .bin-at .ensures) in
     let most = at-loop .before .before .before .before .shared-slice-known .given (a .base) in
     (omega (arith, g .deep, g .few), omega (arith, g .deep, g .few), omega (arith, more, most))
@@ -261,7 +261,7 @@ returns c =
     (a .base)
     (at-loop .loop .d)
     (at-loop .loop .indexes)
-    (place (a .depth) (now (a .indexes)))
+    (walkPlace (a .depth) (now (a .indexes)))
     (at-loop .loop .inv .0)
     (at-index .index-at .ensures)
     (at-length .length-at .ensures)
@@ -283,7 +283,7 @@ returns-2 c =
     (a .base)
     (at-loop .loop .d)
     (at-loop .loop .indexes)
-    (place (a .depth) (now (a .indexes)))
+    (walkPlace (a .depth) (now (a .indexes)))
     (at-loop .loop .inv .0)
     (at-index .index-at .ensures)
     (at-length .length-at .ensures)
@@ -309,7 +309,7 @@ returns-3 c =
     (a .base)
     (at-loop .loop .d)
     (at-loop .loop .indexes)
-    (place (a .depth) (now (a .indexes)))
+    (walkPlace (a .depth) (now (a .indexes)))
     (at-loop .loop .inv .0)
     (at-index .index-at .ensures)
     (at-length .length-at .ensures)
@@ -336,7 +336,7 @@ returns-4 c =
     (a .base)
     (at-loop .loop .d)
     (at-loop .loop .indexes)
-    (place (a .depth) (now (a .indexes)))
+    (walkPlace (a .depth) (now (a .indexes)))
     (at-loop .loop .inv .0)
     (at-index .index-at .ensures)
     (at-length .length-at .ensures)
@@ -365,7 +365,7 @@ returns-5 c =
     (a .base)
     (at-loop .loop .d)
     (at-loop .loop .indexes)
-    (place (a .depth) (now (a .indexes)))
+    (walkPlace (a .depth) (now (a .indexes)))
     (at-loop .loop .inv .0)
     (at-index .index-at .ensures)
     (at-length .length-at .ensures)
@@ -391,7 +391,7 @@ returns-6 c =
     (a .base)
     (at-loop .loop .d)
     (at-loop .loop .indexes)
-    (place (a .depth) (now (a .indexes)))
+    (walkPlace (a .depth) (now (a .indexes)))
     (at-loop .loop .inv .0)
     (at-index .index-at .ensures)
     (at-length .length-at .ensures)

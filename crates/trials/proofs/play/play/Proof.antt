@@ -8,7 +8,7 @@ use lib.ListN.{length, length-take}
 use borrow.Author.Tests.{not-true, not-false}
 use Rattle.index_rules.specs.Index.{lent}
 use Rattle.script_rules.specs.Feeding.{deskOf}
-use Rattle.console.specs.Meanings.{lineOf}
+use Rattle.console.specs.Meanings.{heldLine}
 use Rattle.trials.specs.Playing.{playing}
 use Rattle.trials.proofs.Steps.{Left, left-start, left-over, left-other, left-stuck, left-on}
 use borrow.Author.Needs.{needs}
@@ -17,7 +17,7 @@ use Rattle.trials.proofs.play.play.Tie as tie
 
 abbrev Inv-loop : tie.InvT-loop
 Inv-loop input cut expected names₀ cells₀ head₀ sizes₀ lines₀ out₀ kept₀ at₀ said₀ names cells head sizes lines out kept at said =
-    Left cut expected input at said (deskOf (lineOf kept) (lent names cells head sizes lines) out)
+    Left cut expected input at said (deskOf (heldLine kept) (lent names cells head sizes lines) out)
     (playing cut expected input (lent names₀ cells₀ head₀ sizes₀ lines₀) out₀)
     × (at ≤ length input)
     × (length input < 2 ^ 64)
