@@ -112,78 +112,6 @@ module _ (names cells sizes : List ℕ) (q last i depth visits : ℕ) where
         (no-calm (reached visits (slotsOf names) cells q i visits) (risen depth names cells last i) (levelled depth cells i)
         (slotsBelow depth cells sizes i))
 
-    pub walk-on : {stand quiet : Bool} → stand ≡ stands cells q i → stand ≡ true → quiet ≡ isCalm cells i → quiet ≡ true
-        → judged names cells sizes q last i depth visits
-        ≡ onward (judged names cells sizes i last (cell cells i left) (depth - 1) (visits - 1))
-        (λ rest m a. pick (follows names m i)
-        (onward (judged names cells sizes i i (cell cells i right) (depth - 1) rest)
-        (joined (λ k. follows names k i) (eqb (cell cells i state) 2) (hasSize sizes i) visits a))
-        breaks)
-    unfolding withParts
-    walk-on s e c f =
-        rw (
-          reach-on (slotsOf names) cells q i visits d l w s e,
-          rise-on names cells last i depth d z,
-          calm-on cells i depth d z,
-          ← c,
-          f,
-          level-on cells i depth d z,
-          weigh-on cells sizes i depth d z,
-        )
-        (join (λ k. follows names k i) (eqb (cell cells i state) 2) (hasSize sizes i) visits
-        (reached (visits - 1) (slotsOf names) cells i (cell cells i left) (visits - 1))
-        (λ rest. reached (visits - 1) (slotsOf names) cells i (cell cells i right) rest)
-        (λ rest. reached rest (slotsOf names) cells i (cell cells i right) rest)
-        (λ k h. reached-fuel (slotsOf names) cells (visits - 1) k i (cell cells i right) k
-        (reached-within (slotsOf names) cells (visits - 1) i (cell cells i left) (visits - 1) k h) (omega arith))
-        (risen (depth - 1) names cells last (cell cells i left))
-        (risen (depth - 1) names cells i (cell cells i right))
-        (allCalm (depth - 1) cells (cell cells i left))
-        (allCalm (depth - 1) cells (cell cells i right))
-        (levelled (depth - 1) cells (cell cells i left))
-        (levelled (depth - 1) cells (cell cells i right))
-        (slotsBelow (depth - 1) cells sizes (cell cells i left))
-        (slotsBelow (depth - 1) cells sizes (cell cells i right))
-        (λ k x r e u y o f. omega (
-          arith,
-          w,
-          weight-spent (slotsOf names) cells sizes (depth - 1) (visits - 1) i (cell cells i left) (visits - 1) k x r e,
-          weight-spent (slotsOf names) cells sizes (depth - 1) k i (cell cells i right) k u y o f,
-        )))
-
-    -- Below the tests of the slot itself: t is the link to its left.
-    module _ {stand quiet : Bool} (s : stand ≡ stands cells q i) (e : stand ≡ true) (c : quiet ≡ isCalm cells i) (f : quiet ≡ true) {t : ℕ}
-        (p : t ≡ cell cells i left) where
-      pub walk-left-breaks : breaks ≡ judged names cells sizes i last t (depth - 1) (visits - 1)
-          → breaks ≡ judged names cells sizes q last i depth visits
-      walk-left-breaks h = sym (walk-on s e c f ∙ rw (← p, ← h))
-
-      module _ {rest m a : ℕ} (h : obeys rest m a ≡ judged names cells sizes i last t (depth - 1) (visits - 1)) {rising : Bool}
-          (g : rising ≡ follows names m i) where
-        pub walk-falls : rising ≡ false → breaks ≡ judged names cells sizes q last i depth visits
-        walk-falls k = sym (walk-on s e c f ∙ rw (← p, ← h, ← g, k))
-
-        -- r is the link to the right.
-        module _ (k : rising ≡ true) {r : ℕ} (o : r ≡ cell cells i right) where
-          pub walk-right-breaks : breaks ≡ judged names cells sizes i i r (depth - 1) rest
-              → breaks ≡ judged names cells sizes q last i depth visits
-          walk-right-breaks y = sym (walk-on s e c f ∙ rw (← p, ← h, ← g, k, ← o, ← y))
-
-          module _ {unspent end b : ℕ} (y : obeys unspent end b ≡ judged names cells sizes i i r (depth - 1) rest) where
-            pub walk-uneven : a ≢ b → breaks ≡ judged names cells sizes q last i depth visits
-            walk-uneven u = sym (walk-on s e c f ∙ rw (← p, ← h, ← g, k, ← o, ← y, ne-eqb a b u))
-
-            module _ (u : a ≡ b) {sized : Bool} (y2 : sized ≡ hasSize sizes i (visits - unspent)) where
-              pub walk-missized : sized ≡ false → breaks ≡ judged names cells sizes q last i depth visits
-              walk-missized v = sym (walk-on s e c f ∙ rw (← p, ← h, ← g, k, ← o, ← y, eq-eqb a b u, ← y2, v))
-
-              module _ (j : sized ≡ true) {red : Bool} (x : red ≡ eqb (cell cells i state) 2) where
-                pub walk-red : red ≡ true → obeys unspent end a ≡ judged names cells sizes q last i depth visits
-                walk-red v = sym (walk-on s e c f ∙ rw (← p, ← h, ← g, k, ← o, ← y, eq-eqb a b u, ← y2, j, ← x, v))
-
-                pub walk-black : red ≡ false → obeys unspent end (a + 1) ≡ judged names cells sizes q last i depth visits
-                walk-black v = sym (walk-on s e c f ∙ rw (← p, ← h, ← g, k, ← o, ← y, eq-eqb a b u, ← y2, j, ← x, v))
-
 -- What obeys the rules hands back no more visits than there were, and meets no more black slots than it goes deep.
 broken : {rest last blacks : ℕ} → obeys rest last blacks ≡ breaks → ⊥
 broken e = let z : _≡_ {A = ℕ} 0 1 = cc in omega arith
@@ -211,6 +139,118 @@ module _ (names cells sizes : List ℕ) (q last i depth visits : ℕ) {rest end 
 
   pub walk-within : rest ≤ visits
   walk-within = reached-within (slotsOf names) cells visits q i visits rest (parts .0)
+
+-- Both parts of a slot obey the rules: what is left to ask is whether they meet as many black slots, and the slot's size.
+pub record BothParts (names cells sizes : List ℕ) (q last i depth visits : ℕ) : Type 0 where
+  pub rest : ℕ
+  pub unspent : ℕ
+  pub end : ℕ
+  pub lefts : ℕ
+  pub rights : ℕ
+  pub on : judged names cells sizes q last i depth visits
+      ≡ joined (λ k. follows names k i) (eqb (cell cells i state) 2) (hasSize sizes i) visits lefts unspent end rights
+  pub first : rest ≤ visits - 1
+  pub second : unspent ≤ rest
+  pub shallow : lefts ≤ depth - 1
+
+-- A visit that has passed the tests of the slot itself.
+pub record Visit (names cells : List ℕ) (q i depth visits : ℕ) : Type 0 where
+  pub slot : i ≢ null
+  pub inside : i < slotsOf names
+  pub visited : visits ≢ 0
+  pub deep : depth ≢ 0
+  pub upright : stands cells q i ≡ true
+  pub calm : isCalm cells i ≡ true
+
+module _ (names cells sizes : List ℕ) (q last i depth visits : ℕ) (v : Visit names cells q i depth visits) where
+  abbrev pub whole : Verdict
+  whole = judged names cells sizes q last i depth visits
+
+  pub walk-on : whole
+      ≡ onward (judged names cells sizes i last (cell cells i left) (depth - 1) (visits - 1))
+      (λ rest m a. pick (follows names m i)
+      (onward (judged names cells sizes i i (cell cells i right) (depth - 1) rest)
+      (joined (λ k. follows names k i) (eqb (cell cells i state) 2) (hasSize sizes i) visits a))
+      breaks)
+  unfolding withParts
+  walk-on =
+      rw (
+        reach-on (slotsOf names) cells q i visits (v .slot) (v .inside) (v .visited) (sym (v .upright)) refl,
+        rise-on names cells last i depth (v .slot) (v .deep),
+        calm-on cells i depth (v .slot) (v .deep),
+        v .calm,
+        level-on cells i depth (v .slot) (v .deep),
+        weigh-on cells sizes i depth (v .slot) (v .deep),
+      )
+      (join (λ k. follows names k i) (eqb (cell cells i state) 2) (hasSize sizes i) visits
+      (reached (visits - 1) (slotsOf names) cells i (cell cells i left) (visits - 1))
+      (λ rest. reached (visits - 1) (slotsOf names) cells i (cell cells i right) rest)
+      (λ rest. reached rest (slotsOf names) cells i (cell cells i right) rest)
+      (λ k h. reached-fuel (slotsOf names) cells (visits - 1) k i (cell cells i right) k
+      (reached-within (slotsOf names) cells (visits - 1) i (cell cells i left) (visits - 1) k h) (omega arith))
+      (risen (depth - 1) names cells last (cell cells i left))
+      (risen (depth - 1) names cells i (cell cells i right))
+      (allCalm (depth - 1) cells (cell cells i left))
+      (allCalm (depth - 1) cells (cell cells i right))
+      (levelled (depth - 1) cells (cell cells i left))
+      (levelled (depth - 1) cells (cell cells i right))
+      (slotsBelow (depth - 1) cells sizes (cell cells i left))
+      (slotsBelow (depth - 1) cells sizes (cell cells i right))
+      (λ k x r e u y o f. omega (
+        arith,
+        v .visited,
+        weight-spent (slotsOf names) cells sizes (depth - 1) (visits - 1) i (cell cells i left) (visits - 1) k x r e,
+        weight-spent (slotsOf names) cells sizes (depth - 1) k i (cell cells i right) k u y o f,
+      )))
+
+  -- t is the link to its left.
+  module _ {t : ℕ} (p : t ≡ cell cells i left) where
+    pub walk-left-breaks : breaks ≡ judged names cells sizes i last t (depth - 1) (visits - 1) → breaks ≡ whole
+    walk-left-breaks h = sym (walk-on ∙ rw (← p, ← h))
+
+    module _ {rest m a : ℕ} (h : obeys rest m a ≡ judged names cells sizes i last t (depth - 1) (visits - 1)) {rising : Bool}
+        (g : rising ≡ follows names m i) where
+      pub walk-falls : rising ≡ false → breaks ≡ whole
+      walk-falls k = sym (walk-on ∙ rw (← p, ← h, ← g, k))
+
+      -- r is the link to the right.
+      module _ (k : rising ≡ true) {r : ℕ} (o : r ≡ cell cells i right) where
+        pub walk-right-breaks : breaks ≡ judged names cells sizes i i r (depth - 1) rest → breaks ≡ whole
+        walk-right-breaks y = sym (walk-on ∙ rw (← p, ← h, ← g, k, ← o, ← y))
+
+        abbrev pub both-parts : {unspent end b : ℕ} → obeys unspent end b ≡ judged names cells sizes i i r (depth - 1) rest
+            → BothParts names cells sizes q last i depth visits
+        both-parts {unspent} {end} {b} y =
+            record {
+              rest = rest;
+              unspent = unspent;
+              end = end;
+              lefts = a;
+              rights = b;
+              on = walk-on ∙ rw (← p, ← h, ← g, k, ← o, ← y);
+              first = walk-within names cells sizes i last t (depth - 1) (visits - 1) h;
+              second = walk-within names cells sizes i i r (depth - 1) rest y;
+              shallow = walk-blacks names cells sizes i last t (depth - 1) (visits - 1) h;
+            }
+
+-- What comes of it.
+module _ {names cells sizes : List ℕ} {q last i depth visits : ℕ} (w : BothParts names cells sizes q last i depth visits) where
+  abbrev pub found : Verdict
+  found = judged names cells sizes q last i depth visits
+
+  pub walk-uneven : w .lefts ≢ w .rights → breaks ≡ found
+  walk-uneven u = sym (w .on ∙ rw (ne-eqb (w .lefts) (w .rights) u))
+
+  module _ (u : w .lefts ≡ w .rights) {sized : Bool} (z : sized ≡ hasSize sizes i (visits - w .unspent)) where
+    pub walk-missized : sized ≡ false → breaks ≡ found
+    walk-missized v = sym (w .on ∙ rw (eq-eqb (w .lefts) (w .rights) u, ← z, v))
+
+    module _ (j : sized ≡ true) {red : Bool} (x : red ≡ eqb (cell cells i state) 2) where
+      pub walk-red : red ≡ true → obeys (w .unspent) (w .end) (w .lefts) ≡ found
+      walk-red v = sym (w .on ∙ rw (eq-eqb (w .lefts) (w .rights) u, ← z, j, ← x, v))
+
+      pub walk-black : red ≡ false → obeys (w .unspent) (w .end) (w .lefts + 1) ≡ found
+      walk-black v = sym (w .on ∙ rw (eq-eqb (w .lefts) (w .rights) u, ← z, j, ← x, v))
 
 -- The whole tree.
 abbrev pub restLeft : Verdict → Value

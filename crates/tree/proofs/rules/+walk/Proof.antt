@@ -6,8 +6,9 @@ use borrow.Author.Needs.{needs}
 use borrow.Author.Tests.{not-true, not-false}
 use Prim.Native.Nat.{_-_}
 use Rattle.tree.specs.Rules.{partOf}
-use Rattle.tree.proofs.Judging.{walk-null, walk-outside, walk-spent, walk-deep, walk-wrong, walk-loud, walk-left-breaks, walk-falls}
-use Rattle.tree.proofs.Judging.{walk-right-breaks, walk-uneven, walk-missized, walk-red, walk-black, walk-blacks, walk-within}
+use Rattle.tree.proofs.Judging.{walk-null, walk-outside, walk-spent, walk-deep, walk-wrong, walk-loud, Visit, walk-left-breaks}
+use Rattle.tree.proofs.Judging.{walk-falls, walk-right-breaks, BothParts, both-parts, walk-uneven, walk-missized, walk-red}
+use Rattle.tree.proofs.Judging.{walk-black}
 use Prim.Native.Nat.{ℕ, _<_}
 use borrow.Fn.Kinds.{In}
 use borrow.Fn.PlainCycle.{Measures, is, falls, and}
@@ -49,6 +50,27 @@ walk-calls t = (
   is-red-reads.Asked,
   is-red-reads.Learnt,
 )
+
+-- Past the tests of the slot itself.
+visit : (t : ℕ) (c : walk-lts.Else6 (walk-calls t) (walk-at t) walk.Post)
+    → let a = c .before .before .before .before .before .before .before .before .before .before .before .args in
+    Visit (now (a .names)) (now (a .cells)) (a .q) (a .i) (a .depth) (a .visits)
+visit t c =
+    let at-asked = c .before in
+    let at-upright = at-asked .before in
+    let at-stand = at-upright .before in
+    let at-deep = at-stand .before in
+    let at-visits = at-deep .before in
+    let at-range = at-visits .before in
+    let at-null = at-range .before in
+    record {
+      slot = at-null .if1 .left;
+      inside = at-range .if2 .left;
+      visited = at-visits .if3 .left;
+      deep = at-deep .if4 .left;
+      upright = sym (at-stand .stand .ensures) ∙ not-false (at-stand .stand .result) (at-upright .if5 .left);
+      calm = sym (at-asked .is-calm .ensures) ∙ not-false (at-asked .is-calm .result) (c .if6 .left);
+    }
 
 walk-returns : (t : ℕ) → walk-lts.Need-returns (walk-calls t) (walk-at t) walk.Post
 walk-returns t c =
@@ -121,15 +143,8 @@ walk-sub-walk-2 t c = search needs
 
 walk-walk-requires : (t : ℕ) → walk-lts.Need-walk-requires (walk-calls t) (walk-at t) walk.Post
 walk-walk-requires t c κs =
-    let at-calm = c .before in
-    let at-asked = at-calm .before in
-    let at-upright = at-asked .before in
-    let at-stand = at-upright .before in
-    let at-deep = at-stand .before in
-    let at-visits = at-deep .before in
-    let at-range = at-visits .before in
-    let at-null = at-range .before in
-    let a = at-null .before .before .before .before .args in
+    let at-deep = c .before .before .before .before .before in
+    let at-null = at-deep .before .before .before in
     omega (arith, at-null .before .before .before .before .pre .0, at-deep .if4 .left)
 
 walk-enum-known-lefts : (t : ℕ) → walk-lts.Need-enum-known-lefts (walk-calls t) (walk-at t) walk.Post
@@ -140,22 +155,11 @@ walk-enum-told t c = search needs
 
 walk-returns-7 : (t : ℕ) → walk-lts.Need-returns-7 (walk-calls t) (walk-at t) walk.Post
 walk-returns-7 t c =
-    let at-match = c .before in
-    let at-walk = at-match .before in
+    let at-walk = c .before .before in
     let at-left = at-walk .before in
-    let at-calm = at-left .before in
-    let at-asked = at-calm .before in
-    let at-upright = at-asked .before in
-    let at-stand = at-upright .before in
-    let at-deep = at-stand .before in
-    let at-visits = at-deep .before in
-    let at-range = at-visits .before in
-    let at-null = at-range .before in
-    let a = at-null .before .before .before .before .args in
+    let a = at-left .before .before .before .before .before .before .before .before .before .before .before .before .args in
     walk-left-breaks (now (a .names)) (now (a .cells)) (now (a .sizes)) (a .q) (a .last) (a .i) (a .depth) (a .visits)
-    (at-null .if1 .left) (at-range .if2 .left) (at-visits .if3 .left) (at-deep .if4 .left)
-    (at-stand .stand .ensures) (not-false (at-stand .stand .result) (at-upright .if5 .left))
-    (at-asked .is-calm .ensures) (not-false (at-asked .is-calm .result) (at-calm .if6 .left))
+    (visit t (at-left .before))
     (at-left .get .ensures)
     (ap partOf (sym (c .enum-told .given .1)) ∙ at-walk .walk .ensures)
 
@@ -165,24 +169,11 @@ walk-follow-requires t c κs = search needs
 walk-returns-8 : (t : ℕ) → walk-lts.Need-returns-8 (walk-calls t) (walk-at t) walk.Post
 walk-returns-8 t c =
     let at-follow = c .before in
-    let at-known = at-follow .before in
-    let at-lefts = at-known .before in
-    let at-match = at-lefts .before in
-    let at-walk = at-match .before in
+    let at-lefts = at-follow .before .before in
+    let at-walk = at-lefts .before .before in
     let at-left = at-walk .before in
-    let at-calm = at-left .before in
-    let at-asked = at-calm .before in
-    let at-upright = at-asked .before in
-    let at-stand = at-upright .before in
-    let at-deep = at-stand .before in
-    let at-visits = at-deep .before in
-    let at-range = at-visits .before in
-    let at-null = at-range .before in
-    let a = at-null .before .before .before .before .args in
-    walk-falls (now (a .names)) (now (a .cells)) (now (a .sizes)) (a .q) (a .last) (a .i) (a .depth) (a .visits)
-    (at-null .if1 .left) (at-range .if2 .left) (at-visits .if3 .left) (at-deep .if4 .left)
-    (at-stand .stand .ensures) (not-false (at-stand .stand .result) (at-upright .if5 .left))
-    (at-asked .is-calm .ensures) (not-false (at-asked .is-calm .result) (at-calm .if6 .left))
+    let a = at-left .before .before .before .before .before .before .before .before .before .before .before .before .args in
+    walk-falls (now (a .names)) (now (a .cells)) (now (a .sizes)) (a .q) (a .last) (a .i) (a .depth) (a .visits) (visit t (at-left .before))
     (at-left .get .ensures)
     (ap partOf (sym (at-lefts .lefts .given .1)) ∙ at-walk .walk .ensures)
     (at-follow .follow .ensures)
@@ -196,22 +187,9 @@ walk-sub-walk-3 t c = search needs
 
 walk-walk-requires-2 : (t : ℕ) → walk-lts.Need-walk-requires-2 (walk-calls t) (walk-at t) walk.Post
 walk-walk-requires-2 t c κs =
-    let at-rising = c .before in
-    let at-follow = at-rising .before in
-    let at-known = at-follow .before in
-    let at-lefts = at-known .before in
-    let at-match = at-lefts .before in
-    let at-walk = at-match .before in
-    let at-left = at-walk .before in
-    let at-calm = at-left .before in
-    let at-asked = at-calm .before in
-    let at-upright = at-asked .before in
-    let at-stand = at-upright .before in
-    let at-deep = at-stand .before in
-    let at-visits = at-deep .before in
-    let at-range = at-visits .before in
-    let at-null = at-range .before in
-    let a = at-null .before .before .before .before .args in
+    let at-left = c .before .before .before .before .before .before .before in
+    let at-deep = at-left .before .before .before .before .before in
+    let at-null = at-deep .before .before .before in
     omega (arith, at-null .before .before .before .before .pre .0, at-deep .if4 .left)
 
 walk-enum-known-rights : (t : ℕ) → walk-lts.Need-enum-known-rights (walk-calls t) (walk-at t) walk.Post
@@ -222,29 +200,16 @@ walk-enum-told-2 t c = search needs
 
 walk-returns-9 : (t : ℕ) → walk-lts.Need-returns-9 (walk-calls t) (walk-at t) walk.Post
 walk-returns-9 t c =
-    let at-match2 = c .before in
-    let at-walk2 = at-match2 .before in
+    let at-walk2 = c .before .before in
     let at-right = at-walk2 .before in
     let at-rising = at-right .before in
     let at-follow = at-rising .before in
-    let at-known = at-follow .before in
-    let at-lefts = at-known .before in
-    let at-match = at-lefts .before in
-    let at-walk = at-match .before in
+    let at-lefts = at-follow .before .before in
+    let at-walk = at-lefts .before .before in
     let at-left = at-walk .before in
-    let at-calm = at-left .before in
-    let at-asked = at-calm .before in
-    let at-upright = at-asked .before in
-    let at-stand = at-upright .before in
-    let at-deep = at-stand .before in
-    let at-visits = at-deep .before in
-    let at-range = at-visits .before in
-    let at-null = at-range .before in
-    let a = at-null .before .before .before .before .args in
+    let a = at-left .before .before .before .before .before .before .before .before .before .before .before .before .args in
     walk-right-breaks (now (a .names)) (now (a .cells)) (now (a .sizes)) (a .q) (a .last) (a .i) (a .depth) (a .visits)
-    (at-null .if1 .left) (at-range .if2 .left) (at-visits .if3 .left) (at-deep .if4 .left)
-    (at-stand .stand .ensures) (not-false (at-stand .stand .result) (at-upright .if5 .left))
-    (at-asked .is-calm .ensures) (not-false (at-asked .is-calm .result) (at-calm .if6 .left))
+    (visit t (at-left .before))
     (at-left .get .ensures)
     (ap partOf (sym (at-lefts .lefts .given .1)) ∙ at-walk .walk .ensures)
     (at-follow .follow .ensures)
@@ -252,73 +217,34 @@ walk-returns-9 t c =
     (at-right .get2 .ensures)
     (ap partOf (sym (c .enum-told2 .given .1)) ∙ at-walk2 .walk2 .ensures)
 
-walk-returns-10 : (t : ℕ) → walk-lts.Need-returns-10 (walk-calls t) (walk-at t) walk.Post
-walk-returns-10 t c =
-    let at-known2 = c .before in
-    let at-rights = at-known2 .before in
-    let at-match2 = at-rights .before in
-    let at-walk2 = at-match2 .before in
+-- Past both of its parts.
+abbrev both : (t : ℕ) (c : walk-lts.After-known-told2 (walk-calls t) (walk-at t) walk.Post)
+    → let at-left = c .before .before .before .before .before .before .before .before .before .before .before in
+    let a = at-left .before .before .before .before .before .before .before .before .before .before .before .before .args in
+    BothParts (now (a .names)) (now (a .cells)) (now (a .sizes)) (a .q) (a .last) (a .i) (a .depth) (a .visits)
+both t c =
+    let at-rights = c .before in
+    let at-walk2 = at-rights .before .before in
     let at-right = at-walk2 .before in
     let at-rising = at-right .before in
     let at-follow = at-rising .before in
-    let at-known = at-follow .before in
-    let at-lefts = at-known .before in
-    let at-match = at-lefts .before in
-    let at-walk = at-match .before in
+    let at-lefts = at-follow .before .before in
+    let at-walk = at-lefts .before .before in
     let at-left = at-walk .before in
-    let at-calm = at-left .before in
-    let at-asked = at-calm .before in
-    let at-upright = at-asked .before in
-    let at-stand = at-upright .before in
-    let at-deep = at-stand .before in
-    let at-visits = at-deep .before in
-    let at-range = at-visits .before in
-    let at-null = at-range .before in
-    let a = at-null .before .before .before .before .args in
-    walk-uneven (now (a .names)) (now (a .cells)) (now (a .sizes)) (a .q) (a .last) (a .i) (a .depth) (a .visits)
-    (at-null .if1 .left) (at-range .if2 .left) (at-visits .if3 .left) (at-deep .if4 .left)
-    (at-stand .stand .ensures) (not-false (at-stand .stand .result) (at-upright .if5 .left))
-    (at-asked .is-calm .ensures) (not-false (at-asked .is-calm .result) (at-calm .if6 .left))
+    let a = at-left .before .before .before .before .before .before .before .before .before .before .before .before .args in
+    both-parts (now (a .names)) (now (a .cells)) (now (a .sizes)) (a .q) (a .last) (a .i) (a .depth) (a .visits) (visit t (at-left .before))
     (at-left .get .ensures)
     (ap partOf (sym (at-lefts .lefts .given .1)) ∙ at-walk .walk .ensures)
     (at-follow .follow .ensures)
     (not-false (at-follow .follow .result) (at-rising .if7 .left))
     (at-right .get2 .ensures)
     (ap partOf (sym (at-rights .rights .given .1)) ∙ at-walk2 .walk2 .ensures)
-    (c .if8 .taken)
+
+walk-returns-10 : (t : ℕ) → walk-lts.Need-returns-10 (walk-calls t) (walk-at t) walk.Post
+walk-returns-10 t c = walk-uneven (both t (c .before)) (c .if8 .taken)
 
 walk-sub-has-size : (t : ℕ) → walk-lts.Need-sub-has-size (walk-calls t) (walk-at t) walk.Post
-walk-sub-has-size t c =
-    let at-even = c in
-    let at-known2 = at-even .before in
-    let at-rights = at-known2 .before in
-    let at-match2 = at-rights .before in
-    let at-walk2 = at-match2 .before in
-    let at-right = at-walk2 .before in
-    let at-rising = at-right .before in
-    let at-follow = at-rising .before in
-    let at-known = at-follow .before in
-    let at-lefts = at-known .before in
-    let at-match = at-lefts .before in
-    let at-walk = at-match .before in
-    let at-left = at-walk .before in
-    let at-calm = at-left .before in
-    let at-asked = at-calm .before in
-    let at-upright = at-asked .before in
-    let at-stand = at-upright .before in
-    let at-deep = at-stand .before in
-    let at-visits = at-deep .before in
-    let at-range = at-visits .before in
-    let at-null = at-range .before in
-    let a = at-null .before .before .before .before .args in
-    let lefts = ap partOf (sym (at-lefts .lefts .given .1)) ∙ at-walk .walk .ensures in
-    let rights = ap partOf (sym (at-rights .rights .given .1)) ∙ at-walk2 .walk2 .ensures in
-    omega (
-      arith,
-      walk-within (now (a .names)) (now (a .cells)) (now (a .sizes)) (a .i) (a .last) (at-left .get .result) (a .depth - 1)
-          (a .visits - 1) lefts,
-      walk-within (now (a .names)) (now (a .cells)) (now (a .sizes)) (a .i) (a .i) (at-right .get2 .result) (a .depth - 1) _ rights,
-    )
+walk-sub-has-size t c = let w = both t (c .before) in omega (arith, w .first, w .second)
 
 walk-has-size-requires : (t : ℕ) → walk-lts.Need-has-size-requires (walk-calls t) (walk-at t) walk.Post
 walk-has-size-requires t c κs = search needs
@@ -327,39 +253,7 @@ walk-returns-11 : (t : ℕ) → walk-lts.Need-returns-11 (walk-calls t) (walk-at
 walk-returns-11 t c =
     let at-size = c .before in
     let at-even = at-size .before in
-    let at-known2 = at-even .before in
-    let at-rights = at-known2 .before in
-    let at-match2 = at-rights .before in
-    let at-walk2 = at-match2 .before in
-    let at-right = at-walk2 .before in
-    let at-rising = at-right .before in
-    let at-follow = at-rising .before in
-    let at-known = at-follow .before in
-    let at-lefts = at-known .before in
-    let at-match = at-lefts .before in
-    let at-walk = at-match .before in
-    let at-left = at-walk .before in
-    let at-calm = at-left .before in
-    let at-asked = at-calm .before in
-    let at-upright = at-asked .before in
-    let at-stand = at-upright .before in
-    let at-deep = at-stand .before in
-    let at-visits = at-deep .before in
-    let at-range = at-visits .before in
-    let at-null = at-range .before in
-    let a = at-null .before .before .before .before .args in
-    walk-missized (now (a .names)) (now (a .cells)) (now (a .sizes)) (a .q) (a .last) (a .i) (a .depth) (a .visits)
-    (at-null .if1 .left) (at-range .if2 .left) (at-visits .if3 .left) (at-deep .if4 .left)
-    (at-stand .stand .ensures) (not-false (at-stand .stand .result) (at-upright .if5 .left))
-    (at-asked .is-calm .ensures) (not-false (at-asked .is-calm .result) (at-calm .if6 .left))
-    (at-left .get .ensures)
-    (ap partOf (sym (at-lefts .lefts .given .1)) ∙ at-walk .walk .ensures)
-    (at-follow .follow .ensures)
-    (not-false (at-follow .follow .result) (at-rising .if7 .left))
-    (at-right .get2 .ensures)
-    (ap partOf (sym (at-rights .rights .given .1)) ∙ at-walk2 .walk2 .ensures)
-    (at-even .if8 .left)
-    (at-size .has-size .ensures)
+    walk-missized (both t (at-even .before)) (at-even .if8 .left) (at-size .has-size .ensures)
     (not-true (at-size .has-size .result) (c .if9 .taken))
 
 walk-is-red-requires : (t : ℕ) → walk-lts.Need-is-red-requires (walk-calls t) (walk-at t) walk.Post
@@ -371,38 +265,7 @@ walk-returns-12 t c =
     let at-sized = at-is-red .before in
     let at-size = at-sized .before in
     let at-even = at-size .before in
-    let at-known2 = at-even .before in
-    let at-rights = at-known2 .before in
-    let at-match2 = at-rights .before in
-    let at-walk2 = at-match2 .before in
-    let at-right = at-walk2 .before in
-    let at-rising = at-right .before in
-    let at-follow = at-rising .before in
-    let at-known = at-follow .before in
-    let at-lefts = at-known .before in
-    let at-match = at-lefts .before in
-    let at-walk = at-match .before in
-    let at-left = at-walk .before in
-    let at-calm = at-left .before in
-    let at-asked = at-calm .before in
-    let at-upright = at-asked .before in
-    let at-stand = at-upright .before in
-    let at-deep = at-stand .before in
-    let at-visits = at-deep .before in
-    let at-range = at-visits .before in
-    let at-null = at-range .before in
-    let a = at-null .before .before .before .before .args in
-    walk-red (now (a .names)) (now (a .cells)) (now (a .sizes)) (a .q) (a .last) (a .i) (a .depth) (a .visits)
-    (at-null .if1 .left) (at-range .if2 .left) (at-visits .if3 .left) (at-deep .if4 .left)
-    (at-stand .stand .ensures) (not-false (at-stand .stand .result) (at-upright .if5 .left))
-    (at-asked .is-calm .ensures) (not-false (at-asked .is-calm .result) (at-calm .if6 .left))
-    (at-left .get .ensures)
-    (ap partOf (sym (at-lefts .lefts .given .1)) ∙ at-walk .walk .ensures)
-    (at-follow .follow .ensures)
-    (not-false (at-follow .follow .result) (at-rising .if7 .left))
-    (at-right .get2 .ensures)
-    (ap partOf (sym (at-rights .rights .given .1)) ∙ at-walk2 .walk2 .ensures)
-    (at-even .if8 .left)
+    walk-red (both t (at-even .before)) (at-even .if8 .left)
     (at-size .has-size .ensures)
     (not-false (at-size .has-size .result) (at-sized .if9 .left))
     (at-is-red .is-red .ensures)
@@ -410,39 +273,11 @@ walk-returns-12 t c =
 
 walk-add-t26 : (t : ℕ) → walk-lts.Need-add-t26 (walk-calls t) (walk-at t) walk.Post
 walk-add-t26 t c =
-    let at-is-red = c .before in
-    let at-sized = at-is-red .before in
-    let at-size = at-sized .before in
-    let at-even = at-size .before in
-    let at-known2 = at-even .before in
-    let at-rights = at-known2 .before in
-    let at-match2 = at-rights .before in
-    let at-walk2 = at-match2 .before in
-    let at-right = at-walk2 .before in
-    let at-rising = at-right .before in
-    let at-follow = at-rising .before in
-    let at-known = at-follow .before in
-    let at-lefts = at-known .before in
-    let at-match = at-lefts .before in
-    let at-walk = at-match .before in
-    let at-left = at-walk .before in
-    let at-calm = at-left .before in
-    let at-asked = at-calm .before in
-    let at-upright = at-asked .before in
-    let at-stand = at-upright .before in
-    let at-deep = at-stand .before in
-    let at-visits = at-deep .before in
-    let at-range = at-visits .before in
-    let at-null = at-range .before in
-    let a = at-null .before .before .before .before .args in
-    let lefts = ap partOf (sym (at-lefts .lefts .given .1)) ∙ at-walk .walk .ensures in
-    omega (
-      arith,
-      walk-blacks (now (a .names)) (now (a .cells)) (now (a .sizes)) (a .i) (a .last) (at-left .get .result) (a .depth - 1)
-          (a .visits - 1) lefts,
-      at-deep .if4 .left,
-      at-null .before .before .before .before .fits .depth,
-    )
+    let at-known = c .before .before .before .before .before in
+    let at-left = at-known .before .before .before .before .before .before .before .before .before .before .before in
+    let at-deep = at-left .before .before .before .before .before in
+    let at-null = at-deep .before .before .before in
+    omega (arith, both t at-known .shallow, at-deep .if4 .left, at-null .before .before .before .before .fits .depth)
 
 walk-returns-13 : (t : ℕ) → walk-lts.Need-returns-13 (walk-calls t) (walk-at t) walk.Post
 walk-returns-13 t c =
@@ -450,38 +285,7 @@ walk-returns-13 t c =
     let at-sized = at-is-red .before in
     let at-size = at-sized .before in
     let at-even = at-size .before in
-    let at-known2 = at-even .before in
-    let at-rights = at-known2 .before in
-    let at-match2 = at-rights .before in
-    let at-walk2 = at-match2 .before in
-    let at-right = at-walk2 .before in
-    let at-rising = at-right .before in
-    let at-follow = at-rising .before in
-    let at-known = at-follow .before in
-    let at-lefts = at-known .before in
-    let at-match = at-lefts .before in
-    let at-walk = at-match .before in
-    let at-left = at-walk .before in
-    let at-calm = at-left .before in
-    let at-asked = at-calm .before in
-    let at-upright = at-asked .before in
-    let at-stand = at-upright .before in
-    let at-deep = at-stand .before in
-    let at-visits = at-deep .before in
-    let at-range = at-visits .before in
-    let at-null = at-range .before in
-    let a = at-null .before .before .before .before .args in
-    walk-black (now (a .names)) (now (a .cells)) (now (a .sizes)) (a .q) (a .last) (a .i) (a .depth) (a .visits)
-    (at-null .if1 .left) (at-range .if2 .left) (at-visits .if3 .left) (at-deep .if4 .left)
-    (at-stand .stand .ensures) (not-false (at-stand .stand .result) (at-upright .if5 .left))
-    (at-asked .is-calm .ensures) (not-false (at-asked .is-calm .result) (at-calm .if6 .left))
-    (at-left .get .ensures)
-    (ap partOf (sym (at-lefts .lefts .given .1)) ∙ at-walk .walk .ensures)
-    (at-follow .follow .ensures)
-    (not-false (at-follow .follow .result) (at-rising .if7 .left))
-    (at-right .get2 .ensures)
-    (ap partOf (sym (at-rights .rights .given .1)) ∙ at-walk2 .walk2 .ensures)
-    (at-even .if8 .left)
+    walk-black (both t (at-even .before)) (at-even .if8 .left)
     (at-size .has-size .ensures)
     (not-false (at-size .has-size .result) (at-sized .if9 .left))
     (at-is-red .is-red .ensures)
