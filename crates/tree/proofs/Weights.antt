@@ -10,7 +10,7 @@ use Rattle.slots.specs.Answers.{some}
 use Rattle.slots.proofs.Laws.{some-is}
 use Rattle.tree_rules.specs.Rules.{reached, withParts, slotsBelow}
 use Rattle.tree_rules.proofs.Reaching.{refuted}
-use Rattle.tree_rules.proofs.Weighing.{Counted, counted-parts}
+use Rattle.tree_rules.proofs.Weighing.{Summed, summed-parts}
 use Rattle.tree.proofs.Depth.{null-or, Stepped, stepped, at-once}
 use Rattle.tree.proofs.Ruling.{weigh-null, weigh-zero, weigh-on}
 
@@ -30,10 +30,10 @@ module _ (n : ℕ) (cells sizes : List ℕ) where
   weight-spent (suc depth) f q i v rest w r e =
       null-or cells i (λ z. none-spent (suc depth) f q i v rest w z r e)
       (λ d. go (stepped n cells f q i v rest d r)
-      (counted-parts sizes i _ _ w (rw sub-one at (sym (weigh-on cells sizes i (suc depth) d (omega arith)) ∙ e)))
+      (summed-parts sizes i _ _ w (rw sub-one at (sym (weigh-on cells sizes i (suc depth) d (omega arith)) ∙ e)))
       (weight-spent depth) (weight-spent depth))
     where
-      go : (s : Stepped n cells q i v rest) (p : Counted sizes i w (slotsBelow depth cells sizes (cell cells i left))
+      go : (s : Stepped n cells q i v rest) (p : Summed sizes i w (slotsBelow depth cells sizes (cell cells i left))
           (slotsBelow depth cells sizes (cell cells i right)))
           → ((g q j x y z : ℕ) → reached g n cells q j x ≡ some y → slotsBelow depth cells sizes j ≡ some z → z + y ≡ x)
           → ((g q j x y z : ℕ) → reached g n cells q j x ≡ some y → slotsBelow depth cells sizes j ≡ some z → z + y ≡ x)

@@ -121,10 +121,10 @@ sized-parts sizes t = (λ z. (λ k h. z k, λ k e. z k ∙ sizeIn-none k t e), �
     go f g k (no d) = let e : times k (slots t) ≡ 0 = omega arith in g k e ∙ sym (sizeIn-none k t e)
 
 -- The number of a slot, from those of its two children, where it is stored.
-abbrev counted : List ℕ → ℕ → Value → Value → Value
-counted sizes i x y = then x (λ a. then y (λ b. pick (hasSize sizes i (withParts a b)) (some (withParts a b)) none))
+abbrev summed : List ℕ → ℕ → Value → Value → Value
+summed sizes i x y = then x (λ a. then y (λ b. pick (hasSize sizes i (withParts a b)) (some (withParts a b)) none))
 
-pub record Counted (sizes : List ℕ) (i m : ℕ) (x y : Value) : Type 0 where
+pub record Summed (sizes : List ℕ) (i m : ℕ) (x y : Value) : Type 0 where
   pub lefts : ℕ
   pub rights : ℕ
   pub first : x ≡ some lefts
@@ -132,13 +132,13 @@ pub record Counted (sizes : List ℕ) (i m : ℕ) (x y : Value) : Type 0 where
   pub stored : hasSize sizes i m ≡ true
   pub all : withParts lefts rights ≡ m
 
-pub counted-parts : (sizes : List ℕ) (i : ℕ) (x y : Value) (m : ℕ) → counted sizes i x y ≡ some m → Counted sizes i m x y
-counted-parts sizes i none y m e = refuted e
-counted-parts sizes i (some a) none m e = refuted e
-counted-parts sizes i (some a) (some b) m e = go (hasSize sizes i (withParts a b)) refl e
+pub summed-parts : (sizes : List ℕ) (i : ℕ) (x y : Value) (m : ℕ) → summed sizes i x y ≡ some m → Summed sizes i m x y
+summed-parts sizes i none y m e = refuted e
+summed-parts sizes i (some a) none m e = refuted e
+summed-parts sizes i (some a) (some b) m e = go (hasSize sizes i (withParts a b)) refl e
   where
     go : (t : Bool) → hasSize sizes i (withParts a b) ≡ t → pick t (some (withParts a b)) none ≡ some m
-        → Counted sizes i m (some a) (some b)
+        → Summed sizes i m (some a) (some b)
     go false p e = refuted e
     go true p e =
         let z : withParts a b ≡ m = some-is e in
@@ -147,7 +147,7 @@ counted-parts sizes i (some a) (some b) m e = go (hasSize sizes i (withParts a b
 -- T8's number on the tree itself.
 weights : List ℕ → Tree → Value
 weights sizes leaf = some 0
-weights sizes (node c l i r) = counted sizes i (weights sizes l) (weights sizes r)
+weights sizes (node c l i r) = summed sizes i (weights sizes l) (weights sizes r)
 
 module _ (n : ℕ) (cells sizes : List ℕ) (small : n ≤ null) (long : length sizes ≡ n) where
   walk-weights : (depth : ℕ) {q : ℕ} {t : Tree} → Hangs n cells q t → length (slots t) ≤ depth
@@ -178,7 +178,7 @@ module _ (n : ℕ) (cells sizes : List ℕ) (small : n ≤ null) (long : length 
   unfolding weights slots withParts
   weights-each m Hangs.none e = (sym (some-is e), nothing)
   weights-each m (Hangs.some {c = c} {l} {i} {r} w a b) e =
-      let p = counted-parts sizes i (weights sizes l) (weights sizes r) m e in
+      let p = summed-parts sizes i (weights sizes l) (weights sizes r) m e in
       let x = weights-each (p .lefts) a (p .first) in
       let y = weights-each (p .rights) b (p .second) in
       let z : m ≡ length (slots (node c l i r)) = omega (arith, length-node c l i r, x .0, y .0, p .all) in
@@ -232,7 +232,7 @@ module _ (cells : List ℕ) where
           → ((k : ℕ) → u ≡ some k → (w : ℕ) × (slotsBelow depth cells [] (cell cells i left) ≡ some w))
           → ((k : ℕ) → v ≡ some k → (w : ℕ) × (slotsBelow depth cells [] (cell cells i right) ≡ some w))
           → (w : ℕ)
-          × (pick t (some 0) (counted [] i (slotsBelow depth cells [] (cell cells i left)) (slotsBelow depth cells [] (cell cells i right)))
+          × (pick t (some 0) (summed [] i (slotsBelow depth cells [] (cell cells i left)) (slotsBelow depth cells [] (cell cells i right)))
           ≡ some w)
       go true u v e f g = (0, refl)
       go false none v e f g = refuted e
