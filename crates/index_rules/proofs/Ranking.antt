@@ -1,36 +1,33 @@
 -- The two calls by position: after the tests the way down finds what the order says, and a position has one slot.
 use mathlib.Core.Path.{_≡_, refl, ap, sym, _∙_, subst}
-use mathlib.Core.Logic.{_≢_, _↔_}
+use mathlib.Core.Logic.{_≢_}
 use mathlib.Core.Bool.{Bool, true, false, false≢true}
 use mathlib.Core.List.{List, [], _∷_, _++_, map}
 use Prim.Native.Nat.{ℕ, zero, suc, _<_, _≤_}
 use native.Mathlib.Decide.{decLt}
 use native.Mathlib.Omega.{arith}
 use lib.ListN.{length, getD, length-map}
-use lib.Seq.{getD-append-seam}
-use borrow.Author.Tests.{lt-ltb, le-ltb, ltb-true}
-use Rattle.slots.specs.Words.{null, pick, place, cell, nameOf, hashPart, keyPart}
+use borrow.Author.Tests.{lt-ltb, le-ltb}
+use Rattle.slots.specs.Words.{null, place, cell}
 use Rattle.slots.specs.Pairs.{Pair, pair, pairOf}
-use Rattle.slots.specs.Answers.{Answer, Value, some, none, given, refused}
+use Rattle.slots.specs.Answers.{Value, some, none, given, refused}
 use Rattle.slots.proofs.Laws.{number, given-is}
 use Rattle.tree_rules.specs.Find.{slotsOf}
-use Rattle.tree_rules.specs.Tree.{Tree, slots, times}
-use Rattle.tree_rules.specs.Ranks.{kthFrom, rankFrom}
+use Rattle.tree_rules.specs.Tree.{slots}
+use Rattle.tree_rules.specs.Ranks.{rankFrom}
 use Rattle.tree_rules.specs.Claims.{Weighs}
 use Rattle.tree_rules.proofs.Claims.{claims}
 use Rattle.tree_rules.proofs.Positions.{in-nth, rank-has}
-use Rattle.redblack.specs.Holding.{Has, Stands}
+use Rattle.redblack.specs.Holding.{Has}
 use Rattle.index_rules.specs.Live.{Live, Fit, fits, rootOf, countOf}
 use Rattle.index_rules.specs.Sound.{Sound, sound}
-use Rattle.index_rules.specs.Ranks.{kths, ranked, positions}
+use Rattle.index_rules.specs.Ranks.{kths, positions}
 use Rattle.index_rules.specs.Contents.{Entry, entry, entryOf, contents, StandsAt}
 use Rattle.index_rules.specs.Claims.{Kths, Positions}
 use Rattle.index_rules.proofs.Fit.{fit-fits, fits-fit, half}
 use Rattle.index_rules.proofs.Rules.{small, ends}
 use Rattle.index_rules.proofs.Sounding.{sound-yes, yes-sound, unsound}
 use Rattle.index_rules.proofs.Holding.{map-append, contents-length}
-use Rattle.index_rules.proofs.Unrolling.{tree-one}
-use Rattle.index_rules.proofs.Placing.{slot-one}
 use Rattle.index_rules.proofs.Deciding.{Seen, there, absent, seen}
 
 -- A list at a position.

@@ -1,6 +1,5 @@
 -- What T8's walk counts is what T3's walk spends: each slot takes a visit. So the visits tell a subtree's size, and the walk need not add.
 use mathlib.Core.Path.{_≡_, sym, _∙_}
-use mathlib.Core.Logic.{_≢_}
 use mathlib.Core.List.{List}
 use Prim.Native.Nat.{ℕ, zero, suc, _+_, _-_}
 use native.Mathlib.Numerals.{sub-one}

@@ -12,7 +12,7 @@ use lib.Seq.{getD-append-seam, getD-append-add}
 use lib.Dec.{eqb}
 use borrow.Author.Tests.{eq-eqb, ne-eqb, lt-ltb, le-ltb}
 use Rattle.slots.specs.Words.{null, pick, left, right, cell, nameOf, hashPart, keyPart, Colour, sum}
-use Rattle.slots.specs.Pairs.{Pair, pair, pairOf, Less, before}
+use Rattle.slots.specs.Pairs.{pair, pairOf, Less, before}
 use Rattle.slots.specs.Answers.{Value, some, none}
 use Rattle.slots.proofs.Laws.{none-some}
 use Rattle.slots.proofs.Order.{less-irreflexive, less-transitive, less-total, before-less}
