@@ -45,6 +45,9 @@ pub record Claims : Type 0 where
   pub three-left : drawn (withoutOne .live) ≡ black (black none 2 none) 3 (black none 4 none)
   -- "Insert 1, 2, remove 1: 2 is root and black."
   pub two-left : drawn (after (add 1 ∷ (add 2 ∷ (take 1 ∷ []))) (empty 4 8) .live) ≡ black none 2 none
+  -- "Insert 1, 2, 3, remove 2: root 3 black, 1 red on its left. Insert 1, 2, 3, 4, remove 2: root 3, children 1 and 4, all black."
+  pub heir-of-three : drawn (after (take 2 ∷ []) three .live) ≡ black (red none 1 none) 3 none
+  pub heir-of-four : drawn (after (take 2 ∷ []) four .live) ≡ black (black none 1 none) 3 (black none 4 none)
   -- "Insert 1 twice: the second is 3, slot 0."
   pub twice : inserts (after (add 1 ∷ []) (empty 4 8)) 0 1 11 .answer ≡ record { number = 3; value = some 0 }
   -- "Capacity 1, holding 1: insert 2 is 5; remove 1, insert 2 takes slot 0."

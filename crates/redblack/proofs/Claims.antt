@@ -3,7 +3,8 @@ use mathlib.Core.Path.{_≡_, refl, _∙_, sym}
 use mathlib.Core.Logic.{_≢_, _⊎_, inl, inr}
 use mathlib.Core.List.{List, [], append-nil}
 use mathlib.Core.Bool.{Bool, true, false}
-use Prim.Native.Nat.{ℕ, suc, zero, _<_}
+use Prim.Native.Nat.{ℕ, suc, zero, _*_, _<_, _≤_}
+use lib.ListN.{length}
 use native.Mathlib.Omega.{arith}
 use native.Mathlib.Decide.{ℕ-discrete}
 use lib.Dec.{eqb}
@@ -19,7 +20,7 @@ use Rattle.redblack.specs.Balance.{Mended, crown, void}
 use Rattle.redblack.specs.Kept.{Aside}
 use Rattle.redblack.specs.Holding.{Holds, plain}
 use Rattle.redblack.specs.Claims.{PlainWords, Rotates, BalancesInsertion, BalancesDeletion, RemovesSlot, HangsSlot, KeepsSizes, Traps}
-use Rattle.redblack.specs.Claims.{Claims, spun}
+use Rattle.redblack.specs.Claims.{Claims, spun, AsSource}
 use Rattle.redblack.proofs.Ends.{Outcome, on}
 use Rattle.redblack.proofs.Frames.{cell-of, whole}
 use Rattle.redblack.proofs.Order.{slots-plug, around-spin}
@@ -34,6 +35,12 @@ use Rattle.redblack.proofs.Plain.{hung-balanced, slot-removed, removed-
 use Rattle.redblack.proofs.Sizes.{rotation-tree, insertion-tree, deletion-tree, removal-tree, hanging-tree}
 use Rattle.redblack.proofs.Kept.{read-write, rotated-keeps, insertion-keeps, deletion-keeps, removed-keeps, inserted-keeps}
 use Rattle.redblack.proofs.Kept.{place-aside, prev-aside, next-aside}
+use Rattle.redblack.proofs.Removed.{removed-left, removed-right}
+use Rattle.redblack.proofs.Swapped.{trade-tree}
+use Rattle.redblack.specs.Source.{WildMemory}
+use Rattle.redblack.proofs.Guards.{Short}
+use Rattle.redblack.proofs.Driver.{smallest-is, trade-is}
+use Rattle.redblack.proofs.Source.{left-is, right-is, body-insertion, insertion-is, body-deletion, deletion-is}
 use Rattle.redblack.proofs.Outside.{rotation-spares, insertion-spares, deletion-spares}
 
 -- A view of the whole at any place, and back.
@@ -105,6 +112,20 @@ rotation-claims σ s p =
       crowned = λ h. (let v = rotation h in (elim (v .way) [ home e ↦ e ], cell-of (v .tree) .hued));
     }
 
+source-claims : (wild : WildMemory) (s : Links) → length (s .cells) ≤ 7 * null → AsSource wild s
+source-claims w s l =
+    let h : Short s = record { ends = l } in
+    record {
+      left-rotation = λ p. sym (left-is w s p h);
+      right-rotation = λ p. sym (right-is w s p h);
+      insertion-turn = λ x d. sym (body-insertion w s x h (ne-eqb x null d));
+      insertion = λ turns x d. sym (insertion-is w turns s x h (ne-eqb x null d));
+      deletion-turn = λ x. sym (body-deletion w s x h);
+      deletion = λ turns x. sym (deletion-is w turns s x h);
+      successor = λ turns q d. sym (smallest-is w turns s q (ne-eqb q null d));
+      trading = λ p t d e. sym (trade-is w s p t h (ne-eqb p null d) (ne-eqb t null e));
+    }
+
 insertion-claims : (n budget : ℕ) (s : Links) (x : ℕ) → BalancesInsertion n budget s x
 insertion-claims n budget s x =
     record {
@@ -135,6 +156,9 @@ removal-claims : (n budget : ℕ) (s : Links) (t : Tree) (p : ℕ) → RemovesSl
 removal-claims n budget s t p =
     record {
       removes = λ h v c l. slot-removed budget s p h v c l;
+      trades = λ h v c a b l. (let r = trade-tree t budget p h v c a b l in (r .heir, r .next, r .held, r .first));
+      no-left = removed-left budget s p;
+      no-right = removed-right budget s p;
       spares = λ h v c j z. removed-spares budget s p j h v c z;
       keeps = λ f a. removed-keeps a budget s p;
     }
@@ -199,6 +223,7 @@ claims =
     record {
       plain-words = word-claims;
       rotates = rotation-claims;
+      as-source = source-claims;
       balances-insertion = insertion-claims;
       balances-deletion = deletion-claims;
       removes-slot = removal-claims;

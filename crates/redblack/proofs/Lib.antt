@@ -32,4 +32,8 @@ pub mod Leaving
 pub mod Placing
 pub mod Plain
 pub mod Sizes
+pub mod Guards
+pub mod Source
+pub mod Swapped
+pub mod Driver
 pub mod Claims

@@ -6,6 +6,7 @@ use Prim.Native.Nat.{ℕ}
 use Rattle.slots.specs.Words.{Colour, Side, leftward, rightward}
 use Rattle.redblack.specs.Sided.{Sided, Way, plug, slots, bare, fork, frame}
 use Rattle.redblack.specs.Balance.{OneFewer}
+use Rattle.tree_rules.specs.Tree.{NextInOrder}
 use Rattle.redblack.proofs.Ends.{Beside}
 
 -- What stands left and right of a place.
@@ -97,4 +98,18 @@ less-two C D cp ct p t pl tr e =
           ∙ h .eq (fork rightward cp (plug D (fork leftward ct bare t tr)) p pl) ∙ simp (g .eq, append-assoc);
       rest = ap slots (plug-append D (frame rightward cp t pl ∷ C) tr) ∙ h .eq (fork rightward cp (plug D tr) t pl)
           ∙ simp (g .eq, append-assoc);
+    }
+
+-- That successor is the next slot after p.
+pub next-two : (C D : Way) (cp ct : Colour) (p t : ℕ) (pl tr : Sided) → Edge D
+    → NextInOrder p t (slots (plug (D ++ (frame rightward cp p pl ∷ C)) (fork leftward ct bare t tr)))
+unfolding slots plug
+next-two C D cp ct p t pl tr e =
+    let h = split C in
+    let g = right e in
+    record {
+      before = h .before ++ slots pl;
+      after = slots tr ++ (g .after ++ h .after);
+      whole = ap slots (plug-append D (frame rightward cp p pl ∷ C) (fork leftward ct bare t tr))
+          ∙ h .eq (fork rightward cp (plug D (fork leftward ct bare t tr)) p pl) ∙ simp (g .eq, append-assoc);
     }

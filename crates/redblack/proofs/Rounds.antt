@@ -42,7 +42,7 @@ pub still-links : (s : Links) (x : ℕ) (c : Colour) (k : ℕ) → read (painted
 still-links s x c k = cell-across (s .cells) x state (code c) k parent refl refl refl
 
 -- What a turn leaves, and of which slots the next may be.
-data Round (Inv : Links → Type 0) (Q : ℕ → Type 0) : Turn → Type 0 where
+pub data Round (Inv : Links → Type 0) (Q : ℕ → Type 0) : Turn → Type 0 where
   ended : {t : Links} → Inv t → Round Inv Q (done t)
   going : {t : Links} {y : ℕ} → Inv t → Q y → Round Inv Q (more t y)
 
@@ -75,7 +75,7 @@ module _ {P R : ℕ → Type 0} {Inv : Links → Type 0} (K : Keeping P R Inv) w
       (K .paint xp black (K .loose pxp) (K .paint _ black (K .link xpp far (far-link f) (K .loose pxpp) h) h))) pxpp)
       (λ e. round-straightened x xp xpp f px pxp (K .loose pxpp) h)
 
-  round-insertionTurn : {s : Links} (x : ℕ) → R x → Inv s → Round Inv R (insertionTurn s x)
+  pub round-insertionTurn : {s : Links} (x : ℕ) → R x → Inv s → Round Inv R (insertionTurn s x)
   unfolding insertionTurn
   round-insertionTurn {s} x px h =
       let xp = read s x parent in
@@ -133,7 +133,7 @@ module _ {P R : ℕ → Type 0} {Inv : Links → Type 0} (K : Keeping P R Inv) w
       turn-pick (isRed s (read s xp far)) (λ e. round-eased x _ _ f px pq (K .link _ far (far-link f) pq h1) h1)
       (λ e. round-eased x xp _ f px pxp py h)
 
-  round-deletionTurn : {s : Links} (x : ℕ) → P x → Inv s → Round Inv P (deletionTurn s x)
+  pub round-deletionTurn : {s : Links} (x : ℕ) → P x → Inv s → Round Inv P (deletionTurn s x)
   unfolding deletionTurn
   round-deletionTurn {s} x px h =
       let xp = read s x parent in

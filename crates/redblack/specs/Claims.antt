@@ -3,22 +3,26 @@ use mathlib.Core.Path.{_≡_}
 use mathlib.Core.Logic.{_≢_, _⊎_, _↔_}
 use mathlib.Core.List.{List, [], _∷_}
 use mathlib.Core.Bool.{true}
-use Prim.Native.Nat.{ℕ, suc, _<_, _≤_}
+use Prim.Native.Nat.{ℕ, suc, _*_, _<_, _≤_}
 use lib.ListN.{length, getD}
-use Rattle.slots.specs.Words.{null, place, state, parent, prev, next, Colour, black, red, code, Side, other, toward}
+use Rattle.slots.specs.Words.{null, place, state, parent, left, right, prev, next, Colour, black, red, code, Side, other, toward}
+use Rattle.slots.specs.Words.{leftward, rightward}
 use Rattle.slots.specs.Pairs.{pair, pairOf}
 use Rattle.redblack.specs.Links.{Links, read, painted, sizeAt, isRed, done}
 use Rattle.redblack.specs.Rotate.{rotated}
 use Rattle.redblack.specs.Insertion.{insertionTurn, balancedInsertion}
 use Rattle.redblack.specs.Deletion.{deletionTurn, balancedDeletion}
-use Rattle.redblack.specs.Removal.{removed}
+use Rattle.redblack.specs.Removal.{traded, dropped, leftmost, removed}
+use Rattle.redblack.specs.Source.{memory, rotate-left, rotate-right, insertion-body, balance-insertion, deletion-body}
+use Rattle.redblack.specs.Source.{balance-deletion, WildMemory, flow}
+use Rattle.redblack.specs.Driver.{smallest, trade}
 use Rattle.redblack.specs.Hanging.{spotted, inserted}
-use Rattle.tree_rules.specs.Tree.{Tree, slots, Rising, Meets}
+use Rattle.tree_rules.specs.Tree.{Tree, slots, Rising, Meets, NextInOrder}
 use Rattle.redblack.specs.Sided.{Sided, bare, fork, Frame, Way, plug, slots as listed, Site}
 use Rattle.redblack.specs.Balance.{RedBlack, Wants, Mended, OneFewer, crown}
 use Rattle.redblack.specs.Sizes.{SizedTree}
 use Rattle.redblack.specs.Kept.{Aside, Keeps, Agree, Absent}
-use Rattle.redblack.specs.Holding.{Holds, RedBlackTree, Stands, Fresh, Has, Hung, depth, plain}
+use Rattle.redblack.specs.Holding.{Holds, RedBlackTree, Stands, Fresh, Has, Hung, switched, depth, plain}
 
 -- What the theory's words say in plain ones. `plain` gives the plain tree that a sided one names,
 -- and a place in a tree is a view of the whole.
@@ -66,6 +70,21 @@ pub record Rotates (σ : Side) (s : Links) (p : ℕ) : Type 0 where
   pub crowned : {n : ℕ} {cp cr : Colour} {a b d : Sided} {r : ℕ} → Site n s [] (fork σ cp a p (fork σ cr b r d))
       → (spun σ s p .root ≡ r) × (read (spun σ s p) r state ≡ code black)
 
+-- The models are the source's routines, whose text specs/Source.antt has: the same words and the same root, on any words, from any slot,
+-- and for as many turns of a loop. The sizes, which the source has not, are left aside.
+-- Whatever a load and a store behind null would come to: so the text does neither, but where it is asked to insert null.
+pub record AsSource (wild : WildMemory) (s : Links) : Type 0 where
+  pub left-rotation : (p : ℕ) → memory (spun leftward s p) ≡ rotate-left wild (memory s) p
+  pub right-rotation : (p : ℕ) → memory (spun rightward s p) ≡ rotate-right wild (memory s) p
+  -- a turn of each loop, and the whole
+  pub insertion-turn : (x : ℕ) → x ≢ null → flow (insertionTurn s x) ≡ insertion-body wild (memory s) x
+  pub insertion : (turns x : ℕ) → x ≢ null → memory (balancedInsertion turns s x) ≡ balance-insertion wild turns (memory s) x
+  pub deletion-turn : (x : ℕ) → flow (deletionTurn s x) ≡ deletion-body wild (memory s) x
+  pub deletion : (turns x : ℕ) → memory (balancedDeletion turns s x) ≡ balance-deletion wild turns (memory s) x
+  -- the successor and the trade of the published crate's remove_tree_node, whose text specs/Driver.antt has
+  pub successor : (turns q : ℕ) → q ≢ null → leftmost turns s q ≡ smallest wild turns (memory s) q
+  pub trading : (p t : ℕ) → p ≢ null → t ≢ null → memory (traded s p t) ≡ trade wild (memory s) p (read s p left) (read s p right) t
+
 -- balance_insertion after the slot x was hung in a red-black tree t, which made it t′.
 pub record BalancesInsertion (n budget : ℕ) (s : Links) (x : ℕ) : Type 0 where
   -- "hangs it where the order says .. then balances": the tree is red-black again, and its slots in order are the same list
@@ -111,6 +130,14 @@ pub record RemovesSlot (n budget : ℕ) (s : Links) (t : Tree) (p : ℕ) : Type 
   -- the tree is red-black again, and its slots in order are those of t without p
   pub removes : Holds n s t → RedBlackTree t → Stands p t → n ≤ budget
       → (u : Tree) × Holds n (removed budget s p) u × RedBlackTree u × OneFewer p (slots t) (slots u)
+  -- "With two children, successor and slot trade positions and colours": before all else, with the next of the slots in order;
+  -- the links hold t with the two in each other's place then, and every place keeps its colour
+  pub trades : Holds n s t → RedBlackTree t → Stands p t → read s p left ≢ null → read s p right ≢ null → n ≤ budget
+      → (q : ℕ) × NextInOrder p q (slots t) × Holds n (traded s p q) (switched p q t)
+      × (removed budget s p ≡ dropped budget (traded s p q) p)
+  -- without two children there is no trade, on any words
+  pub no-left : read s p left ≡ null → removed budget s p ≡ dropped budget s p
+  pub no-right : read s p right ≡ null → removed budget s p ≡ dropped budget s p
   -- a slot that stands nowhere in the tree keeps all its words
   pub spares : Holds n s t → RedBlackTree t → Stands p t → (j : ℕ) → Fresh j t → Agree s (removed budget s p) j
   -- place, prev and next of every slot are as they were, on any words
@@ -166,6 +193,8 @@ pub record Traps (s : Links) : Type 0 where
 pub record Claims : Type 0 where
   pub plain-words : PlainWords
   pub rotates : (σ : Side) (s : Links) (p : ℕ) → Rotates σ s p
+  -- where slot null has no word: 4,294,967,295 slots and less
+  pub as-source : (wild : WildMemory) (s : Links) → length (s .cells) ≤ 7 * null → AsSource wild s
   pub balances-insertion : (n budget : ℕ) (s : Links) (x : ℕ) → BalancesInsertion n budget s x
   pub balances-deletion : (n budget : ℕ) (s : Links) (x : ℕ) → BalancesDeletion n budget s x
   pub removes-slot : (n budget : ℕ) (s : Links) (t : Tree) (p : ℕ) → RemovesSlot n budget s t p

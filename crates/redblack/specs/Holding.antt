@@ -3,7 +3,8 @@ use mathlib.Core.Path.{_≡_}
 use mathlib.Core.List.{List}
 use Prim.Native.Nat.{ℕ, suc, _*_, _≤_, max}
 use lib.ListN.{length}
-use Rattle.slots.specs.Words.{null, Colour, red, leftward, rightward}
+use lib.Dec.{eqb}
+use Rattle.slots.specs.Words.{null, pick, Colour, red, leftward, rightward}
 use Rattle.slots.specs.Pairs.{pair, pairOf}
 use Rattle.redblack.specs.Links.{Links}
 use Rattle.tree_rules.specs.Tree.{Tree, leaf, node, slots, times, Rooted, Coloured, Level}
@@ -38,6 +39,14 @@ pub data Hung (x : ℕ) : Tree → Tree → Type 0 where
   place : Hung x leaf (node red leaf x leaf)
   onLeft : {c : Colour} {l m : Tree} {i : ℕ} {r : Tree} → Hung x l m → Hung x (node c l i r) (node c m i r)
   onRight : {c : Colour} {l : Tree} {i : ℕ} {r m : Tree} → Hung x r m → Hung x (node c l i r) (node c l i m)
+
+-- The tree with the slots p and q in each other's place. A place keeps its colour, so they change their colours too.
+abbrev pub instead : ℕ → ℕ → ℕ → ℕ
+instead p q i = pick (eqb i p) q (pick (eqb i q) p i)
+
+unfoldable pub switched : ℕ → ℕ → Tree → Tree
+switched p q leaf = leaf
+switched p q (node c l i r) = node c (switched p q l) (instead p q i) (switched p q r)
 
 -- The most slots on a way down.
 unfoldable pub depth : Tree → ℕ

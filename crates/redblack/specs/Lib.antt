@@ -10,4 +10,6 @@ pub mod Balance
 pub mod Sizes
 pub mod Kept
 pub mod Holding
+pub mod Source
+pub mod Driver
 pub mod Claims

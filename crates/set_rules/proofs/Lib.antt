@@ -22,6 +22,7 @@ pub mod Stepping
 pub mod Gates
 pub mod Nexting
 pub mod Iterating
+pub mod RawTable
 pub mod Holding
 pub mod Righting
 pub mod Giving

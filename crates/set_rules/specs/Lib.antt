@@ -7,6 +7,7 @@ pub mod Cursor
 pub mod Walk
 pub mod Ways
 pub mod NodeIter
+pub mod RawTable
 pub mod Held
 pub mod Whole
 pub mod Walked

@@ -2,7 +2,7 @@
 use mathlib.Core.Path.{_≡_}
 use mathlib.Core.Logic.{_≢_, _↔_}
 use mathlib.Core.List.{List, []}
-use Prim.Native.Nat.{ℕ, suc, _+_, _*_, _^_, _<_, _≤_}
+use Prim.Native.Nat.{ℕ, suc, _+_, _-_, _*_, _^_, _<_, _≤_}
 use lib.ListN.{length}
 use Rattle.slots.specs.Words.{null, nameOf, hashPart, keyPart}
 use Rattle.slots.specs.Pairs.{pair, pairOf}
@@ -19,6 +19,8 @@ use Rattle.set_rules.specs.Cursor.{Cursor, Step, indexAt, lone, blankCur
 use Rattle.set_rules.specs.Walk.{nexts}
 use Rattle.set_rules.specs.Ways.{Strays, Steps}
 use Rattle.set_rules.specs.NodeIter.{nextCalled, stateOf, IsCall}
+use Rattle.set_rules.specs.RawTable.{find-moved, find}
+use Rattle.tree_rules.specs.Source.{Wild, FindRun, ReturnsSame}
 use Rattle.set_rules.specs.Held.{Reached, EntryFrom, Made, cursorAfter}
 use Rattle.set_rules.specs.Whole.{Onward, Listing}
 
@@ -59,6 +61,15 @@ pub record LooksUp (s : Set) (t hash key : ℕ) : Type 0 where
       → 2 ^ length (lookups s t hash key .looks) ≤ (countAt s h + 1) * (countAt s h + 1)
   pub list-most : {k p : ℕ} {l : List ℕ} → Reaches s t hash k → homeBin s k hash ≡ list p → Listed (slotsOf (s .names)) (s .cells) p l
       → length (lookups s t hash key .looks) ≤ length l
+
+-- Lookup is the source's, whose text specs/RawTable.antt has, whatever a load behind null and a bin that it has no arm for would come to.
+-- Where ours is 9, `nine` above says why.
+pub record LooksAsSource (wild : Wild) (lost : FindRun) (s : Set) (t hash key : ℕ) : Type 0 where
+  -- the loop from table t on, in as many turns as there are tables from there
+  pub loop : ReturnsSame (lookups s t hash key .answer) (find-moved wild lost s hash key (tablesOf s - t) t)
+  -- and `find` with the bin of table t, where it is not null
+  pub bin : homeBin s t hash ≢ empty
+      → ReturnsSame (lookups s t hash key .answer) (find wild lost s hash key (tablesOf s - suc t) t (homeBin s t hash))
 
 -- Start: 1, then 10, with a cursor that is all zero; else a cursor at the first bin of the table.
 pub record Starts (s : Set) (t : ℕ) : Type 0 where
@@ -114,6 +125,8 @@ pub record WholeWalk (s : Set) (t : ℕ) : Type 0 where
 pub record Walked : Type 0 where
   pub looking : (s : Set) (t hash key : ℕ) → Lookups s t hash key
   pub looks : (s : Set) → Fit s → (t hash key : ℕ) → t < tablesOf s → LookupLooks s t hash key
+  pub looks-as-source : (wild : Wild) (lost : FindRun) (s : Set) → Fit s → (t hash key : ℕ) → t < tablesOf s
+      → LooksAsSource wild lost s t hash key
   pub starting : (s : Set) (t : ℕ) → Starts s t
   pub stepping : (s : Set) (c : Cursor) → Nexts s c
   -- a step is a call of the source's next from the same state, and that call has ended within so many turns

@@ -1,4 +1,4 @@
--- What a step of the walk comes to, in the rules' words and without its loop. Of the model only the record `Place` is used.
+-- What a step of the walk comes to, in the rules' words and without its loop. Of the model only the record `WalkPlace` is used.
 use mathlib.Core.Path.{_≡_}
 use mathlib.Core.Logic.{_≢_}
 use mathlib.Core.List.{List, [], _∷_}

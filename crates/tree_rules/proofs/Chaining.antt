@@ -4,11 +4,11 @@ use mathlib.Core.Path.{_≡_, refl, ap}
 use mathlib.Core.Bool.{Bool, true, false}
 use mathlib.Core.List.{List, [], _∷_}
 use Prim.Native.Nat.{ℕ, zero, suc, _+_, _-_, _<_, _≤_}
-use native.Mathlib.Decide.{ℕ-discrete}
+use native.Mathlib.Decide.{ℕ-discrete, decLt}
 use native.Mathlib.Omega.{arith}
 use lib.ListN.{length}
 use lib.Dec.{eqb, ltb}
-use borrow.Author.Tests.{eq-eqb, ne-eqb, lt-ltb, ltb-true, eqb-true}
+use borrow.Author.Tests.{eq-eqb, ne-eqb, lt-ltb, le-ltb, eqb-true}
 use Rattle.slots.specs.Words.{null, pick, prev, next, cell}
 use Rattle.slots.specs.Answers.{none, some}
 use Rattle.tree_rules.specs.Tree.{times}
@@ -44,23 +44,20 @@ module _ (n : ℕ) (cells : List ℕ) where
       go true p e = let z : 0 ≡ rest = cc in record { visited = []; chain = ended (eqb-true i null p); spent = omega arith }
       go false p e = refuted e
   chain-found (suc v) q i rest e =
-      go (eqb i null) refl (ltb i n) refl (eqb (cell cells i prev) q) refl e (λ h. chain-found v i (cell cells i next) rest h)
+      go (ℕ-discrete i null) (decLt i n) (ℕ-discrete (cell cells i prev) q) (λ h. chain-found v i (cell cells i next) rest h)
     where
-      go : (a : Bool) → eqb i null ≡ a → (b : Bool) → ltb i n ≡ b → (c : Bool) → eqb (cell cells i prev) q ≡ c
-          → pick a (some (suc v)) (pick b (pick c (chained v n cells i (cell cells i next)) none) none) ≡ some rest
+      go : Dec (i ≡ null) → Dec (i < n) → Dec (cell cells i prev ≡ q)
           → (chained v n cells i (cell cells i next) ≡ some rest → Found i (cell cells i next) v rest)
           → Found q i (suc v) rest
-      go true p b x c y e again =
-          let z : suc v ≡ rest = cc in record { visited = []; chain = ended (eqb-true i null p); spent = omega arith }
-      go false p false x c y e again = refuted e
-      go false p true x false y e again = refuted e
-      go false p true x true y e again =
-          let h = again e in
-          record {
-            visited = i ∷ h .visited;
-            chain = linked (ltb-true i n x) (eqb-true (cell cells i prev) q y) (h .chain);
-            spent = omega (arith, h .spent);
-          }
+      go (yes p) x y again =
+          let f : some (suc v) ≡ some rest = rw (eq-eqb i null p) at e in
+          let z : suc v ≡ rest = cc in record { visited = []; chain = ended p; spent = omega arith }
+      go (no p) (no x) y again = refuted (rw (ne-eqb i null p, le-ltb i n (omega arith)) at e)
+      -- prev is another than the slot before
+      go (no p) (yes x) (no y) again = refuted (rw (ne-eqb i null p, lt-ltb i n x, ne-eqb (cell cells i prev) q y) at e)
+      go (no p) (yes x) (yes y) again =
+          let h = again (rw (ne-eqb i null p, lt-ltb i n x, eq-eqb (cell cells i prev) q y) at e) in
+          record { visited = i ∷ h .visited; chain = linked x y (h .chain); spent = omega (arith, h .spent) }
 
   module _ (small : n ≤ null) where
     chain-under : {q i d k : ℕ} {l : List ℕ} → Chain n cells q i l → Rank cells prev q d → 1 ≤ times k l → Under cells prev d i k

@@ -10,6 +10,10 @@ use Rattle.slots.specs.Words.{null, nameOf, hashPart, keyPart}
 use Rattle.slots.specs.Answers.{some}
 use Rattle.tree_rules.specs.Find.{slotsOf, found}
 use Rattle.tree_rules.specs.Claims.{Finds, Rules, Chains, Claims, Shallow, Weighs}
+use Rattle.tree_rules.specs.Claims.{FindsAsSource, ChecksAsSource}
+use Rattle.tree_rules.specs.Source.{Wild}
+use borrow.Author.Tests.{ne-eqb}
+use Rattle.tree_rules.proofs.Source.{body-is, search-is, answer-is}
 use Rattle.tree_rules.specs.Tree.{Tree, slots, Rooted, Coloured, Level, height}
 use Rattle.tree_rules.proofs.Height.{not-deep, looks-most}
 use Rattle.tree_rules.proofs.Found.{lost-nine, nine-lost, only-nine, here-given, given-here, missed-nothing, nothing-missed}
@@ -97,13 +101,28 @@ weigh-claims names cells sizes few ends long root =
     slot-sizes : {t : Tree} → Rooted (slotsOf names) cells root t → SizedBy sizes t → Each sizes t
     slot-sizes {t} h z = sized-each t (h .once) (sized-parts sizes t .0 z .0)
 
+-- The source's text.
+find-source-claims : (w : Wild) (names cells : List ℕ) (root hash key : ℕ) → FindsAsSource w names cells root hash key
+unfolding found
+find-source-claims w names cells root hash key =
+    record {
+      turn = λ p d. body-is w names cells p hash key (ne-eqb p null d);
+      whole = search-is w names cells (slotsOf names) root hash key;
+    }
+
+check-source-claims : (w : Wild) (names cells : List ℕ) (root : ℕ) → ChecksAsSource w names cells root
+check-source-claims w names cells root =
+    record { passing = λ d. answer-is w names cells root d .passing; failing = λ d. answer-is w names cells root d .failing }
+
 pub claims : Claims
 claims =
     record {
       looks = look-claims;
       finds = search-claims;
+      finds-as-source = find-source-claims;
       tests = test-claims;
       checks = check-claims;
+      checks-as-source = check-source-claims;
       rules = rule-claims;
       chains = chain-claims;
       shallow = shallow-claims;

@@ -33,7 +33,7 @@ levels leaf = some 0
 levels (node c l i r) = joined (blacks c) (levels l) (levels r)
 
 -- Every way meets it.
-levels-meets : {t : Tree} {k : ℕ} (m : ℕ) → levels t ≡ some m → Meets t k → k ≡ m
+pub levels-meets : {t : Tree} {k : ℕ} (m : ℕ) → levels t ≡ some m → Meets t k → k ≡ m
 unfolding levels
 levels-meets m e end = cc
 levels-meets m e (leftward {c = c} {l} {i} {r} w) =
@@ -41,7 +41,7 @@ levels-meets m e (leftward {c = c} {l} {i} {r} w) =
 levels-meets m e (rightward {c = c} {l} {i} {r} w) =
     let h = joined-parts (blacks c) (levels l) (levels r) m e in omega (arith, levels-meets (h .0) (h .2) w, h .3)
 
-way : (t : Tree) → (k : ℕ) × Meets t k
+pub way : (t : Tree) → (k : ℕ) × Meets t k
 way leaf = (0, end)
 way (node c l i r) = let h = way l in (blacks c + h .0, leftward (h .1))
 
@@ -66,7 +66,7 @@ level-levels (node c l i r) h =
         (blacks c + x .0, rw (x .1, y .1, eq-eqb (x .0) (y .0) e))
 
 module _ (n : ℕ) (cells : List ℕ) (small : n ≤ null) where
-  walk-levels : (depth : ℕ) {q : ℕ} {t : Tree} → Hangs n cells q t → length (slots t) ≤ depth → levelled depth cells (top t) ≡ levels t
+  pub walk-levels : (depth : ℕ) {q : ℕ} {t : Tree} → Hangs n cells q t → length (slots t) ≤ depth → levelled depth cells (top t) ≡ levels t
   unfolding levelled slots levels
   walk-levels zero Hangs.none h = refl
   walk-levels (suc depth) Hangs.none h = refl

@@ -18,4 +18,5 @@ pub mod Weighing
 pub mod Sizing
 pub mod Order
 pub mod Positions
+pub mod Source
 pub mod Claims

@@ -132,7 +132,7 @@ module _ (n : ℕ) (cells : List ℕ) where
         (λ e. rw e (under-self (cell-rank w rk)))
         (λ y. under-above (top-cell k b y .1) (hangs-under b (cell-rank w rk) y))
 
-    once-node : {q d : ℕ} {c : Colour} {l : Tree} {i : ℕ} {r : Tree} → Cell n cells q c (top l) i (top r) → Hangs n cells i l
+    pub once-node : {q d : ℕ} {c : Colour} {l : Tree} {i : ℕ} {r : Tree} → Cell n cells q c (top l) i (top r) → Hangs n cells i l
         → Hangs n cells i r → Rank cells parent q d
         → (top l ≡ top r → top l ≡ null) → ((k : ℕ) → times k (slots l) ≤ 1) → ((k : ℕ) → times k (slots r) ≤ 1) → (k : ℕ)
         → times k (slots (node c l i r)) ≤ 1
@@ -215,7 +215,7 @@ module _ (n : ℕ) (cells : List ℕ) where
     visit fuel q i v b w h = rw (ne-eqb i null (solid small b), lt-ltb i n b, ne-eqb v 0 w, stood-stands cells q i h)
 
     -- Two children that are one would stand twice.
-    two-tops : {l r : Tree} {i : ℕ} → Hangs n cells i l → Hangs n cells i r → times (top l) (slots l) + times (top l) (slots r) ≤ 1
+    pub two-tops : {l r : Tree} {i : ℕ} → Hangs n cells i l → Hangs n cells i r → times (top l) (slots l) + times (top l) (slots r) ≤ 1
         → top l ≡ top r → top l ≡ null
     two-tops {l} {r} a b once e = go (ℕ-discrete (top l) null)
       where

@@ -35,7 +35,7 @@ read-append names m (i ∷ a) b = go (follows names m i) (read-append names i a 
     go false e = refl
 
 -- What is below the first of a rising list is below the rest.
-below-less : {names : List ℕ} {p q : Pair} {l : List ℕ} → Less p q → Below names q l → Below names p l
+pub below-less : {names : List ℕ} {p q : Pair} {l : List ℕ} → Less p q → Below names q l → Below names p l
 below-less h last = last
 below-less h (Below.before k r) = Below.before (less-transitive _ _ _ h k) (below-less h r)
 

@@ -7,7 +7,8 @@ use Prim.Native.Nat.{ℕ, _+_, _-_, _*_, _^_, _<_, _≤_}
 use lib.ListN.{length, getD}
 use Rattle.slots.specs.Words.{null, parent, left, right, prev, next, nameOf, hashPart, keyPart}
 use Rattle.slots.specs.Answers.{some, given, nothing, refused}
-use Rattle.tree_rules.specs.Find.{here, on, decided, slotsOf, found, Follows, Lost, Here, Missed}
+use Rattle.tree_rules.specs.Find.{here, on, decided, looked, slotsOf, found, Follows, Lost, Here, Missed}
+use Rattle.tree_rules.specs.Source.{Wild, find-body, turnOf, ReturnsSame, find-tree-node, passes, fails, check-invariants}
 use Rattle.tree_rules.specs.Looks.{LooksAt}
 use Rattle.tree_rules.specs.Check.{test, firstFailing, passed, failed, strayed, checked, Back, Child, LeftHash, RightHash, NotAllRed}
 use Rattle.tree_rules.specs.Check.{Walks}
@@ -46,6 +47,14 @@ pub record Finds (names cells : List ℕ) (root hash key : ℕ) : Type 0 where
   -- the slots looked at are those that the search follows, in order
   pub looks : LooksAt names hash key (Follows names cells root hash key) (found names cells root hash key)
 
+-- The search is the source's find_tree_node, whose text specs/Source.antt has. Where ours is 9, `nine` above says what the source would do:
+-- it would follow a link that leads to no slot, or look at more slots than there are, and never return.
+pub record FindsAsSource (wild : Wild) (names cells : List ℕ) (root hash key : ℕ) : Type 0 where
+  -- a turn of the loop is a look, at any slot but null, and no turn comes to `unreachable!`
+  pub turn : (p : ℕ) → p ≢ null → find-body wild names cells p hash key ≡ turnOf p (looked names cells p hash key)
+  -- the same slot, and null for Nothing, in as many turns
+  pub whole : ReturnsSame (found names cells root hash key .answer) (find-tree-node wild names cells (slotsOf names) root hash key)
+
 -- The eight tests of the source's check at slot i, each by its number.
 pub record Tests (names cells : List ℕ) (i : ℕ) : Type 0 where
   pub prev-test : (test names cells 1 i ≡ true) ↔ Back names cells i prev next
@@ -67,6 +76,13 @@ pub record Checks (names cells : List ℕ) (root : ℕ) : Type 0 where
   pub fails : (t i : ℕ)
       → (checked names cells root ≡ record { number = 100 + t; value = some i }) ↔ Walks names cells root (slotsOf names) (failed t i)
   pub nine : (checked names cells root ≡ refused 9) ↔ Walks names cells root (slotsOf names) strayed
+
+-- The check is the source's check_invariants, whose text specs/Source.antt has, from a root that is not null: behind null it would load.
+-- Whatever a load behind null would come to: so the text does none.
+pub record ChecksAsSource (wild : Wild) (names cells : List ℕ) (root : ℕ) : Type 0 where
+  pub passing : root ≢ null → checked names cells root ≡ nothing → check-invariants wild names cells (slotsOf names) root ≡ passes
+  pub failing : root ≢ null → (t i : ℕ) → checked names cells root ≡ record { number = 100 + t; value = some i }
+      → check-invariants wild names cells (slotsOf names) root ≡ fails t i
 
 -- The rules of one tree, on words in which slot null has no word: T3 to T6 are obeyed exactly of a tree that has all four.
 pub record Rules (names cells : List ℕ) (few : slotsOf names ≤ null) (ends : length cells ≤ 7 * null) (root : ℕ) : Type 0 where
@@ -116,8 +132,10 @@ pub record Weighs (names cells sizes : List ℕ) (few : slotsOf names ≤ null) 
 pub record Claims : Type 0 where
   pub looks : (at own l r hash key : ℕ) → Looks at own l r hash key
   pub finds : (names cells : List ℕ) (root hash key : ℕ) → Finds names cells root hash key
+  pub finds-as-source : (wild : Wild) (names cells : List ℕ) (root hash key : ℕ) → FindsAsSource wild names cells root hash key
   pub tests : (names cells : List ℕ) (i : ℕ) → Tests names cells i
   pub checks : (names cells : List ℕ) (root : ℕ) → Checks names cells root
+  pub checks-as-source : (wild : Wild) (names cells : List ℕ) (root : ℕ) → ChecksAsSource wild names cells root
   pub rules : (names cells : List ℕ) (few : slotsOf names ≤ null) (ends : length cells ≤ 7 * null) (root : ℕ)
       → Rules names cells few ends root
   pub chains : (n : ℕ) (cells : List ℕ) (few : n ≤ null) (first : ℕ) → Chains n cells few first

@@ -6,4 +6,5 @@ pub mod Rules
 pub mod Chain
 pub mod Sizes
 pub mod Ranks
+pub mod Source
 pub mod Claims

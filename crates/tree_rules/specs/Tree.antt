@@ -32,6 +32,12 @@ unfoldable pub times : ℕ → List ℕ → ℕ
 times k [] = 0
 times k (i ∷ l) = pick (eqb k i) 1 0 + times k l
 
+-- The slot q is the next after p in a list of slots: p's successor, where they are a tree's in order.
+pub record NextInOrder (p q : ℕ) (l : List ℕ) : Type 0 where
+  pub before : List ℕ
+  pub after : List ℕ
+  pub whole : l ≡ before ++ (p ∷ (q ∷ after))
+
 -- The words of slot i are those of a node: one of n slots, its parent q, its two children and its colour.
 pub record Cell (n : ℕ) (cells : List ℕ) (q : ℕ) (c : Colour) (l i r : ℕ) : Type 0 where
   pub inside : i < n
