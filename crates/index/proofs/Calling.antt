@@ -8,7 +8,7 @@ use Rattle.slots.specs.Words.{pick}
 use Rattle.slots.specs.Answers.{Answer, Value, some, none}
 use Rattle.slots.proofs.Laws.{told-apart}
 use Rattle.index_rules.specs.Index.{Outcome}
-use Rattle.index.specs.Calls.{fitnessOf, insertedOf, removedOf, replacedOf}
+use Rattle.index.specs.Calls.{fitnessOf, insertedOf, presenceOf}
 use Rattle.index.specs.Fresh.{freshOf}
 use Rattle.index.specs.Calling.{CallReturned, outcomeOf, Calling}
 use Rattle.index.specs.declared.fit_index.Fitness.{Fitness}
@@ -18,12 +18,9 @@ use Rattle.index.specs.declared.fresh.Freshness.the-variants.{Made, Unfi
 use Rattle.index.specs.declared.insert.Inserted.{Inserted}
 use Rattle.index.specs.declared.insert.Inserted.the-variants.{At as InsertAt, Unfit as InsertUnfit, Damaged as InsertDamaged, Present}
 use Rattle.index.specs.declared.insert.Inserted.the-variants.{Full, JournalFull as InsertJournalFull}
-use Rattle.index.specs.declared.remove.Removed.{Removed}
-use Rattle.index.specs.declared.remove.Removed.the-variants.{At as RemoveAt, Unfit as RemoveUnfit, Damaged as RemoveDamaged}
-use Rattle.index.specs.declared.remove.Removed.the-variants.{Absent as RemoveAbsent, JournalFull as RemoveJournalFull}
-use Rattle.index.specs.declared.replace.Replaced.{Replaced}
-use Rattle.index.specs.declared.replace.Replaced.the-variants.{At as ReplaceAt, Unfit as ReplaceUnfit, Damaged as ReplaceDamaged}
-use Rattle.index.specs.declared.replace.Replaced.the-variants.{Absent as ReplaceAbsent, JournalFull as ReplaceJournalFull}
+use Rattle.index.specs.declared.present.Presence.{Presence}
+use Rattle.index.specs.declared.present.Presence.the-variants.{At as PresentAt, Unfit as PresentUnfit, Damaged as PresentDamaged}
+use Rattle.index.specs.declared.present.Presence.the-variants.{Absent as PresentAbsent, JournalFull as PresentJournalFull}
 
 abbrev insertBack : ℕ → Value → Inserted
 insertBack number (some slot) = pick (eqb number 0) (InsertAt slot) (Present slot)
@@ -41,35 +38,20 @@ insert-back InsertJournalFull = refl
 inserted-one-to-one : (a b : Inserted) → insertedOf a ≡ insertedOf b → a ≡ b
 inserted-one-to-one = told-apart insertedOf (λ a. insertBack (a .number) (a .value)) insert-back
 
-abbrev removeBack : ℕ → Value → Removed
-removeBack number (some slot) = RemoveAt slot
-removeBack number none =
-    pick (eqb number 1) RemoveUnfit (pick (eqb number 2) RemoveDamaged (pick (eqb number 4) RemoveAbsent RemoveJournalFull))
+abbrev presenceBack : ℕ → Value → Presence
+presenceBack number (some slot) = PresentAt slot
+presenceBack number none =
+    pick (eqb number 1) PresentUnfit (pick (eqb number 2) PresentDamaged (pick (eqb number 4) PresentAbsent PresentJournalFull))
 
-remove-back : (r : Removed) → removeBack (removedOf r .number) (removedOf r .value) ≡ r
-remove-back (RemoveAt slot) = refl
-remove-back RemoveUnfit = refl
-remove-back RemoveDamaged = refl
-remove-back RemoveAbsent = refl
-remove-back RemoveJournalFull = refl
+presence-back : (r : Presence) → presenceBack (presenceOf r .number) (presenceOf r .value) ≡ r
+presence-back (PresentAt slot) = refl
+presence-back PresentUnfit = refl
+presence-back PresentDamaged = refl
+presence-back PresentAbsent = refl
+presence-back PresentJournalFull = refl
 
-removed-one-to-one : (a b : Removed) → removedOf a ≡ removedOf b → a ≡ b
-removed-one-to-one = told-apart removedOf (λ a. removeBack (a .number) (a .value)) remove-back
-
-abbrev replaceBack : ℕ → Value → Replaced
-replaceBack number (some slot) = ReplaceAt slot
-replaceBack number none =
-    pick (eqb number 1) ReplaceUnfit (pick (eqb number 2) ReplaceDamaged (pick (eqb number 4) ReplaceAbsent ReplaceJournalFull))
-
-replace-back : (r : Replaced) → replaceBack (replacedOf r .number) (replacedOf r .value) ≡ r
-replace-back (ReplaceAt slot) = refl
-replace-back ReplaceUnfit = refl
-replace-back ReplaceDamaged = refl
-replace-back ReplaceAbsent = refl
-replace-back ReplaceJournalFull = refl
-
-replaced-one-to-one : (a b : Replaced) → replacedOf a ≡ replacedOf b → a ≡ b
-replaced-one-to-one = told-apart replacedOf (λ a. replaceBack (a .number) (a .value)) replace-back
+presence-one-to-one : (a b : Presence) → presenceOf a ≡ presenceOf b → a ≡ b
+presence-one-to-one = told-apart presenceOf (λ a. presenceBack (a .number) (a .value)) presence-back
 
 abbrev freshBack : ℕ → Freshness
 freshBack number = pick (eqb number 0) Made FreshUnfit
@@ -113,12 +95,11 @@ calling =
       insert-one = λ ix hash key p c d. one insertedOf inserted-one-to-one _ c d;
       raise-one = λ inserted floor a b p q. p ∙ sym q;
       lower-one = λ removed floor a b p q. p ∙ sym q;
-      removed-one-to-one = removed-one-to-one;
-      remove-sound-one = λ ix hash key c d. one removedOf removed-one-to-one _ c d;
-      remove-one = λ ix hash key c d. one removedOf removed-one-to-one _ c d;
-      replaced-one-to-one = replaced-one-to-one;
-      replace-sound-one = λ ix hash key p c d. one replacedOf replaced-one-to-one _ c d;
-      replace-one = λ ix hash key p c d. one replacedOf replaced-one-to-one _ c d;
+      presence-one-to-one = presence-one-to-one;
+      remove-sound-one = λ ix hash key c d. one presenceOf presence-one-to-one _ c d;
+      remove-one = λ ix hash key c d. one presenceOf presence-one-to-one _ c d;
+      replace-sound-one = λ ix hash key p c d. one presenceOf presence-one-to-one _ c d;
+      replace-one = λ ix hash key p c d. one presenceOf presence-one-to-one _ c d;
       freshness-one-to-one = freshness-one-to-one;
       fresh-one = λ ix c d. one freshOf freshness-one-to-one _ c d;
       fitness-one-to-one = fitness-one-to-one;

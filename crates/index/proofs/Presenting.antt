@@ -1,7 +1,12 @@
 -- What remove and replace ask alike, as the tests settle it: each law takes what the tests gave, in the order of the code.
 use mathlib.Core.Path.{_≡_, refl}
 use mathlib.Core.Bool.{Bool, true, false}
+use mathlib.Core.Logic.{inl, inr}
+use mathlib.Core.List.{[], _∷_}
 use Prim.Native.Nat.{ℕ, _≤_}
+use native.Mathlib.Omega.{arith}
+use types.Run.{OneOf}
+use denote.Enum.Declared.{tagOf}
 use lib.Dec.{eqb, leb}
 use Rattle.slots.specs.Words.{mostSlots}
 use Rattle.slots.specs.Answers.{Value, some, none, given, refused}
@@ -9,6 +14,10 @@ use Rattle.index_rules.specs.Live.{Live, countOf}
 use Rattle.index_rules.specs.Index.{Index, fitsIndex, lengthOf, linesOf}
 use Rattle.index_rules.specs.Insert.{soughtIn}
 use Rattle.index_rules.specs.Checked.{onChecked, presentSound}
+use Rattle.index.specs.Calls.{presenceOf}
+use Rattle.index.specs.declared.present.Presence.{Presence}
+use Rattle.index.specs.declared.present.Presence.the-variants.{At, Unfit, Damaged, Absent, JournalFull}
+use Rattle.index.proofs.present.Presence.{the-type}
 use Rattle.index.proofs.Asking.{Settled, refuses, accepts}
 
 module _ (ix : Index) (hash key : ℕ) where
@@ -54,3 +63,14 @@ module _ (ix : Index) (hash key : ℕ) where
       go true e true f none s l r = refuses 3 none (rw (e, f, s))
       go true e true f (some x) s true r = refuses 5 none (rw (e, f, s, r))
       go true e true f (some x) s false r = accepts x e f (rw (e, f, s, r))
+
+-- Another case than a slot is a refusal.
+pub not-at : (r : Presence) → OneOf (1 ∷ 2 ∷ 3 ∷ 4 ∷ []) (tagOf the-type r) → presenceOf r .number ≡ 0 → ⊥
+not-at (At slot) (inl z) e = omega arith
+not-at (At slot) (inr (inl z)) e = omega arith
+not-at (At slot) (inr (inr (inl z))) e = omega arith
+not-at (At slot) (inr (inr (inr z))) e = omega arith
+not-at Unfit k e = omega arith
+not-at Damaged k e = omega arith
+not-at Absent k e = omega arith
+not-at JournalFull k e = omega arith

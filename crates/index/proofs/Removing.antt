@@ -1,11 +1,8 @@
 -- remove_sound as its tests settle it, and what an accepted one leaves.
 use mathlib.Core.Path.{_≡_}
-use mathlib.Core.Logic.{_≢_, inl, inr}
-use mathlib.Core.List.{List, [], _∷_}
+use mathlib.Core.Logic.{_≢_}
+use mathlib.Core.List.{List}
 use Prim.Native.Nat.{ℕ}
-use native.Mathlib.Omega.{arith}
-use types.Run.{OneOf}
-use denote.Enum.Declared.{tagOf}
 use borrow.Author.Tests.{eq-eqb, ne-eqb}
 use Rattle.slots.specs.Words.{null, place, prev, cell, nameOf, hashPart, keyPart}
 use Rattle.slots.specs.Answers.{given}
@@ -13,10 +10,6 @@ use Rattle.index_rules.specs.Live.{Live}
 use Rattle.index_rules.specs.Index.{Index, index, outcome, removeKind, plainLine, notedLine, appended}
 use Rattle.index_rules.specs.Remove.{shrunk, removalOf, afterRemove}
 use Rattle.index_rules.specs.Checked.{removesSound}
-use Rattle.index.specs.Calls.{removedOf}
-use Rattle.index.specs.declared.remove.Removed.{Removed}
-use Rattle.index.specs.declared.remove.Removed.the-variants.{At, Unfit, Damaged, Absent, JournalFull}
-use Rattle.index.proofs.remove.Removed.{the-type}
 use Rattle.index.proofs.Asking.{Settled}
 use Rattle.index.proofs.Presenting.{settled-by}
 
@@ -39,13 +32,3 @@ module _ (ix : Index) (hash key : ℕ) where
         → l ≡ appended (ix .lines) (notedLine hash key p prehash prekey) → outcome (given x) (index u l) ≡ removesSound ix hash key
     unfolding afterRemove removalOf
     left-noted g k d f = rw (e3, f, e1, g, k) (rw (← e2, ne-eqb y null d) at e)
-
-pub not-at : (r : Removed) → OneOf (1 ∷ 2 ∷ 3 ∷ 4 ∷ []) (tagOf the-type r) → removedOf r .number ≡ 0 → ⊥
-not-at (At slot) (inl z) e = omega arith
-not-at (At slot) (inr (inl z)) e = omega arith
-not-at (At slot) (inr (inr (inl z))) e = omega arith
-not-at (At slot) (inr (inr (inr z))) e = omega arith
-not-at Unfit k e = omega arith
-not-at Damaged k e = omega arith
-not-at Absent k e = omega arith
-not-at JournalFull k e = omega arith

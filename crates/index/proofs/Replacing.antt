@@ -1,21 +1,13 @@
 -- replace_sound as its tests settle it, and what an accepted one leaves.
 use mathlib.Core.Path.{_≡_}
-use mathlib.Core.Logic.{inl, inr}
-use mathlib.Core.List.{List, [], _∷_}
+use mathlib.Core.List.{List}
 use Prim.Native.Nat.{ℕ}
-use native.Mathlib.Omega.{arith}
-use types.Run.{OneOf}
-use denote.Enum.Declared.{tagOf}
 use Rattle.slots.specs.Words.{place, cell, write}
 use Rattle.slots.specs.Answers.{given}
 use Rattle.index_rules.specs.Live.{lentTree}
 use Rattle.index_rules.specs.Index.{Index, index, outcome, bothPlaces, replaceKind, plainLine, appended}
 use Rattle.index_rules.specs.Replace.{placedAt, afterReplace}
 use Rattle.index_rules.specs.Checked.{replacesSound}
-use Rattle.index.specs.Calls.{replacedOf}
-use Rattle.index.specs.declared.replace.Replaced.{Replaced}
-use Rattle.index.specs.declared.replace.Replaced.the-variants.{At, Unfit, Damaged, Absent, JournalFull}
-use Rattle.index.proofs.replace.Replaced.{the-type}
 use Rattle.index.proofs.Asking.{Settled}
 use Rattle.index.proofs.Presenting.{settled-by}
 
@@ -31,13 +23,3 @@ module _ (ix : Index) (hash key p : ℕ) where
       → outcome (given x) (index (lentTree (ix .live .names) c (ix .live .head) (ix .live .sizes)) l) ≡ replacesSound ix hash key p
   unfolding afterReplace placedAt
   moved e1 e2 e3 e4 e = rw (e2, e4, e3, e1) e
-
-pub not-at : (r : Replaced) → OneOf (1 ∷ 2 ∷ 3 ∷ 4 ∷ []) (tagOf the-type r) → replacedOf r .number ≡ 0 → ⊥
-not-at (At slot) (inl z) e = omega arith
-not-at (At slot) (inr (inl z)) e = omega arith
-not-at (At slot) (inr (inr (inl z))) e = omega arith
-not-at (At slot) (inr (inr (inr z))) e = omega arith
-not-at Unfit k e = omega arith
-not-at Damaged k e = omega arith
-not-at Absent k e = omega arith
-not-at JournalFull k e = omega arith

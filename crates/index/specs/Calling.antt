@@ -10,13 +10,12 @@ use Rattle.index_rules.specs.Remove.{removes}
 use Rattle.index_rules.specs.Replace.{replaces}
 use Rattle.index_rules.specs.Checked.{raisedBy, loweredBy, insertsSound, removesSound, replacesSound}
 use Rattle.index_rules.specs.Fresh.{freshes}
-use Rattle.index.specs.Calls.{fitnessOf, insertedOf, removedOf, replacedOf}
+use Rattle.index.specs.Calls.{fitnessOf, insertedOf, presenceOf}
 use Rattle.index.specs.Fresh.{freshOf}
 use Rattle.index.specs.declared.fit_index.Fitness.{Fitness}
 use Rattle.index.specs.declared.fresh.Freshness.{Freshness}
 use Rattle.index.specs.declared.insert.Inserted.{Inserted}
-use Rattle.index.specs.declared.remove.Removed.{Removed}
-use Rattle.index.specs.declared.replace.Replaced.{Replaced}
+use Rattle.index.specs.declared.present.Presence.{Presence}
 
 -- What a call returns, and the words of the five slices after it.
 pub record CallReturned (A : Type 0) : Type 0 where
@@ -40,13 +39,12 @@ pub record Calling : Type 0 where
       → OneAnswer (λ c. outcomeOf insertedOf c ≡ insertsSound floor ix hash key p)
   pub insert-one : (ix : Index) (hash key p : ℕ) → OneAnswer (λ c. outcomeOf insertedOf c ≡ inserts ix hash key p)
   pub raise-one : (inserted : Inserted) (floor : ℕ) → OneAnswer (λ r. r ≡ raisedBy (insertedOf inserted) floor)
-  pub lower-one : (removed : Removed) (floor : ℕ) → OneAnswer (λ r. r ≡ loweredBy (removedOf removed) floor)
-  pub removed-one-to-one : (a b : Removed) → removedOf a ≡ removedOf b → a ≡ b
-  pub remove-sound-one : (ix : Index) (hash key : ℕ) → OneAnswer (λ c. outcomeOf removedOf c ≡ removesSound ix hash key)
-  pub remove-one : (ix : Index) (hash key : ℕ) → OneAnswer (λ c. outcomeOf removedOf c ≡ removes ix hash key)
-  pub replaced-one-to-one : (a b : Replaced) → replacedOf a ≡ replacedOf b → a ≡ b
-  pub replace-sound-one : (ix : Index) (hash key p : ℕ) → OneAnswer (λ c. outcomeOf replacedOf c ≡ replacesSound ix hash key p)
-  pub replace-one : (ix : Index) (hash key p : ℕ) → OneAnswer (λ c. outcomeOf replacedOf c ≡ replaces ix hash key p)
+  pub lower-one : (removed : Presence) (floor : ℕ) → OneAnswer (λ r. r ≡ loweredBy (presenceOf removed) floor)
+  pub presence-one-to-one : (a b : Presence) → presenceOf a ≡ presenceOf b → a ≡ b
+  pub remove-sound-one : (ix : Index) (hash key : ℕ) → OneAnswer (λ c. outcomeOf presenceOf c ≡ removesSound ix hash key)
+  pub remove-one : (ix : Index) (hash key : ℕ) → OneAnswer (λ c. outcomeOf presenceOf c ≡ removes ix hash key)
+  pub replace-sound-one : (ix : Index) (hash key p : ℕ) → OneAnswer (λ c. outcomeOf presenceOf c ≡ replacesSound ix hash key p)
+  pub replace-one : (ix : Index) (hash key p : ℕ) → OneAnswer (λ c. outcomeOf presenceOf c ≡ replaces ix hash key p)
   pub freshness-one-to-one : (a b : Freshness) → freshOf a ≡ freshOf b → a ≡ b
   pub fresh-one : (ix : Index) → OneAnswer (λ c. outcomeOf freshOf c ≡ freshes ix)
   pub fitness-one-to-one : (a b : Fitness) → fitnessOf a ≡ fitnessOf b → a ≡ b

@@ -1,4 +1,4 @@
--- The number and value of each answer of insert, remove and replace, and what the tests before them answer.
+-- The number and value of each answer of insert, and of remove and replace, which answer alike.
 use mathlib.Core.Bool.{Bool, true, false}
 use Rattle.slots.specs.Answers.{Answer, some, given, refused}
 use Rattle.index.specs.declared.fit_index.Fitness.{Fitness}
@@ -9,12 +9,6 @@ use Rattle.index.specs.declared.insert.Inserted.the-variants.{Full, Jour
 use Rattle.index.specs.declared.present.Presence.{Presence}
 use Rattle.index.specs.declared.present.Presence.the-variants.{At as PresentAt, Unfit as PresentUnfit, Damaged as PresentDamaged}
 use Rattle.index.specs.declared.present.Presence.the-variants.{Absent as PresentAbsent, JournalFull as PresentJournalFull}
-use Rattle.index.specs.declared.remove.Removed.{Removed}
-use Rattle.index.specs.declared.remove.Removed.the-variants.{At as RemoveAt, Unfit as RemoveUnfit, Damaged as RemoveDamaged}
-use Rattle.index.specs.declared.remove.Removed.the-variants.{Absent as RemoveAbsent, JournalFull as RemoveJournalFull}
-use Rattle.index.specs.declared.replace.Replaced.{Replaced}
-use Rattle.index.specs.declared.replace.Replaced.the-variants.{At as ReplaceAt, Unfit as ReplaceUnfit, Damaged as ReplaceDamaged}
-use Rattle.index.specs.declared.replace.Replaced.the-variants.{Absent as ReplaceAbsent, JournalFull as ReplaceJournalFull}
 
 abbrev pub fitnessOf : Fitness → Bool
 fitnessOf Fit = true
@@ -34,17 +28,3 @@ presenceOf PresentUnfit = refused 1
 presenceOf PresentDamaged = refused 2
 presenceOf PresentAbsent = refused 4
 presenceOf PresentJournalFull = refused 6
-
-abbrev pub removedOf : Removed → Answer
-removedOf (RemoveAt slot) = given slot
-removedOf RemoveUnfit = refused 1
-removedOf RemoveDamaged = refused 2
-removedOf RemoveAbsent = refused 4
-removedOf RemoveJournalFull = refused 6
-
-abbrev pub replacedOf : Replaced → Answer
-replacedOf (ReplaceAt slot) = given slot
-replacedOf ReplaceUnfit = refused 1
-replacedOf ReplaceDamaged = refused 2
-replacedOf ReplaceAbsent = refused 4
-replacedOf ReplaceJournalFull = refused 6

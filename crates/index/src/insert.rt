@@ -96,18 +96,18 @@ fn ask(
     }
     let root = word(head, ROOT, NULL);
     let found = find_tree_node(names, cells, root, hash, key);
-    let Found::At(slot, _) = found else {
-        let x = lowest_free(cells, (names.len() / 2) as u32, floor);
-        if x == NULL {
-            return Inserted::Full;
-        }
-        let full = is_full(lines);
-        if full {
-            return Inserted::JournalFull;
-        }
-        return Inserted::At(x);
-    };
-    Inserted::Present(slot)
+    if let Found::At(slot, _) = found {
+        return Inserted::Present(slot);
+    }
+    let x = lowest_free(cells, (names.len() / 2) as u32, floor);
+    if x == NULL {
+        return Inserted::Full;
+    }
+    let full = is_full(lines);
+    if full {
+        return Inserted::JournalFull;
+    }
+    Inserted::At(x)
 }
 
 // insert where the full check has said yes and no slot below the floor is free.

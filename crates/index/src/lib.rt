@@ -12,7 +12,7 @@ pub mod journal;
 pub mod shrink;
 // insert, remove and replace: a pair joins the tree, leaves it or has another place, and the journal takes a line.
 pub mod insert;
-mod present;
+pub mod present;
 pub mod remove;
 pub mod replace;
 // rollback: what the journal's lines took in, out or elsewhere is taken back.

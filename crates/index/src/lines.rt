@@ -94,17 +94,17 @@ fn put_back(
 {
     let root = word(head, ROOT, NULL);
     let found = find_tree_node(names, cells, root, hash, key);
-    let Found::At(_, _) = found else {
-        if x == NULL {
-            return Undoing::Misfit;
-        }
-        if MOST_PLACES <= place {
-            return Undoing::Misfit;
-        }
-        grow(names, cells, head, sizes, x, y, hash, key, place as u32);
-        return Undoing::Done(NULL);
-    };
-    Undoing::Misfit
+    if let Found::At(_, _) = found {
+        return Undoing::Misfit;
+    }
+    if x == NULL {
+        return Undoing::Misfit;
+    }
+    if MOST_PLACES <= place {
+        return Undoing::Misfit;
+    }
+    grow(names, cells, head, sizes, x, y, hash, key, place as u32);
+    Undoing::Done(NULL)
 }
 
 // A remove line that notes a pair is undone right behind that one. Misfit where it is not there.

@@ -99,7 +99,7 @@ below-lowest {t} fit = go (ℕ-discrete (lowestFree t) null)
   where
     go : Dec (lowestFree t ≡ null) → NoneBelow (lowestFree t) t
     go (yes e) = all-used fit (none-free t (small fit) .0 e) (lowestFree t)
-    go (no d) = lowest-free t d .lowest
+    go (no d) = lowest-free t d .lower
 
 lesser-most : (a b : ℕ) → (lesser a b ≤ a) × (lesser a b ≤ b)
 lesser-most a b = go (ltb a b) refl

@@ -11,6 +11,7 @@ use borrow.Author.Tests.{eqb-true, eqb-false}
 use Rattle.slots.specs.Words.{null, pick, state, free, cell}
 use Rattle.index_rules.specs.Live.{Live}
 use Rattle.index_rules.specs.Insert.{freeFrom, lowestFree}
+use Rattle.index_rules.specs.Calls.{Lowest}
 use Rattle.tree_rules.specs.Find.{slotsOf}
 
 -- None of the slots from k up to m is free.
@@ -57,21 +58,15 @@ scanned (suc m) cells k = go (eqb (cell cells k state) free) refl (scanned m cel
         })
     go false e (inr h) = inr (h .0, none-onward cells k (k + suc m) (eqb-false _ _ e) (rw to at (h .1)))
 
--- The slot x is free, and none below it is.
-pub record LowestFree (t : Live) (x : ℕ) : Type 0 where
-  pub inside : x < slotsOf (t .names)
-  pub unused : cell (t .cells) x state ≡ free
-  pub lowest : (k : ℕ) → k < x → cell (t .cells) k state ≢ free
-
 module _ (t : Live) where
-  pub lowest-free : lowestFree t ≢ null → LowestFree t (lowestFree t)
+  pub lowest-free : lowestFree t ≢ null → Lowest t (lowestFree t)
   unfolding lowestFree NoneFree
   lowest-free d = go (scanned (slotsOf (t .names)) (t .cells) 0)
     where
       go : Least (t .cells) 0 (0 + slotsOf (t .names)) (lowestFree t)
           ⊎ ((lowestFree t ≡ null) × NoneFree (t .cells) 0 (0 + slotsOf (t .names)))
-          → LowestFree t (lowestFree t)
-      go (inl h) = record { inside = omega (arith, h .inside); unused = h .unused; lowest = λ k l. h .before k (omega arith) l }
+          → Lowest t (lowestFree t)
+      go (inl h) = record { inside = omega (arith, h .inside); unused = h .unused; lower = λ k l. h .before k (omega arith) l }
       go (inr h) = absurd (d (h .0))
 
   pub none-free : slotsOf (t .names) ≤ null → (lowestFree t ≡ null) ↔ ((k : ℕ) → k < slotsOf (t .names) → cell (t .cells) k state ≢ free)

@@ -74,7 +74,7 @@ lowest-is {t} fit x l = go (ℕ-discrete (lowestFree t) null)
     go (yes e) = absurd (none-free t (small fit) .0 e x (l .inside) (l .unused))
     go (no d) =
         let f = lowest-free t d in
-        least-one {P = λ (k : ℕ). cell (t .cells) k state ≡ free} (lowestFree t) x (f .unused) (l .unused) (f .lowest) (l .lower)
+        least-one {P = λ (k : ℕ). cell (t .cells) k state ≡ free} (lowestFree t) x (f .unused) (l .unused) (f .lower) (l .lower)
 
 module _ (ix : Index) (hash key p : ℕ) where
   -- What an accepted insert leaves, of the very tree h.
@@ -188,9 +188,6 @@ module _ (ix : Index) (hash key p : ℕ) where
   clash : {a : Answer} {o : Outcome} → inserts ix hash key p ≡ o → inserts ix hash key p .answer ≡ a → a .number ≡ o .answer .number
   clash e q = number (sym q ∙ answer e)
 
-  lowest : (d : lowestFree (ix .live) ≢ null) → Lowest (ix .live) (lowestFree (ix .live))
-  lowest d = let f = lowest-free (ix .live) d in record { inside = f .inside; unused = f .unused; lower = f .lowest }
-
   one-then : inserts ix hash key p .answer ≡ refused 1 → FitIndex ix → ⊥
   one-then q = go did
     where
@@ -251,7 +248,7 @@ module _ (ix : Index) (hash key p : ℕ) where
       go (two f n e) = absurd (omega (arith, clash e q))
       go (three f h x z n e) = absurd (omega (arith, clash e q))
       go (five f h n d e) = absurd (omega (arith, clash e q))
-      go (six f h n d l e) = (f, (h, n, (lowestFree (ix .live), lowest d), l))
+      go (six f h n d l e) = (f, (h, n, (lowestFree (ix .live), lowest-free (ix .live) d), l))
       go (taken f h n d l e r) = absurd (omega (arith, number (sym q ∙ e)))
 
   given-then : (x : ℕ) → inserts ix hash key p .answer ≡ given x
@@ -269,7 +266,7 @@ module _ (ix : Index) (hash key p : ℕ) where
       go (six f h n d l e) = absurd (omega (arith, clash e q))
       go (taken f h n d l e r) =
           let y : lowestFree (ix .live) ≡ x = value-inj (sym e ∙ q) refl refl in
-          (f, (h, n, subst (λ (k : ℕ). Lowest (ix .live) k) y (lowest d), omega (arith, f .within, lines-capacity f)))
+          (f, (h, n, subst (λ (k : ℕ). Lowest (ix .live) k) y (lowest-free (ix .live) d), omega (arith, f .within, lines-capacity f)))
 
   nothing-written : inserts ix hash key p .answer .number ≢ 0 → inserts ix hash key p .left ≡ ix
   nothing-written q = go did

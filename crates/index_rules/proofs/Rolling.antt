@@ -13,7 +13,7 @@ use Rattle.index_rules.specs.Sound.{Sound, sound}
 use Rattle.index_rules.specs.Index.{Index, FitIndex, Outcome, outcome, fitsIndex, lengthOf}
 use Rattle.index_rules.specs.Rollback.{Undo, stays, misfit, unrolled, rolls}
 use Rattle.index_rules.specs.Contents.{listing}
-use Rattle.index_rules.specs.Undoing.{Undoes, Fits}
+use Rattle.index_rules.specs.Undoing.{Undoes, Fits, LinesUndone}
 use Rattle.index_rules.specs.Calls.{BackTo}
 use Rattle.index_rules.specs.Claims.{Rolls}
 use Rattle.index_rules.proofs.Sounding.{sound-yes, yes-sound, unsound}
@@ -48,6 +48,7 @@ module _ (ix : Index) (m : ℕ) where
       (g : Sound (o .left .live)) × FitIndex (o .left)
       × Undoes (slotsOf (ix .live .names)) (ix .lines) m (lengthOf (ix .lines)) (listing h) (listing g)
       × BackTo m (ix .lines) (o .left .lines) × (slotsOf (o .left .live .names) ≡ slotsOf (ix .live .names))
+      × LinesUndone (ix .lines) m g (lengthOf (ix .lines)) (ix .live) h
 
   unfit-one : fitsIndex ix ≡ false → rolls ix m ≡ outcome (refused 1) ix
   unfolding rolls
@@ -89,6 +90,7 @@ module _ (ix : Index) (m : ℕ) where
             r .undoes,
             b,
             r .capacity,
+            r .lined,
           )
 
   -- The case that the tests come to, with what it says.
@@ -229,7 +231,8 @@ module _ (ix : Index) (m : ℕ) where
               done-given (index-fits ix (r .0)) (sound-yes (r .0 .tree) h) (u .0) (r .1) (u .1) ∙ ap given (sym (r .2))),
         );
         nothing-written = nothing-written;
-        done = done;
+        done = λ c q h. (let l = done c q h in (l .0, l .1, l .2, l .3, l .4));
+        line-by-line = λ c q h. (let l = done c q h in (l .0, l .5));
       }
     where
       no-undo : FitIndex ix → (h : Sound (ix .live)) → m ≤ lengthOf (ix .lines)

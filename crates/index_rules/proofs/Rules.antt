@@ -74,7 +74,7 @@ module _ (t : Live) where
     pub states : cell (t .cells) i state ≤ 2
     pub cleared : cell (t .cells) i state ≡ free → Cleared t i
 
-  fine : (n i : ℕ) → slotFine n t i ≡ true → Fine n i
+  pub fine : (n i : ℕ) → slotFine n t i ≡ true → Fine n i
   unfolding slotFine
   fine n i e = let h = both (linksIn n (t .cells) i) _ e in go (h .0) (eqb (cell (t .cells) i state) free) refl (h .1)
     where
@@ -88,7 +88,7 @@ module _ (t : Live) where
           }
       go l false z f = record { links = links-named n (t .cells) i l; states = leb-true _ _ f; cleared = λ y. absurd (eqb-false _ _ z y) }
 
-  is-fine : (n i : ℕ) → Fine n i → slotFine n t i ≡ true
+  pub is-fine : (n i : ℕ) → Fine n i → slotFine n t i ≡ true
   unfolding slotFine
   is-fine n i h = and (links-in n (t .cells) i (h .links)) (go (eqb (cell (t .cells) i state) free) refl)
     where
@@ -167,7 +167,7 @@ pub used-hued : (cells : List ℕ) (k : ℕ) (c : Colour) → cell cells k state
 used-hued cells k black e = rw (ne-eqb (cell cells k state) free (omega arith))
 used-hued cells k red e = rw (ne-eqb (cell cells k state) free (omega arith))
 
-used-not : (cells : List ℕ) (k : ℕ) → cell cells k state ≢ free → used cells k ≡ 1
+pub used-not : (cells : List ℕ) (k : ℕ) → cell cells k state ≢ free → used cells k ≡ 1
 used-not cells k d = rw (ne-eqb (cell cells k state) free d)
 
 -- What a walk that leaves all but m visits says.

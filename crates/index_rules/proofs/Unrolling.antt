@@ -27,7 +27,8 @@ use Rattle.index_rules.specs.Rollback.{Undo, stays, misfit, takenBack, p
 use Rattle.index_rules.specs.Checked.{freedBy}
 use Rattle.index_rules.specs.Contents.{Entry, entry, entryOf, contents, listing, without, behind, withPlace, In}
 use Rattle.index_rules.specs.Undoing.{lineEntry, CanReturn, UndoneTo, insertLine, removeLine, behindLine, replaceLine, Undoes, back}
-use Rattle.index_rules.specs.Undoing.{down}
+use Rattle.index_rules.specs.Undoing.{down, SlotUndone, freeing, taking, placing, LinesUndone, at-mark, below}
+use Rattle.index_rules.specs.Calls.{Lowest, Takes}
 use Rattle.index_rules.proofs.Rules.{small}
 use Rattle.index_rules.proofs.Frames.{length-rename, tree-inside, without-else, without-same}
 use Rattle.index_rules.proofs.Growing.{grown-fit, grown-sound}
@@ -147,10 +148,11 @@ pick-stays : (b : Bool) (o : Undo) {u : Live} → pick b o misfit ≡ stays u �
 pick-stays true o e = (refl, e)
 pick-stays false o e = absurd (not-stays e)
 
--- What one line's undoing says, and leaves.
+-- What one line's undoing says, does to the slots, and leaves.
 pub record Stepped {t : Live} (h : Sound t) (j : JournalLine) (u : Live) : Type 0 where
   pub after : List Entry
   pub undone : UndoneTo (slotsOf (t .names)) j (listing h) after
+  pub slot : SlotUndone h j u
   pub left : Left h u (freedBy t j) after
 
 module _ {t : Live} (fit : Fit t) (h : Sound t) (j : JournalLine) where
@@ -179,6 +181,8 @@ module _ {t : Live} (fit : Fit t) (h : Sound t) (j : JournalLine) where
           record {
             after = without (j .hash) (j .key) (listing h);
             undone = insertLine kind (subst (λ (r : Entry). In r (listing h)) is (stands-listed h x z));
+            slot = subst (λ (v : Live). SlotUndone h j v) (stays-is (a .1))
+                (freeing kind (record { stands = z; named = n; placed = p }) (g .frees));
             left = subst (λ (i : ℕ). Left h u i (without (j .hash) (j .key) (listing h))) (frees x kind s)
                 (subst (λ (v : Live). Left h v x (without (j .hash) (j .key) (listing h))) (stays-is (a .1)) left);
           }
@@ -186,6 +190,8 @@ module _ {t : Live} (fit : Fit t) (h : Sound t) (j : JournalLine) where
   -- What a return asks, and what it leaves behind a slot y of the chain, or at the front.
   record Returned (y : ℕ) (u : Live) : Type 0 where
     can : CanReturn (slotsOf (t .names)) j (listing h)
+    lowest : Lowest t (lowestFree t)
+    takes : Takes t u (lowestFree t) (j .hash) (j .key) (j .place)
     front : y ≡ null → Left h u (freedBy t j) (lineEntry j ∷ listing h)
     behind-one : (priorHash priorKey : ℕ) → y ≢ null → pairOf (t .names) y ≡ pair priorHash priorKey
         → Left h u (freedBy t j) (behind priorHash priorKey (lineEntry j) (listing h))
@@ -215,6 +221,8 @@ module _ {t : Live} (fit : Fit t) (h : Sound t) (j : JournalLine) where
           }) in
           record {
             can = record { lacks = listing-lacks h (j .hash) (j .key) n; room = free-room fit h .0 d; small = ltb-true _ _ (a .0) };
+            lowest = f;
+            takes = subst (λ (v : Live). Takes t v (lowestFree t) (j .hash) (j .key) (j .place)) (stays-is (a .1)) (g .takes);
             front = λ w. left (lineEntry j ∷ listing h) (grown-front fit g w);
             behind-one = λ priorHash priorKey w named. left (behind priorHash priorKey (lineEntry j) (listing h))
                 (grown-behind fit g priorHash priorKey w named);
@@ -227,7 +235,12 @@ module _ {t : Live} (fit : Fit t) (h : Sound t) (j : JournalLine) where
   gave-back : (u : Live) → j .kind ≡ removeKind → putBack t (lowestFree t) (soughtIn t (j .hash) (j .key)) j null ≡ stays u → Stepped h j u
   gave-back u kind e =
       let r = returned u null (inl refl) e in
-      record { after = lineEntry j ∷ listing h; undone = removeLine kind (r .can); left = r .front refl }
+      record {
+        after = lineEntry j ∷ listing h;
+        undone = removeLine kind (r .can);
+        slot = taking (inl kind) (r .lowest) (r .takes);
+        left = r .front refl;
+      }
 
   gave-behind : (u : Live) → j .kind ≡ notedKind
       → putBehind t (lowestFree t) (soughtIn t (j .priorHash) (j .priorKey)) (soughtIn t (j .hash) (j .key)) j ≡ stays u → Stepped h j u
@@ -243,6 +256,7 @@ module _ {t : Live} (fit : Fit t) (h : Sound t) (j : JournalLine) where
           record {
             after = behind (j .priorHash) (j .priorKey) (lineEntry j) (listing h);
             undone = behindLine kind (r .can) (cell (t .cells) y place, subst (λ (q : Entry). In q (listing h)) is (stands-listed h y z));
+            slot = taking (inr kind) (r .lowest) (r .takes);
             left = r .behind-one (j .priorHash) (j .priorKey) d n;
           }
 
@@ -276,6 +290,9 @@ module _ {t : Live} (fit : Fit t) (h : Sound t) (j : JournalLine) where
             after = withPlace (j .hash) (j .key) old-half (listing h);
             undone = replaceLine {new = new-half} {old = old-half} kind (omega arith) (omega arith) (ltb-true _ _ (b .0))
                 (subst (λ (r : Entry). In r (listing h)) is (stands-listed h x z));
+            slot = subst (λ (v : Live). SlotUndone h j v) (stays-is (b .1))
+                (placing {new = new-half} {old = old-half} kind (omega arith) (omega arith) (record { stands = z; named = n; placed = p })
+                (g .only));
             left = subst (λ (v : Live). Left h v (freedBy t j) (withPlace (j .hash) (j .key) old-half (listing h))) (stays-is (b .1)) left;
           }
 
@@ -374,6 +391,7 @@ pub record Rolled {t : Live} (h : Sound t) (lines : List ℕ) (m k : ℕ) (u : L
   pub sound : Sound u
   pub capacity : slotsOf (u .names) ≡ slotsOf (t .names)
   pub undoes : Undoes (slotsOf (t .names)) lines m k (listing h) (listing sound)
+  pub lined : LinesUndone lines m sound k t h
 
 module _ (lines : List ℕ) (m : ℕ) where
   one-more : (k : ℕ) {t v u : Live} (h : Sound t) → m ≤ k → (s : Stepped h (lineOf lines k) v) → Rolled (s .left .sound) lines m k u
@@ -387,6 +405,11 @@ module _ (lines : List ℕ) (m : ℕ) where
         capacity = r .capacity ∙ s .left .capacity;
         undoes = down w (s .undone)
             (subst (λ (l : List Entry). Undoes (slotsOf (t .names)) lines m k l (listing (r .sound))) (s .left .lists) x);
+        lined = below w (record {
+          listed = subst (λ (l : List Entry). UndoneTo (slotsOf (t .names)) (lineOf lines k) (listing h) l) (sym (s .left .lists))
+              (s .undone);
+          slot = s .slot;
+        }) (r .lined);
       }
 
   pub unrolled-undoes : (c : ℕ) {t : Live} → Fit t → (h : Sound t) (u : Live) → unrolled c t lines m ≡ stays u → Rolled h lines m (m + c) u
@@ -394,7 +417,7 @@ module _ (lines : List ℕ) (m : ℕ) where
   unrolled-undoes zero {t} fit h u e =
       let same : t ≡ u = stays-is e in
       let z : m + 0 ≡ m = omega arith in
-      let r : Rolled h lines m (m + 0) t = record { fit = fit; sound = h; capacity = refl; undoes = back z } in
+      let r : Rolled h lines m (m + 0) t = record { fit = fit; sound = h; capacity = refl; undoes = back z; lined = at-mark z } in
       subst (λ (v : Live). Rolled h lines m (m + 0) v) same r
   unrolled-undoes (suc c) {t} fit h u e = go (undone t (lineOf lines (m + c))) refl (λ v g f q. unrolled-undoes c f g u q)
     where

@@ -68,7 +68,7 @@ module _ {t : Live} (fit : Fit t) (one : T1 t) {tree : Tree} (three : T3 t tree)
       go (yes e) = e
       go (no d) = let y : used (t .cells) i ≡ 1 = rw (ne-eqb (cell (t .cells) i state) free d) in absurd (omega (arith, three .all i l))
 
-  free-off : (i : ℕ) → i < n → cell (t .cells) i state ≡ free → times i (slots tree) ≡ 0
+  pub free-off : (i : ℕ) → i < n → cell (t .cells) i state ≡ free → times i (slots tree) ≡ 0
   free-off i l e = sym (three .all i l) ∙ rw (eq-eqb (cell (t .cells) i state) free e)
 
   pub rule-eight : (rule8 t ≡ true) ↔ T8 t tree

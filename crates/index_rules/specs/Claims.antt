@@ -28,7 +28,7 @@ use Rattle.index_rules.specs.Rollback.{rolls}
 use Rattle.index_rules.specs.Ranks.{kths, positions}
 use Rattle.index_rules.specs.Fresh.{FitLengths, freshes}
 use Rattle.index_rules.specs.Contents.{Entry, entry, contents, listing, HoldSame, put, without, withPlace, In, StandsAt}
-use Rattle.index_rules.specs.Undoing.{Undoes, Fits}
+use Rattle.index_rules.specs.Undoing.{Undoes, Fits, LinesUndone}
 use Rattle.index_rules.specs.Checked.{NoneBelow, floorAfter, insertsSound, removesSound, replacesSound, rollsSound}
 use Rattle.index_rules.specs.Batch.{FitCalls, batched, batches, singly, acceptedIn, answeredWith}
 use Rattle.index_rules.specs.Calls.{Call, called, after, Allowed, Places, Lowest, NoneFree, Takes, Frees, OnlyPlace, Notes, OneLine}
@@ -194,6 +194,10 @@ pub record Rolls (ix : Index) (m : ℕ) : Type 0 where
       → (g : Sound (rolls ix m .left .live)) × FitIndex (rolls ix m .left)
       × Undoes (slotsOf (ix .live .names)) (ix .lines) m (lengthOf (ix .lines)) (listing h) (listing g)
       × BackTo m (ix .lines) (rolls ix m .left .lines) × (slotsOf ((rolls ix m .left .live) .names) ≡ slotsOf (ix .live .names))
+  -- and line by line, from the last down, each undone "by the same drivers": an insert's slot is freed, a removed pair takes the lowest
+  -- free slot, and "undoing a replace line writes the old place and nothing else"
+  pub line-by-line : (c : ℕ) → rolls ix m .answer ≡ given c → (h : Sound (ix .live))
+      → (g : Sound (rolls ix m .left .live)) × LinesUndone (ix .lines) m g (lengthOf (ix .lines)) (ix .live) h
 
 -- One check for many calls, on an index that it said yes to.
 pub record OnceChecked (ix : Index) (fit : FitIndex ix) (h : Sound (ix .live)) : Type 0 where

@@ -5,7 +5,7 @@ use index::find::find;
 use index::fresh::fresh;
 use index::insert::Inserted;
 use index::insert::insert;
-use index::remove::Removed;
+use index::present::Presence;
 use index::remove::remove;
 use index::replace::replace;
 use index::rollback::rollback;
@@ -376,7 +376,7 @@ fn drop_pair(
 ) -> u32 {
     reset(lines);
     match remove(names, cells, head, sizes, lines, hash_of(k), k as u64) {
-        Removed::At(_) => 1,
+        Presence::At(_) => 1,
         _ => 0,
     }
 }

@@ -8,22 +8,10 @@ use borrow.Author.Needs.{needs}
 use Rattle.index.proofs.insert.ask.Statement.{statement}
 use Rattle.index.proofs.insert.ask.Tie as tie
 
-fit-index-requires : tie.Need-fit-index-requires
-fit-index-requires c κs = search needs
-
-enum-told : tie.Need-enum-told
-enum-told c = search needs
-
-enum-told-2 : tie.Need-enum-told-2
-enum-told-2 c = search needs
-
 returns : tie.Need-returns
 returns c =
     let c2 = c .before .before in
     unfit _ _ _ _ (is-unfit _ (c2 .fit-index .ensures) (c .enum-told2 .given .1))
-
-can-count-requires : tie.Need-can-count-requires
-can-count-requires c κs = search needs
 
 returns-2 : tie.Need-returns-2
 returns-2 c =
@@ -32,14 +20,19 @@ returns-2 c =
     let c4 = c2 .before .before in
     damaged _ _ _ _ (is-fit _ (c4 .fit-index .ensures) (c2 .enum-told .given .1)) (fails (c1 .can-count .ensures) (c .if1 .taken))
 
-word-requires : tie.Need-word-requires
-word-requires c κs = search needs
-
-find-tree-node-requires : tie.Need-find-tree-node-requires
-find-tree-node-requires c κs = search needs
-
-enum-known-found : tie.Need-enum-known-found
-enum-known-found c = search needs
+returns-3 : tie.Need-returns-3
+returns-3 c =
+    let c1 = c .before in
+    let c3 = c1 .before .before in
+    let c4 = c3 .before in
+    let c5 = c4 .before in
+    let c6 = c5 .before in
+    let c7 = c6 .before in
+    let c9 = c7 .before .before in
+    let f = is-fit _ (c9 .fit-index .ensures) (c7 .enum-told .given .1) in
+    let n = holds (c6 .can-count .ensures) (c5 .if1 .left) in
+    present _ _ _ _ f n
+    (sought-at _ _ _ (c4 .word .ensures) (c3 .find-tree-node .result) (c3 .find-tree-node .ensures) (c1 .found .given .1))
 
 cast-lowest-free : tie.Need-cast-lowest-free
 cast-lowest-free c =
@@ -48,11 +41,8 @@ cast-lowest-free c =
     let f = fits-fit _ (tree-fits _ (is-fit _ (c7 .fit-index .ensures) (c5 .enum-told .given .1))) in
     omega (arith, f .most, f .two)
 
-lowest-free-requires : tie.Need-lowest-free-requires
-lowest-free-requires c κs = search needs
-
-returns-3 : tie.Need-returns-3
-returns-3 c =
+returns-4 : tie.Need-returns-4
+returns-4 c =
     let c1 = c .before in
     let c2 = c1 .before in
     let c3 = c2 .before in
@@ -68,11 +58,8 @@ returns-3 c =
     (c1 .lowest-free .ensures)
     (c .if2 .taken)
 
-is-full-requires : tie.Need-is-full-requires
-is-full-requires c κs = search needs
-
-returns-4 : tie.Need-returns-4
-returns-4 c =
+returns-5 : tie.Need-returns-5
+returns-5 c =
     let c1 = c .before in
     let c2 = c1 .before in
     let c3 = c2 .before in
@@ -91,8 +78,8 @@ returns-4 c =
     (c2 .if2 .left)
     (sym (c1 .is-full .ensures) ∙ c .if3 .taken)
 
-returns-5 : tie.Need-returns-5
-returns-5 c =
+returns-6 : tie.Need-returns-6
+returns-6 c =
     let c1 = c .before in
     let c2 = c1 .before in
     let c3 = c2 .before in
@@ -111,37 +98,23 @@ returns-5 c =
     (c2 .if2 .left)
     (sym (c1 .is-full .ensures) ∙ c .if3 .left)
 
-returns-6 : tie.Need-returns-6
-returns-6 c =
-    let c1 = c .before in
-    let c3 = c1 .before .before in
-    let c4 = c3 .before in
-    let c5 = c4 .before in
-    let c6 = c5 .before in
-    let c7 = c6 .before in
-    let c9 = c7 .before .before in
-    let f = is-fit _ (c9 .fit-index .ensures) (c7 .enum-told .given .1) in
-    let n = holds (c6 .can-count .ensures) (c5 .if1 .left) in
-    present _ _ _ _ f n
-    (sought-at _ _ _ (c4 .word .ensures) (c3 .find-tree-node .result) (c3 .find-tree-node .ensures) (c1 .found .given .1))
-
 pub ask-spec : {M : Type 1} → statement M
 ask-spec =
     tie.close
     (tie.spec
-    fit-index-requires
-    enum-told
-    enum-told-2
+    (λ c κs. search needs)
+    (λ c. search needs)
+    (λ c. search needs)
     returns
-    can-count-requires
+    (λ c κs. search needs)
     returns-2
-    word-requires
-    find-tree-node-requires
-    enum-known-found
-    cast-lowest-free
-    lowest-free-requires
+    (λ c κs. search needs)
+    (λ c κs. search needs)
+    (λ c. search needs)
     returns-3
-    is-full-requires
+    cast-lowest-free
+    (λ c κs. search needs)
     returns-4
+    (λ c κs. search needs)
     returns-5
     returns-6)

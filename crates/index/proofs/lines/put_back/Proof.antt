@@ -9,26 +9,18 @@ use borrow.Author.Needs.{needs}
 use Rattle.index.proofs.lines.put_back.Statement.{statement}
 use Rattle.index.proofs.lines.put_back.Tie as tie
 
-word-requires : tie.Need-word-requires
-word-requires c κs = search needs
-
-find-tree-node-requires : tie.Need-find-tree-node-requires
-find-tree-node-requires c κs = search needs
-
-enum-told : tie.Need-enum-told
-enum-told c = search needs
-
-same-length : tie.Need-same-length
-same-length c = search needs
-
-same-length-2 : tie.Need-same-length-2
-same-length-2 c = search needs
-
-same-length-3 : tie.Need-same-length-3
-same-length-3 c = search needs
-
 returns : tie.Need-returns
 returns c =
+    let c2 = c .before .before in
+    let c3 = c2 .before .before .before in
+    let a = c3 .before .before .before .before .before .before .args in (
+      λ kind prehash prekey. put-there _ (lineMade kind (a .hash) (a .key) (a .place) prehash prekey) (a .x) (a .y)
+          (sought-at _ _ _ (c3 .word .ensures) (c2 .find-tree-node .result) (c2 .find-tree-node .ensures) (c .enum-told .given .1)),
+      tt,
+    )
+
+returns-2 : tie.Need-returns-2
+returns-2 c =
     let c1 = c .before in
     let c2 = c1 .before in
     let c3 = c2 .before .before .before in
@@ -39,17 +31,8 @@ returns c =
       tt,
     )
 
-same-length-4 : tie.Need-same-length-4
-same-length-4 c = search needs
-
-same-length-5 : tie.Need-same-length-5
-same-length-5 c = search needs
-
-same-length-6 : tie.Need-same-length-6
-same-length-6 c = search needs
-
-returns-2 : tie.Need-returns-2
-returns-2 c =
+returns-3 : tie.Need-returns-3
+returns-3 c =
     let c1 = c .before in
     let c2 = c1 .before in
     let c3 = c2 .before in
@@ -61,26 +44,8 @@ returns-2 c =
       tt,
     )
 
-cast-grow : tie.Need-cast-grow
-cast-grow c = search needs
-
-grow-requires : tie.Need-grow-requires
-grow-requires c κs = search needs
-
-same-length-7 : tie.Need-same-length-7
-same-length-7 c = search needs
-
-same-length-8 : tie.Need-same-length-8
-same-length-8 c = search needs
-
-same-length-9 : tie.Need-same-length-9
-same-length-9 c = search needs
-
-same-length-10 : tie.Need-same-length-10
-same-length-10 c = search needs
-
-returns-3 : tie.Need-returns-3
-returns-3 c =
+returns-4 : tie.Need-returns-4
+returns-4 c =
     let c5 = c .before .before .before .before .before .before .before .before in
     let c6 = c5 .before .before .before .before .before in
     let c7 = c6 .before in
@@ -96,48 +61,29 @@ returns-3 c =
       refl,
     )
 
-same-length-11 : tie.Need-same-length-11
-same-length-11 c = search needs
-
-same-length-12 : tie.Need-same-length-12
-same-length-12 c = search needs
-
-same-length-13 : tie.Need-same-length-13
-same-length-13 c = search needs
-
-returns-4 : tie.Need-returns-4
-returns-4 c =
-    let c2 = c .before .before in
-    let c3 = c2 .before .before .before in
-    let a = c3 .before .before .before .before .before .before .args in (
-      λ kind prehash prekey. put-there _ (lineMade kind (a .hash) (a .key) (a .place) prehash prekey) (a .x) (a .y)
-          (sought-at _ _ _ (c3 .word .ensures) (c2 .find-tree-node .result) (c2 .find-tree-node .ensures) (c .enum-told .given .1)),
-      tt,
-    )
-
 pub put-back-spec : {M : Type 1} → statement M
 put-back-spec =
     tie.close
     (tie.spec
-    word-requires
-    find-tree-node-requires
-    enum-told
-    same-length
-    same-length-2
-    same-length-3
+    (λ c κs. search needs)
+    (λ c κs. search needs)
+    (λ c. search needs)
+    (λ c. search needs)
+    (λ c. search needs)
+    (λ c. search needs)
     returns
-    same-length-4
-    same-length-5
-    same-length-6
+    (λ c. search needs)
+    (λ c. search needs)
+    (λ c. search needs)
     returns-2
-    cast-grow
-    grow-requires
-    same-length-7
-    same-length-8
-    same-length-9
-    same-length-10
+    (λ c. search needs)
+    (λ c. search needs)
+    (λ c. search needs)
     returns-3
-    same-length-11
-    same-length-12
-    same-length-13
+    (λ c. search needs)
+    (λ c κs. search needs)
+    (λ c. search needs)
+    (λ c. search needs)
+    (λ c. search needs)
+    (λ c. search needs)
     returns-4)

@@ -1,15 +1,17 @@
 -- A refusal leaves all as it is; else the slot has the new place and the journal takes a line with both, as the model says.
 use mathlib.Core.Path.{sym, ap, _∙_}
+use Rattle.index_rules.specs.Checked.{replacesSound}
 use Rattle.index.proofs.Room.{appended-is}
-use Rattle.index.specs.Calls.{replacedOf}
+use Rattle.index.specs.Calls.{presenceOf}
 use Rattle.index.proofs.Asking.{kept, done, lines-most}
-use Rattle.index.proofs.Replacing.{settled, moved, not-at}
+use Rattle.index.proofs.Replacing.{settled, moved}
+use Rattle.index.proofs.Presenting.{not-at}
 use borrow.Author.Needs.{needs}
 use Rattle.index.proofs.replace.replace_sound.Statement.{statement}
 use Rattle.index.proofs.replace.replace_sound.Tie as tie
 
-ask-requires : tie.Need-ask-requires
-ask-requires c κs = search needs
+present-requires : tie.Need-present-requires
+present-requires c κs = search needs
 
 enum-known-asked : tie.Need-enum-known-asked
 enum-known-asked c = search needs
@@ -21,10 +23,11 @@ same-length-2 : tie.Need-same-length-2
 same-length-2 c = search needs
 
 returns : tie.Need-returns
+unfolding replacesSound
 returns c =
     let c1 = c .before in
     let a = c1 .before .before .before .before .before .before .before .before .args in
-    kept _ _ _ (settled _ (a .hash) (a .key) (a .place)) _ (not-at (c1 .ask .result) (c .match .keys2)) (c1 .ask .ensures (a .place))
+    kept _ _ _ (settled _ (a .hash) (a .key) (a .place)) _ (not-at (c1 .present .result) (c .match .keys2)) (c1 .present .ensures _)
 
 get-requires : tie.Need-get-requires
 get-requires c κs = search needs
@@ -45,6 +48,7 @@ same-length-4 : tie.Need-same-length-4
 same-length-4 c = search needs
 
 returns-2 : tie.Need-returns-2
+unfolding replacesSound
 returns-2 c =
     let c1 = c .before .before in
     let c2 = c1 .before in
@@ -54,7 +58,7 @@ returns-2 c =
     let c6 = c5 .before .before in
     let a = c6 .before .before .before .before .before .before .before .before .args in
     let d =
-    done _ _ _ (settled _ (a .hash) (a .key) (a .place)) _ (ap replacedOf (sym (c5 .asked .given .1)) ∙ c6 .ask .ensures (a .place)) in
+    done _ _ _ (settled _ (a .hash) (a .key) (a .place)) _ (ap presenceOf (sym (c5 .asked .given .1)) ∙ c6 .present .ensures _) in
     moved _ _ _ _
     (c4 .get .ensures)
     (c3 .put .ensures)
@@ -66,7 +70,7 @@ pub replace-sound-spec : {M : Type 1} → statement M
 replace-sound-spec =
     tie.close
     (tie.spec
-    ask-requires
+    present-requires
     enum-known-asked
     same-length
     same-length-2

@@ -1,9 +1,9 @@
 -- Each case has its own number and value.
 use mathlib.Core.Path.{ap, sym, _∙_}
 use borrow.Author.Needs.{needs}
-use Rattle.index.specs.Calls.{replacedOf}
-use Rattle.index.proofs.replace.Replaced.answer.Statement.{statement}
-use Rattle.index.proofs.replace.Replaced.answer.Tie as tie
+use Rattle.index.specs.Calls.{presenceOf}
+use Rattle.index.proofs.present.Presence.answer.Statement.{statement}
+use Rattle.index.proofs.present.Presence.answer.Tie as tie
 
 enum-known-self : tie.Need-enum-known-self
 enum-known-self c = search needs
@@ -36,19 +36,19 @@ refused-requires-4 : tie.Need-refused-requires-4
 refused-requires-4 c κs = search needs
 
 returns : tie.Need-returns
-returns c = c .given .ensures ∙ ap replacedOf (sym (c .before .before .self .given .1))
+returns c = c .given .ensures ∙ ap presenceOf (sym (c .before .before .self .given .1))
 
 returns-2 : tie.Need-returns-2
-returns-2 c = c .refused .ensures ∙ ap replacedOf (sym (c .before .enum-told .given .1))
+returns-2 c = c .refused .ensures ∙ ap presenceOf (sym (c .before .enum-told .given .1))
 
 returns-3 : tie.Need-returns-3
-returns-3 c = c .refused2 .ensures ∙ ap replacedOf (sym (c .before .enum-told2 .given .1))
+returns-3 c = c .refused2 .ensures ∙ ap presenceOf (sym (c .before .enum-told2 .given .1))
 
 returns-4 : tie.Need-returns-4
-returns-4 c = c .refused3 .ensures ∙ ap replacedOf (sym (c .before .enum-told3 .given .1))
+returns-4 c = c .refused3 .ensures ∙ ap presenceOf (sym (c .before .enum-told3 .given .1))
 
 returns-5 : tie.Need-returns-5
-returns-5 c = c .refused4 .ensures ∙ ap replacedOf (sym (c .before .enum-told4 .given .1))
+returns-5 c = c .refused4 .ensures ∙ ap presenceOf (sym (c .before .enum-told4 .given .1))
 
 pub answer-spec : {M : Type 1} → statement M
 answer-spec =
