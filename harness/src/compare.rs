@@ -206,6 +206,21 @@ fn batches(rng: &mut Rng, by: By, scripts: usize, length: usize, report: &mut Re
     (made, calls)
 }
 
+/// A part of an upload that is short, and the journal's length set back by somebody else, to the mark or above it: the end call answers 7
+/// and writes nothing, where entries were taken.
+fn cut_journal(rng: &mut Rng, before: &Index, part: &[u8], number: u32) -> bool {
+    let mut ix = before.clone();
+    let mut reader = [0; 8];
+    ix.read_start(&mut reader);
+    let taken = ix.read_chunk(&mut reader, part);
+    if number != 12 || taken.value == 0 {
+        return true;
+    }
+    ix.lines[0] = before.lines[0] + rng.below(taken.value as u64);
+    let was = ix.clone();
+    ix.read_end(&mut reader).number == 7 && ix == was
+}
+
 /// Uploads, drawn and damaged, cut anywhere, into indexes that hold some entries: the end call answers what the rules say, by a reader
 /// written apart; an accepted one leaves the words of the same entries inserted singly, and the source's tree; a refused one the entries,
 /// their order and the lines of before; and a later chunk and end call answer the same and change nothing. How many, and how many accepted.
@@ -275,6 +290,10 @@ fn read_uploads(rng: &mut Rng, by: By, count: usize, report: &mut Report) -> (u6
         if !fine {
             let what = format!("{slots} slots, {lines} lines, {held:?}, {bytes:?}, {cuts:?}: {answer:?}, wanted {number}");
             report.differs("upload", bytes.len(), what);
+        }
+        let part = &bytes[..rng.below(bytes.len() as u64 + 1) as usize];
+        if !cut_journal(rng, &before, part, uploads::told(part, &held, slots, lines - mark).0) {
+            report.differs("cut journal", part.len(), format!("{slots} slots, {lines} lines, {held:?}, {part:?}"));
         }
     }
     (made, accepted)

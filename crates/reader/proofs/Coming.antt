@@ -4,18 +4,22 @@ use mathlib.Core.Logic.{_≢_}
 use mathlib.Core.Bool.{Bool, true, false}
 use mathlib.Core.List.{List}
 use Prim.Native.Nat.{ℕ, _+_, _-_, _*_, _/_, _<_, _≤_}
-use lib.Dec.{eqb}
+use native.Mathlib.Decide.{decLt}
+use native.Mathlib.Omega.{arith}
+use lib.Dec.{eqb, ltb}
 use borrow.Author.Tests.{eq-eqb, ne-eqb, lt-ltb, le-ltb}
-use Rattle.slots.specs.Words.{pick}
+use Rattle.slots.specs.Words.{null, pick}
 use Rattle.slots.specs.Answers.{Answer, given, refused}
 use Rattle.index_rules.specs.Index.{Index, Outcome, outcome, fitsIndex, lengthOf}
 use Rattle.index_rules.specs.Sound.{sound}
 use Rattle.index_rules.specs.Insert.{inserts}
 use Rattle.index_rules.specs.Rollback.{rolls}
 use Rattle.upload_rules.specs.Reader.{Note, unsaid, said, Reader, readerOf, newReader, noting, FitReader, fitsReader, isOpen, readerAnswer}
-use Rattle.upload_rules.specs.Reading.{Session, session, ReadOutcome, readOutcome, goesUp, turnedDown, countByte, nameByte, owing, kindCame}
-use Rattle.upload_rules.specs.Reading.{countCame, inHash, entryCame, entryPlace, cameOf, lastCame, byteCame, byteRead, bytesRead, endCame}
+use Rattle.upload_rules.specs.Reading.{Session, session, ReadOutcome, readOutcome, goesUp, backMark, turnedDown, countByte, nameByte, owing}
+use Rattle.upload_rules.specs.Reading.{kindCame, countCame, inHash, entryCame, entryPlace, cameOf, lastCame, byteCame, byteRead}
+use Rattle.upload_rules.specs.Reading.{bytesRead, endCame}
 use Rattle.upload_rules.specs.Reading.{endRead, readChunk, readEnd, readStart}
+use Rattle.index_rules.proofs.Journal.{fits-index}
 use Rattle.upload_rules.proofs.Ranges.{end-range}
 
 -- A refusal that the rollback repeats goes up as it is.
@@ -27,13 +31,55 @@ goes-up a = go (eqb (a .number) 0)
     go true = refl
     go false = refl
 
+-- The tests settle to which mark a refusal is rolled back: a journal of length n, the start's mark m, and t entries taken since.
+module _ {n k : ℕ} (m t : ℕ) (is : k ≡ n) where
+  pub cut-below : k < m → null ≡ pick (ltb n (m + t)) null m
+  cut-below l = rw (lt-ltb n (m + t) (omega arith))
+
+  module _ (below : m ≤ k) where
+    pub cut-above : k - m < t → null ≡ pick (ltb n (m + t)) null m
+    cut-above l = rw (lt-ltb n (m + t) (omega arith))
+
+    pub uncut : t ≤ k - m → m ≡ pick (ltb n (m + t)) null m
+    uncut l = rw (le-ltb n (m + t) (omega arith))
+
 module _ (r : Reader) (ix : Index) where
-  pub turned : (a : Answer) {b t : Answer} {jx : Index} {s : Reader} → outcome b jx ≡ rolls ix (r .mark) → t ≡ goesUp a b → s ≡ noting r t
+  -- A mark above the length is refused as any other one is.
+  above : {m k : ℕ} → lengthOf (ix .lines) < m → (fitsIndex ix ≡ true → lengthOf (ix .lines) < k) → rolls ix k ≡ rolls ix m
+  unfolding rolls
+  above {m} {k} l f = go (fitsIndex ix) refl
+    where
+      go : (b : Bool) → fitsIndex ix ≡ b → rolls ix k ≡ rolls ix m
+      go false e = rw e
+      go true e = rw (lt-ltb (lengthOf (ix .lines)) m l, lt-ltb (lengthOf (ix .lines)) k (f e))
+
+  -- The mark that the code takes, and the model's.
+  abbrev MarkTaken : ℕ → Type 0
+  MarkTaken m = m ≡ pick (ltb (lengthOf (ix .lines)) (r .mark + r .taken)) null (r .mark)
+
+  back-marked : {m : ℕ} → MarkTaken m → rolls ix m ≡ rolls ix (backMark r ix)
+  unfolding backMark
+  back-marked {m} e = go (decLt (lengthOf (ix .lines)) (r .mark + r .taken))
+    where
+      few : fitsIndex ix ≡ true → lengthOf (ix .lines) < null
+      few f = let g = fits-index ix f in omega (arith, g .within, g .most)
+
+      go : Dec (lengthOf (ix .lines) < r .mark + r .taken) → rolls ix m ≡ rolls ix (backMark r ix)
+      go (yes l) = rw (e, lt-ltb (lengthOf (ix .lines)) (r .mark + r .taken) l) (above l few)
+      go (no n) = let z : r .mark + r .taken ≤ lengthOf (ix .lines) = omega arith in
+          rw (e, le-ltb (lengthOf (ix .lines)) (r .mark + r .taken) z)
+
+  down : (a : Answer) {b t : Answer} {jx : Index} {s : Reader} → outcome b jx ≡ rolls ix (backMark r ix) → t ≡ goesUp a b → s ≡ noting r t
       → session s jx ≡ turnedDown r ix a
   unfolding turnedDown
-  turned a {b} {t} {jx} {s} e f g =
+  down a {b} {t} {jx} {s} e f g =
       ap (λ (x : Reader). session x jx) g ∙ ap (λ (x : Answer). session (noting r x) jx) f
       ∙ ap (λ (o : Outcome). session (noting r (goesUp a (o .answer))) (o .left)) e
+
+  pub turned : (a : Answer) {b t : Answer} {m : ℕ} {jx : Index} {s : Reader} → MarkTaken m → outcome b jx ≡ rolls ix m → t ≡ goesUp a b
+      → s ≡ noting r t
+      → session s jx ≡ turnedDown r ix a
+  turned a k e f g = down a (e ∙ back-marked k) f g
 
 module _ (r : Reader) (ix : Index) where
   module _ (b : ℕ) where
@@ -61,7 +107,7 @@ module _ (r : Reader) (ix : Index) where
       pub last-denied : {t : Answer} {s : Reader} → a .number ≢ 0 → ((m : ℕ) → outcome a jx ≡ rolls jx m) → t ≡ a → s ≡ noting r t
           → session s jx ≡ lastCame r ix b
       last-denied {t} n d g q =
-          last-refused n g (turned r jx t (d (r .mark)) (g ∙ sym (goes-up a) ∙ ap (λ (z : Answer). goesUp z a) (sym g)) q)
+          last-refused n g (down r jx t (d (backMark r jx)) (g ∙ sym (goes-up a) ∙ ap (λ (z : Answer). goesUp z a) (sym g)) q)
 
     pub came-long : {d : Session} → r .section ≡ 4 → d ≡ turnedDown r ix (refused 13) → d ≡ byteCame r ix b
     unfolding byteCame

@@ -12,10 +12,14 @@ use crate::words::Note;
 use crate::words::Reader;
 use crate::words::noting;
 use index::insert::Inserted;
+use index::journal::length_of;
+use slots::NULL;
 ghost use mathlib.Core.Path.{_≡_};
 ghost use mathlib.Core.Bool.{true};
-ghost use Prim.Native.Nat.{_≤_};
-ghost use Rattle.index_rules.specs.Index.{lent};
+ghost use Prim.Native.Nat.{_+_, _≤_};
+ghost use lib.Dec.{ltb};
+ghost use Rattle.slots.specs.Words.{null, pick};
+ghost use Rattle.index_rules.specs.Index.{lent, lengthOf};
 ghost use Rattle.upload_rules.specs.Reader.{FitReader};
 ghost use Rattle.upload_rules.specs.Reading.{session, turnedDown, kindCame, lastCame, byteCame, byteRead};
 ghost use Rattle.reader.specs.Meanings.{wordsOf, replyOf};
@@ -27,6 +31,22 @@ pub(crate) struct Reading {
     pub reader: Reader,
     pub checked: bool,
     pub floor: u32,
+}
+
+// The mark that a refusal is rolled back to: that of the start. Where the journal is shorter than mark + taken somebody else has cut it,
+// and it is a mark above every length, so that the rollback is refused.
+fn back_mark(lines: &[u64], r: Reader) -> u32
+    ensures { λ x. ⌜ x ≡ pick (ltb (lengthOf (now (lines .entry))) (r .mark + r .taken)) null (r .mark) ⌝ }
+{
+    let length = length_of(lines);
+    let mark = r.mark as u64;
+    if length < mark {
+        return NULL;
+    }
+    if length - mark < r.taken {
+        return NULL;
+    }
+    r.mark
 }
 
 // A refusal: the tree is rolled back to the mark of the start, and the answer noted.
@@ -47,7 +67,8 @@ pub(crate) fn turn_down(
         (lent (now (names .entry)) (now (cells .entry)) (now (head .entry)) (now (sizes .entry)) (now (lines .entry)))
         (replyOf reply) ⌝ }
 {
-    let back = back_to(names, cells, head, sizes, lines, checked, r.mark);
+    let mark = back_mark(lines, r);
+    let back = back_to(names, cells, head, sizes, lines, checked, mark);
     let noted = of_rolled(reply, back);
     noting(r, noted)
 }

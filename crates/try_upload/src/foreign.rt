@@ -20,11 +20,13 @@ const NEW: [u8; 34] =
 const AGAIN: [u8; 34] =
     *b"\x01\x02\0\x01\0\0\0\0\0\0\0\x02\0\0\0\0\0\0\0\x01\0\0\0\0\0\0\0\x02\0\0\0\0\0\0";
 
-// The write: the journal's length made 0, which is below the mark, or made more than it has lines; a size of a free slot; a line's place.
+// The write: the journal's length made 0, which is below the mark, or 1, which is the mark, or more than it has lines; a size of a free
+// slot; a line's place.
 fn write(sizes: &mut [u32; 8], lines: &mut [u64; 49], which: u32) {
     match which {
         1 => put_wide(lines, 0, 9),
         2 => put_word(sizes, 7, 1),
+        6 => put_wide(lines, 0, 1),
         7 => put_wide(lines, 0, 0),
         _ => put_wide(lines, 10, 5),
     }
@@ -163,6 +165,7 @@ fn each_write(site: &[u8], part: &[u8], bytes: &[u8]) {
     ask(site, b", the length past the lines: ", part, bytes, 1);
     ask(site, b", a size that does not agree: ", part, bytes, 2);
     ask(site, b", the length below the mark: ", part, bytes, 7);
+    ask(site, b", the length back at the mark: ", part, bytes, 6);
     ask(site, b", another place in a line: ", part, bytes, 8);
 }
 

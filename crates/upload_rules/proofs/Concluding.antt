@@ -33,7 +33,8 @@ use Rattle.upload_rules.proofs.Sections.{pairsIn, entries-of-length}
 use Rattle.upload_rules.proofs.Growing.{nextEntry}
 use Rattle.upload_rules.proofs.Moving.{readerAt, not-whole}
 use Rattle.upload_rules.proofs.Entering as E
-use Rattle.upload_rules.proofs.Running.{reader-open, reader-mark, reader-taken, past-four, kind-off, At, at-off, last-refuses}
+use Rattle.upload_rules.proofs.Running.{reader-open, reader-mark, reader-taken, past-four, kind-off, At, all-lined, at-off}
+use Rattle.upload_rules.proofs.Running.{last-refuses}
 use Rattle.upload_rules.proofs.Deciding.{reason-number, reason-plain, reason-slot, reason-there, note-of, split-entry, noted-rest}
 use Rattle.upload_rules.proofs.Deciding.{Ran, still, over, ran}
 use Rattle.upload_rules.proofs.Arriving.{spelt, at-held, arrives}
@@ -207,7 +208,8 @@ module _ (ix : Index) (fits : FitIndex ix) (h : Sound (ix .live)) (words : Place
       let q = reader-mark mark part in
       let back = E.taken-back ix fits h words (a .taken) in
       let f =
-      turned-back r (a .index) (refused 12) (lengthOf (a .index .lines) - mark) (ap (λ (i : ℕ). rolls (a .index) i .answer) q ∙ back) in
+      turned-back r (a .index) (refused 12) (lengthOf (a .index .lines) - mark) (all-lined ix fits h words a)
+      (ap (λ (i : ℕ). rolls (a .index) i .answer) q ∙ back) in
       ap (λ (o : ReadOutcome). o .answer) (end-still k a e) ∙ rw (not-whole r n) (ap (λ (d : Session). readerAnswer (d .reader)) f)
 
   -- A chunk that is not refused.

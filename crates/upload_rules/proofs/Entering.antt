@@ -144,8 +144,7 @@ module _ (ix : Index) (fits : FitIndex ix) (h : Sound (ix .live)) (words : Place
     free-slot : length (contents h) + length es < slotsIn → (x : ℕ) × Lowest (jx .live) x
     free-slot l =
         let d : lowestFree (jx .live) ≢ null = free-room (t .left .fit .tree) (t .left .sound) .1 (omega (arith, count, t .capacity)) in
-        let f = lowest-free (jx .live) d in
-        (lowestFree (jx .live), record { inside = f .inside; unused = f .unused; lower = f .lowest })
+        (lowestFree (jx .live), lowest-free (jx .live) d)
 
     pub takes-one : e .at < 4294967296 → New → length (contents h) + length es < slotsIn → mark + length es < linesIn
         → (x : ℕ) × (insertion .answer ≡ given x) × Taken (es ++ (e ∷ [])) (insertion .left)

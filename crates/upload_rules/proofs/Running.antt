@@ -3,7 +3,7 @@
 use mathlib.Core.Path.{_≡_, refl, ap, sym, _∙_, subst}
 use mathlib.Core.Logic.{_≢_}
 use mathlib.Core.List.{List, [], _∷_, _++_}
-use Prim.Native.Nat.{ℕ, suc, _+_, _-_, _*_, _<_}
+use Prim.Native.Nat.{ℕ, suc, _+_, _-_, _*_, _<_, _≤_}
 use native.Mathlib.Omega.{arith}
 use lib.ListN.{length, length-append}
 use borrow.Author.Tests.{eq-eqb, ne-eqb}
@@ -146,6 +146,10 @@ module _ (ix : Index) (fits : FitIndex ix) (h : Sound (ix .live)) (words : Place
       → byteCame (readerAt mark part) (a .index) b ≡ session (readerAt mark next) jx → Took (partEntries next) jx → At next
   at-next {part} a b {jx} e f t = record { index = jx; runs = ap (bytesRead (newSession ix)) e ∙ one-byte a b ∙ f; taken = t }
 
+  -- Each entry taken has its line.
+  pub all-lined : {part : UploadPart} (a : At part) → readerAt mark part .mark + readerAt mark part .taken ≤ lengthOf (a .index .lines)
+  all-lined {part} a = omega (arith, reader-mark mark part, reader-taken mark part, a .taken .left .long)
+
   -- A byte that is refused: the refusal is noted, and the rollback is accepted.
   pub at-off : {part : UploadPart} (a : At part) (b : ℕ) (n : Answer)
       → byteCame (readerAt mark part) (a .index) b ≡ turnedDown (readerAt mark part) (a .index) n
@@ -154,7 +158,7 @@ module _ (ix : Index) (fits : FitIndex ix) (h : Sound (ix .live)) (words : Place
       let q = reader-mark mark part in
       let back = taken-back ix fits h words (a .taken) in
       one-byte a b ∙ e
-      ∙ turned-back (readerAt mark part) (a .index) n (lengthOf (a .index .lines) - mark)
+      ∙ turned-back (readerAt mark part) (a .index) n (lengthOf (a .index .lines) - mark) (all-lined a)
       (ap (λ (k : ℕ). rolls (a .index) k .answer) q ∙ back)
       ∙ ap (λ (k : ℕ). session (noting (readerAt mark part) n) (rolls (a .index) k .left)) q
 

@@ -1,13 +1,13 @@
--- A byte makes no call, an insert, or a rollback to the mark, whichever of the reader's words decide which; what a refused call answers
--- goes up, and it writes nothing.
+-- A byte makes no call, an insert, or a rollback, to the mark or, where the journal was cut short, to mark + taken; what a refused call
+-- answers goes up, and it writes nothing.
 use mathlib.Core.Path.{_≡_, refl, ap, sym, _∙_}
 use mathlib.Core.Logic.{_≢_, _⊎_, inl, inr}
 use mathlib.Core.Bool.{Bool, true, false}
-use Prim.Native.Nat.{ℕ, _+_, _-_, _<_}
+use Prim.Native.Nat.{ℕ, _+_, _-_, _<_, _≤_}
 use native.Mathlib.Decide.{decLt}
 use native.Mathlib.Omega.{arith}
 use lib.Dec.{eqb, ltb}
-use borrow.Author.Tests.{eq-eqb, ne-eqb}
+use borrow.Author.Tests.{eq-eqb, ne-eqb, lt-ltb, le-ltb}
 use Rattle.slots.specs.Answers.{Answer, given, refused}
 use Rattle.index_rules.specs.Sound.{Sound, sound}
 use Rattle.index_rules.specs.Index.{Index, Outcome, FitIndex, fitsIndex, lengthOf}
@@ -19,10 +19,10 @@ use Rattle.index_rules.proofs.Sounding.{yes-sound, sound-yes}
 use Rattle.index_rules.proofs.Inserting.{insert-claims, insert-settled}
 use Rattle.index_rules.proofs.Rolling.{rollback-claims, rollback-settled}
 use Rattle.upload_rules.specs.Reader.{Reader, unsaid, noting, FitReader, isWhole}
-use Rattle.upload_rules.specs.Reading.{Session, session, goesUp, turnedDown, owing, kindCame, countCame, entryCame, cameOf, lastCame}
-use Rattle.upload_rules.specs.Reading.{byteCame, countByte, nameByte, inHash, entryPlace}
+use Rattle.upload_rules.specs.Reading.{Session, session, goesUp, backMark, turnedDown, owing, kindCame, countCame, entryCame, cameOf}
+use Rattle.upload_rules.specs.Reading.{lastCame, byteCame, countByte, nameByte, inHash, entryPlace}
 use Rattle.upload_rules.specs.Steps.{Foreign, unfit, damaged, badMark, misfit, Fault, kind, long, entry, ByteStep, moves, takes}
-use Rattle.upload_rules.specs.Steps.{stops, foreign}
+use Rattle.upload_rules.specs.Steps.{stops, foreign, cut-short}
 use Rattle.upload_rules.proofs.Ranges.{no-test, pick-both}
 
 -- A rollback that is refused answers 1, 2, 7 or 8.
@@ -75,34 +75,65 @@ up-foreign a badMark = refl
 up-foreign a misfit = refl
 
 module _ (r : Reader) (ix : Index) where
-  -- A refusal is rolled back to the mark.
-  pub turned-back : (a : Answer) (c : ℕ) → rolls ix (r .mark) .answer ≡ given c
+  -- What a rollback to a mark leaves noted.
+  abbrev rolledTo : Answer → ℕ → Session
+  rolledTo a m = session (noting r (goesUp a (rolls ix m .answer))) (rolls ix m .left)
+
+  -- The journal's length tells the mark.
+  at-start : r .mark + r .taken ≤ lengthOf (ix .lines) → backMark r ix ≡ r .mark
+  unfolding backMark
+  at-start l = rw (le-ltb (lengthOf (ix .lines)) (r .mark + r .taken) l)
+
+  at-taken : lengthOf (ix .lines) < r .mark + r .taken → backMark r ix ≡ r .mark + r .taken
+  unfolding backMark
+  at-taken l = rw (lt-ltb (lengthOf (ix .lines)) (r .mark + r .taken) l)
+
+  pub turned-back : (a : Answer) (c : ℕ) → r .mark + r .taken ≤ lengthOf (ix .lines) → rolls ix (r .mark) .answer ≡ given c
       → turnedDown r ix a ≡ session (noting r a) (rolls ix (r .mark) .left)
   unfolding turnedDown goesUp
-  turned-back a c e = ap (λ (x : Answer). session (noting r x) (rolls ix (r .mark) .left)) (ap (goesUp a) e ∙ up-given a c)
+  turned-back a c l e =
+      ap (rolledTo a) (at-start l)
+      ∙ ap (λ (x : Answer). session (noting r x) (rolls ix (r .mark) .left)) (ap (goesUp a) e ∙ up-given a c)
 
-  turned-foreign : (a : Answer) {b : Answer} → Foreign b → rolls ix (r .mark) .answer ≡ b → turnedDown r ix a ≡ session (noting r b) ix
-  unfolding turnedDown goesUp
-  turned-foreign a {b} f e =
-      let n : rolls ix (r .mark) .answer .number ≢ 0 = λ z. foreign-number f (ap (λ (x : Answer). x .number) (sym e) ∙ z) in
-      let q : goesUp a (rolls ix (r .mark) .answer) ≡ b = ap (goesUp a) e ∙ up-foreign a f in
-      λ i. session (noting r (q i)) (rollback-claims ix (r .mark) .nothing-written n i)
+  turned-foreign : {m : ℕ} (a : Answer) {b : Answer} → backMark r ix ≡ m → Foreign b → rolls ix m .answer ≡ b
+      → turnedDown r ix a ≡ session (noting r b) ix
+  unfolding turnedDown
+  turned-foreign {m} a {b} w f e =
+      let n : rolls ix m .answer .number ≢ 0 = λ z. foreign-number f (ap (λ (x : Answer). x .number) (sym e) ∙ z) in
+      let q : goesUp a (rolls ix m .answer) ≡ b = ap (goesUp a) e ∙ up-foreign a f in
+      ap (rolledTo a) w ∙ (λ i. session (noting r (q i)) (rollback-claims ix m .nothing-written n i))
+
+  -- A mark above the length is refused.
+  above : {m : ℕ} → lengthOf (ix .lines) < m → rolls ix m .answer .number ≢ 0
+  above {m} l z = go (rollback-settled ix m)
+    where
+      go : (rolls ix m .answer .number ≢ 0) ⊎ ((c : ℕ) × (rolls ix m .answer ≡ given c)) → ⊥
+      go (inl n) = n z
+      go (inr c) = let g = rollback-claims ix m .accepted (c .0) .0 (c .1) in omega (arith, g .1)
 
   pub turned-step : (a : Answer) → Fault ix a → ByteStep r ix (turnedDown r ix a)
-  turned-step a why = go (rollback-settled ix (r .mark))
+  turned-step a why = start (decLt (lengthOf (ix .lines)) (r .mark + r .taken))
     where
-      go : (rolls ix (r .mark) .answer .number ≢ 0) ⊎ ((c : ℕ) × (rolls ix (r .mark) .answer ≡ given c)) → ByteStep r ix (turnedDown r ix a)
-      go (inl n) = let w = which ix (r .mark) n in rw (turned-foreign a (w .1) (w .2)) (foreign (w .0) (w .1) (w .2))
-      go (inr c) = rw (turned-back a (c .0) (c .1)) (stops a why (c .0) (c .1))
+      go : r .mark + r .taken ≤ lengthOf (ix .lines)
+          → (rolls ix (r .mark) .answer .number ≢ 0) ⊎ ((c : ℕ) × (rolls ix (r .mark) .answer ≡ given c))
+          → ByteStep r ix (turnedDown r ix a)
+      go l (inl n) = let w = which ix (r .mark) n in rw (turned-foreign a (at-start l) (w .1) (w .2)) (foreign (w .0) (w .1) l (w .2))
+      go l (inr c) = rw (turned-back a (c .0) l (c .1)) (stops a why l (c .0) (c .1))
 
--- A reader that goes on: nothing is noted, and the mark is the old one.
-abbrev Goes : Reader → Reader → Type 0
-Goes r s = (s .note ≡ unsaid) × (s .mark ≡ r .mark)
+      start : Dec (lengthOf (ix .lines) < r .mark + r .taken) → ByteStep r ix (turnedDown r ix a)
+      start (yes l) =
+          let w = which ix (r .mark + r .taken) (above l) in
+          rw (turned-foreign a (at-taken l) (w .1) (w .2)) (cut-short (w .0) (w .1) l (w .2))
+      start (no n) = go (omega arith) (rollback-settled ix (r .mark))
 
-owing-goes : (r : Reader) (owed taken : ℕ) → Goes r (owing r owed taken)
+-- A reader that goes on: nothing is noted, the mark is the old one, and so many entries are taken.
+abbrev Goes : Reader → ℕ → Reader → Type 0
+Goes r taken s = (s .note ≡ unsaid) × (s .mark ≡ r .mark) × (s .taken ≡ taken)
+
+owing-goes : (r : Reader) (owed taken : ℕ) → Goes r taken (owing r owed taken)
 unfolding owing
 owing-goes r owed taken =
-    pick-both (Goes r) (eqb owed 0) _ _ (refl, refl) (refl, refl)
+    pick-both (Goes r taken) (eqb owed 0) _ _ (refl, refl, refl) (refl, refl, refl)
 
 module _ (r : Reader) (ix : Index) (b : ℕ) where
   abbrev Steps : Session → Type 0
@@ -116,17 +147,17 @@ module _ (r : Reader) (ix : Index) (b : ℕ) where
   kind-step : Steps (kindCame r ix b)
   unfolding kindCame
   kind-step =
-      pick-both Steps (eqb b (r .section + 1)) _ _ (moves refl refl) (turned-step r ix (refused 18) kind)
+      pick-both Steps (eqb b (r .section + 1)) _ _ (moves refl refl refl) (turned-step r ix (refused 18) kind)
 
-  count-goes : Goes r (countCame r b)
+  count-goes : Goes r (r .taken) (countCame r b)
   unfolding countCame
   count-goes =
-      pick-both (Goes r) (eqb (r .got) 1) _ _ (refl, refl) (owing-goes r (countByte (r .owed) b) (r .taken))
+      pick-both (Goes r (r .taken)) (eqb (r .got) 1) _ _ (refl, refl, refl) (owing-goes r (countByte (r .owed) b) (r .taken))
 
-  entry-goes : Goes r (entryCame r b)
+  entry-goes : Goes r (r .taken) (entryCame r b)
   unfolding entryCame
   entry-goes =
-      pick-both (Goes r) (inHash r) _ _ (refl, refl) (refl, refl)
+      pick-both (Goes r (r .taken)) (inHash r) _ _ (refl, refl, refl) (refl, refl, refl)
 
   abbrev ins : Outcome
   ins = inserts ix (r .hash) (nameByte (r .key) b) (entryPlace r)
@@ -143,7 +174,7 @@ module _ (r : Reader) (ix : Index) (b : ℕ) where
         go (inr x) =
             let s = owing-goes r (r .owed - 1) (r .taken + 1) in
             rw (eq-eqb (ins .answer .number) 0 (ap (λ (a : Answer). a .number) (x .1)))
-            (takes (r .hash) (nameByte (r .key) b) (entryPlace r) (x .0) small (x .1) (s .0) (s .1))
+            (takes (r .hash) (nameByte (r .key) b) (entryPlace r) (x .0) small (x .1) (s .0) (s .1) (s .2))
 
     ahead-step : isWhole r ≡ false → Steps (byteCame r ix b)
     unfolding byteCame
@@ -152,8 +183,8 @@ module _ (r : Reader) (ix : Index) (b : ℕ) where
         let e = entry-goes in
         rw w
         (pick-both Steps (eqb (r .got) 0) _ _ kind-step
-        (pick-both Steps (ltb (r .got) 3) _ _ (moves (c .0) (c .1))
-        (pick-both Steps (ltb (r .got) 18) _ _ (moves (e .0) (e .1)) last-step)))
+        (pick-both Steps (ltb (r .got) 3) _ _ (moves (c .0) (c .1) (c .2))
+        (pick-both Steps (ltb (r .got) 18) _ _ (moves (e .0) (e .1) (e .2)) last-step)))
 
     came-step : Steps (byteCame r ix b)
     came-step = go (isWhole r) refl

@@ -31,9 +31,13 @@ readOutcome a d = record { answer = a; left = d }
 unfoldable pub goesUp : Answer → Answer → Answer
 goesUp a back = pick (eqb (back .number) 0) a back
 
+-- To which mark: that of the start; "a journal whose length is below mark + taken answers 7, as a rollback to mark + taken does".
+unfoldable pub backMark : Reader → Index → ℕ
+backMark r ix = let all = r .mark + r .taken in pick (ltb (lengthOf (ix .lines)) all) all (r .mark)
+
 -- A refusal: "by rollback to the mark of the start".
 unfoldable pub turnedDown : Reader → Index → Answer → Session
-turnedDown r ix a = let o = rolls ix (r .mark) in session (noting r (goesUp a (o .answer))) (o .left)
+turnedDown r ix a = let o = rolls ix (backMark r ix) in session (noting r (goesUp a (o .answer))) (o .left)
 
 -- A number with the next of its bytes on top, where the lowest byte goes: the count's two bytes, a hash's or a key's eight.
 unfoldable pub countByte : ℕ → ℕ → ℕ
