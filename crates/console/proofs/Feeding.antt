@@ -28,4 +28,5 @@ feeding =
       blank-one = λ a b e f. ap lineBack (e ∙ sym f);
       feed-one = λ chunk d. one;
       finish-one = λ d. one;
+      receipt-one = λ number t p a b e f. e ∙ sym f;
     }

@@ -1,5 +1,9 @@
+pub mod Reading
 pub mod Lines
+pub mod Bytes
 pub mod Phrasing
+pub mod Listing
 pub mod Turns
+pub mod Receipts
 pub mod Feeding
 pub mod Claims

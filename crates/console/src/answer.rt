@@ -37,7 +37,7 @@ ghost use Rattle.console.specs.Phrases.{commandOf};
 ghost use Rattle.console.specs.Meanings.{metOf};
 
 // A word and a number, and the line ends.
-fn tell(out: &mut [u8], at: usize, word: &[u8], v: u64) -> usize
+pub(crate) fn tell(out: &mut [u8], at: usize, word: &[u8], v: u64) -> usize
     ensures { λ r. ⌜ lentPaper (now (out .exit)) r ≡ typed (lentPaper (now (out .entry)) at) (numberLine (now (word .entry)) v) ⌝ }
 {
     let number = put_word(out, at, word);
@@ -125,7 +125,7 @@ fn tell_entries(
     end
 }
 
-fn tell_list(
+pub(crate) fn tell_list(
     out: &mut [u8],
     at: usize,
     names: &[u64],

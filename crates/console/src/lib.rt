@@ -5,3 +5,5 @@ pub mod read;
 // What a line asks for is done and answered.
 mod answer;
 pub mod feed;
+// What an upload came to is printed.
+pub mod receipt;

@@ -8,17 +8,18 @@ use native.Mathlib.Omega.{arith}
 use lib.ListN.{length, length-append}
 use borrow.Author.Tests.{lt-ltb, le-ltb}
 use Rattle.index_rules.specs.Index.{Index}
-use Rattle.script_rules.specs.Commands.{Command, insert, remove, find, rollback, mark, list, bad, meant, spoken, textOf, InFields}
+use Rattle.script_rules.specs.Commands.{Command, insert, remove, find, rollback, mark, list, bad, meant, spoken}
+use Rattle.script_rules.specs.Letters.{textOf, InFields}
 use Rattle.script_rules.specs.Feeding.{Line, longest, Desk, Fed, feeds, deskOf}
 use Rattle.script_rules.specs.Claims.{Means, Calls, Claims}
 use Rattle.script_rules.proofs.Numbers.{decimal-claims}
-use Rattle.script_rules.proofs.Asking.{asks}
 use Rattle.script_rules.proofs.Meaning.{meant-told, text-meant}
 use Rattle.script_rules.proofs.Feeding.{feeds-short, feeds-long}
 use Rattle.script_rules.proofs.Room.{digits-short, answer-short, typed-whole}
 use Rattle.script_rules.proofs.Cutting.{cut, feeding-number, taken-most, taken-some}
 use Rattle.script_rules.proofs.Lines.{line-heard, last-heard, none-heard}
-use Rattle.script_rules.proofs.Chains.{listed}
+use Rattle.script_rules.proofs.Printing.{insert-printed, remove-printed, rollback-printed, mark-printed, list-printed, bad-printed}
+use Rattle.script_rules.proofs.Printing.{asks, receipt-printed}
 
 -- A command's text has at most 64 bytes.
 text-short : (c : Command) → length (textOf c) ≤ 80
@@ -97,6 +98,12 @@ claims = record {
   lines = line-heard;
   last-line = last-heard;
   no-line = none-heard;
-  lists = listed;
+  prints-insert = insert-printed;
+  prints-remove = remove-printed;
   asks = asks;
+  prints-rollback = rollback-printed;
+  prints-mark = mark-printed;
+  prints-list = list-printed;
+  prints-bad = bad-printed;
+  prints-receipt = receipt-printed;
 }

@@ -13,7 +13,7 @@ use Rattle.script_rules.specs.Answers.{Said, carriedOut}
 use Rattle.script_rules.specs.Feeding.{Line, blankLine, heldOf, longest, Desk, answered, fedByte, Fed, roomLeft, feeding, feeds}
 use Rattle.script_rules.specs.Feeding.{Heard}
 use Rattle.script_rules.specs.Feeding.{prefixed, heard, deskOf, printed, Run, over, call}
-use Rattle.script_rules.proofs.Feeding.{Within, byte-within, feeds-short, feeds-long}
+use Rattle.script_rules.proofs.Feeding.{Within, typed-within, feeds-short, feeds-long}
 use Rattle.script_rules.proofs.Room.{answer-short, typed-whole}
 
 -- What stands on the paper, before all that is still heard.
@@ -38,6 +38,14 @@ byte-heard d b l w r = go (ℕ-discrete b newline)
         (ap (λ (t : List ℕ). prefixed t (heard blankLine (said .left) l)) (all .behind)
         ∙ prefixed-twice (take (d .paper .at) (d .paper .bytes)) (said .text) (heard blankLine (said .left) l))
     go (no n) = rw (ne-eqb b newline n)
+
+pub byte-within : (d : Desk) (b : ℕ) → Within (d .paper) → Within (fedByte d b .paper)
+unfolding fedByte answered
+byte-within d b h = go (ℕ-discrete b newline)
+  where
+    go : Dec (b ≡ newline) → Within (fedByte d b .paper)
+    go (yes e) = rw (eq-eqb b newline e) (typed-within (d .paper) _ h)
+    go (no n) = rw (ne-eqb b newline n) h
 
 -- A chunk: no more is taken than there is, and the rest is heard after it.
 record Fair (chunk : List ℕ) (k : ℕ) (d : Desk) (rest : List ℕ) : Type 0 where

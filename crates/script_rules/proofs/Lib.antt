@@ -8,5 +8,6 @@ pub mod Room
 pub mod Cutting
 pub mod Lines
 pub mod Chains
-pub mod Asking
+pub mod Printing
 pub mod Claims
+pub mod Ending

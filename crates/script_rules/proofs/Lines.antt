@@ -2,7 +2,7 @@
 use mathlib.Core.Path.{_≡_, refl, ap, sym, _∙_}
 use mathlib.Core.Logic.{_≢_}
 use mathlib.Core.List.{List, [], _∷_, _++_, append-assoc, append-nil}
-use Prim.Native.Nat.{ℕ, _+_, _-_, _<_, _≤_}
+use Prim.Native.Nat.{ℕ, _+_, _<_, _≤_}
 use native.Mathlib.Decide.{decLt, decLe}
 use native.Mathlib.Numerals.{add-one}
 use native.Mathlib.Omega.{arith}
@@ -16,7 +16,6 @@ use Rattle.script_rules.specs.Answers.{Said, carriedOut}
 use Rattle.script_rules.specs.Feeding.{width, Line, blankLine, heldOf, noted, longest, answered, Fed, finishes, prefixed, heard}
 use Rattle.script_rules.specs.Feeding.{deskOf}
 use Rattle.script_rules.specs.Feeding.{printed, NoNewline, nothing, another}
-use Rattle.script_rules.proofs.Feeding.{ends-none}
 use Rattle.script_rules.proofs.Room.{answer-short, typed-whole}
 
 -- The bytes of a line noted one after another.
@@ -151,4 +150,5 @@ last-heard ix l buffer n m r =
 
 pub none-heard : (ix : Index) (buffer : List ℕ) → longest ≤ length buffer
     → (printed (finishes (deskOf blankLine ix buffer)) ≡ []) × (finishes (deskOf blankLine ix buffer) .desk .index ≡ ix)
-none-heard ix buffer r = let e = ends-none (deskOf blankLine ix buffer) r refl in rw (← e) (refl, refl)
+unfolding finishes
+none-heard ix buffer r = rw (le-ltb (length buffer) longest r) (refl, refl)

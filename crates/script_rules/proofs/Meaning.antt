@@ -1,9 +1,9 @@
 -- A line means a command exactly where it is the command's text and the numbers fit their fields.
 use mathlib.Core.Path.{_≡_, refl, ap, sym, _∙_}
-use mathlib.Core.Logic.{_≢_, _⊎_, inl, inr}
+use mathlib.Core.Logic.{_⊎_, inl, inr}
 use mathlib.Core.Bool.{Bool, true, false, false≢true}
 use mathlib.Core.List.{List, [], _∷_, _++_, append-nil}
-use Prim.Native.Nat.{ℕ, _+_, _-_, _^_, _<_, _≤_}
+use Prim.Native.Nat.{ℕ, _+_, _^_, _<_, _≤_}
 use native.Mathlib.Omega.{arith}
 use lib.ListN.{drop}
 use lib.Dec.{eqb}
@@ -11,10 +11,10 @@ use borrow.Author.Tests.{eqb-true}
 use Rattle.slots.specs.Words.{pick}
 use Rattle.index_rules.proofs.Fit.{both}
 use Rattle.script_rules.specs.Text.{decimal, Read, read, unread, readNumber, readNext, startsWith, space, plusWord, minusWord}
-use Rattle.script_rules.specs.Text.{askWord}
-use Rattle.script_rules.specs.Text.{rollWord, markWord, listWord}
+use Rattle.script_rules.specs.Text.{askWord, rollWord, markWord, listWord}
 use Rattle.script_rules.specs.Commands.{Command, insert, remove, find, rollback, mark, list, bad, most64, most32, readThen, alone}
-use Rattle.script_rules.specs.Commands.{pairCommandOf, insertOf, markOf, meant, textOf, InFields}
+use Rattle.script_rules.specs.Commands.{pairCommandOf, insertOf, markOf, meant}
+use Rattle.script_rules.specs.Letters.{textOf, InFields}
 use Rattle.script_rules.proofs.Numbers.{picked, Stops, ended, other, Written, number-read, number-written}
 
 -- A word of one byte or two that stands at the front.

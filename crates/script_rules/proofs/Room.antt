@@ -2,7 +2,7 @@
 use mathlib.Core.Path.{_≡_, refl, ap, sym, _∙_}
 use mathlib.Core.Bool.{Bool, true, false}
 use mathlib.Core.List.{List, [], _∷_, _++_, append-assoc, append-nil}
-use Prim.Native.Nat.{ℕ, zero, suc, _+_, _-_, _*_, _/_, _%_, _≤_}
+use Prim.Native.Nat.{ℕ, zero, suc, _+_, _*_, _/_, _%_, _≤_}
 use native.Mathlib.Numerals.{add-one}
 use native.Mathlib.Omega.{arith}
 use lib.ListN.{length, take, set, length-append, length-set}
@@ -12,13 +12,10 @@ use borrow.Author.Tests.{lt-ltb}
 use Rattle.slots.specs.Words.{null, pick, place, next, cell, nameOf, hashPart, keyPart}
 use Rattle.slots.specs.Answers.{Answer, Value, none, some}
 use Rattle.index_rules.specs.Live.{Live, unsizedOf, fits, firstOf}
-use Rattle.index_rules.specs.Index.{Index, fitsIndex, lengthOf}
+use Rattle.index_rules.specs.Index.{Index, fitsIndex}
 use Rattle.index_rules.specs.Find.{finds}
-use Rattle.index_rules.specs.Insert.{inserts}
-use Rattle.index_rules.specs.Remove.{removes}
-use Rattle.index_rules.specs.Rollback.{rolls}
 use Rattle.index_rules.proofs.Fit.{fits-fit, half}
-use Rattle.script_rules.specs.Text.{digits, space, noText, markText, slotText, goneText, backText}
+use Rattle.script_rules.specs.Text.{digits, space, noText, markText}
 use Rattle.script_rules.specs.Commands.{Command, insert, remove, find, rollback, mark, list, bad}
 use Rattle.script_rules.specs.Answers.{numbered, numberLine, valueLine, told, foundValue, foundText, searchLine, more, met, entryLine}
 use Rattle.script_rules.specs.Answers.{entryLines, counting, listText, marking, carriedOut}
@@ -34,37 +31,36 @@ digits-short (suc k) x = go (digits-short k (x / 10)) (ltb x 10)
     go h true = omega arith
     go h false = simp length-append (omega arith)
 
-line-short : (word : List ℕ) (v : ℕ) → length (numberLine word v) ≤ length word + 21
+pub line-short : (word : List ℕ) (v : ℕ) → length (numberLine word v) ≤ length word + 21
 line-short word v = simp length-append (omega (arith, digits-short 20 v))
 
-told-short : (word : List ℕ) (a : Answer) → length word ≤ 8 → length (told word a) ≤ 29
+told-short : (word : List ℕ) (a : Answer) → length word ≤ 8 → length (told word a) ≤ longest
 unfolding told
 told-short word a h = go (eqb (a .number) 0) (a .value)
   where
-    go : (t : Bool) (v : Value) → length (pick t (valueLine word v) (numberLine noText (a .number))) ≤ 29
+    go : (t : Bool) (v : Value) → length (pick t (valueLine word v) (numberLine noText (a .number))) ≤ longest
     go true (some v) = omega (arith, line-short word v)
     go true none = omega arith
     go false v = omega (arith, line-short noText (a .number))
 
 search-short : (c : Counted) → length (searchLine c) ≤ 50
 unfolding searchLine foundText
-search-short c = go (eqb (c .answer .number) 1) (eqb (c .answer .number) 0) (c .answer .value)
+search-short c = go (eqb (c .answer .number) 1) (eqb (c .answer .number) 0) (c .answer .value) _ _
   where
-    front : (t : Bool) (v : Value) → length (pick t (foundValue v) (numbered noText (c .answer .number))) ≤ 23
-    front true (some v) = simp length-append (omega (arith, digits-short 20 v))
-    front true none = omega arith
-    front false v = simp length-append (omega (arith, digits-short 20 (c .answer .number)))
+    front : (t : Bool) (v : Value) (number : ℕ) → length (pick t (foundValue v) (numbered noText number)) ≤ 23
+    front true (some v) number = simp length-append (omega (arith, digits-short 20 v))
+    front true none number = omega arith
+    front false v number = simp length-append (omega (arith, digits-short 20 number))
 
-    go : (u t : Bool) (v : Value)
-        → length (pick u (numberLine noText 1)
-        (pick t (foundValue v) (numbered noText (c .answer .number)) ++ numberLine (space ∷ []) (c .looks))) ≤ 50
-    go true t v = omega (arith, line-short noText 1)
-    go false t v =
+    go : (u t : Bool) (v : Value) (number looks : ℕ)
+        → length (pick u (numberLine noText 1) (pick t (foundValue v) (numbered noText number) ++ numberLine (space ∷ []) looks)) ≤ 50
+    go true t v number looks = omega (arith, line-short noText 1)
+    go false t v number looks =
         omega (
           arith,
-          front t v,
-          line-short (space ∷ []) (c .looks),
-          length-append (pick t (foundValue v) (numbered noText (c .answer .number))) (numberLine (space ∷ []) (c .looks)),
+          front t v number,
+          line-short (space ∷ []) looks,
+          length-append (pick t (foundValue v) (numbered noText number)) (numberLine (space ∷ []) looks),
         )
 
 entry-short : (names cells : List ℕ) (i : ℕ) → length (entryLine names cells i) ≤ 63
@@ -101,7 +97,7 @@ met-few (suc v) n cells i {c} e =
     go again false true none q f = let z : _≡_ {A = ℕ} 0 1 = cc in absurd (omega arith)
     go again false false r q f = let z : _≡_ {A = ℕ} 0 1 = cc in absurd (omega arith)
 
-listing-short : (t : Live) → length (listText t) ≤ longest
+pub listing-short : (t : Live) → length (listText t) ≤ longest
 unfolding listText
 listing-short t = go (fits t) refl (met (slotsOf (t .names)) (slotsOf (t .names)) (t .cells) (firstOf t)) refl
   where
@@ -123,19 +119,19 @@ listing-short t = go (fits t) refl (met (slotsOf (t .names)) (slotsOf (t .names)
 
 marking-short : (ix : Index) → length (marking ix) ≤ longest
 unfolding marking
-marking-short ix = go (fitsIndex ix)
+marking-short ix = go (fitsIndex ix) _
   where
-    go : (b : Bool) → length (pick b (numberLine markText (lengthOf (ix .lines))) (numberLine noText 1)) ≤ longest
-    go true = omega (arith, line-short markText (lengthOf (ix .lines)))
-    go false = omega (arith, line-short noText 1)
+    go : (b : Bool) (v : ℕ) → length (pick b (numberLine markText v) (numberLine noText 1)) ≤ longest
+    go true v = omega (arith, line-short markText v)
+    go false v = omega (arith, line-short noText 1)
 
 -- No answer is longer than `longest`.
 pub answer-short : (ix : Index) (c : Command) → length (carriedOut ix c .text) ≤ longest
 unfolding carriedOut
-answer-short ix (insert h k p) = omega (arith, told-short slotText (inserts ix h k p .answer) (omega arith))
-answer-short ix (remove h k) = omega (arith, told-short goneText (removes ix h k .answer) (omega arith))
+answer-short ix (insert h k p) = told-short _ _ (omega arith)
+answer-short ix (remove h k) = told-short _ _ (omega arith)
 answer-short ix (find h k) = omega (arith, search-short (counted (finds (unsizedOf (ix .live)) h k)))
-answer-short ix (rollback m) = omega (arith, told-short backText (rolls ix m .answer) (omega arith))
+answer-short ix (rollback m) = told-short _ _ (omega arith)
 answer-short ix mark = marking-short ix
 answer-short ix list = listing-short (ix .live)
 answer-short ix bad = omega arith

@@ -64,11 +64,6 @@ unfoldable pub entryLines : ℕ → List ℕ → List ℕ → ℕ → List ℕ
 entryLines zero names cells i = []
 entryLines (suc c) names cells i = entryLine names cells i ++ entryLines c names cells (cell cells i next)
 
--- The lines of these slots.
-unfoldable pub entryLinesOf : List ℕ → List ℕ → List ℕ → List ℕ
-entryLinesOf names cells [] = []
-entryLinesOf names cells (i ∷ l) = entryLine names cells i ++ entryLinesOf names cells l
-
 abbrev pub counting : Live → Value → List ℕ
 counting t (some c) = numberLine entriesText c ++ entryLines c (t .names) (t .cells) (firstOf t)
 counting t none = numberLine noText 9
@@ -76,6 +71,10 @@ counting t none = numberLine noText 9
 -- "`l` lists hash, key, place by the chain from first."
 unfoldable pub listText : Live → List ℕ
 listText t = pick (fits t) (counting t (met (slotsOf (t .names)) (slotsOf (t .names)) (t .cells) (firstOf t))) (numberLine noText 1)
+
+-- What is printed at the end of an upload: the refusal, or what the index then lists.
+unfoldable pub receiptText : ℕ → Live → List ℕ
+receiptText number t = pick (eqb number 0) (listText t) (numberLine noText number)
 
 -- "The mark is the length."
 unfoldable pub marking : Index → List ℕ

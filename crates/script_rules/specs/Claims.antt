@@ -1,20 +1,26 @@
 -- What crate `script_rules` proves of its models, in one record. Every statement of the crate stands here.
 use mathlib.Core.Path.{_≡_}
 use mathlib.Core.Logic.{_≢_, _↔_}
-use mathlib.Core.List.{List, [], _∷_, _++_}
+use mathlib.Core.List.{List, [], _∷_, _++_, map}
 use Prim.Native.Nat.{ℕ, _+_, _^_, _<_, _≤_}
+use Prim.Native.String.{String}
 use lib.ListN.{length, take}
-use Rattle.index_rules.specs.Live.{Live, unsizedOf, Fit, countOf}
-use Rattle.index_rules.specs.Index.{Index}
-use Rattle.index_rules.specs.Sound.{Sound}
 use Rattle.slots.specs.Answers.{given, nothing, refused}
+use Rattle.tree_rules.specs.Find.{slotsOf}
+use Rattle.index_rules.specs.Live.{Live, unsizedOf, Fit, firstOf}
+use Rattle.index_rules.specs.Index.{Index, FitIndex, Outcome, lengthOf}
+use Rattle.index_rules.specs.Sound.{Sound}
+use Rattle.index_rules.specs.Contents.{entryOf, listing}
 use Rattle.index_rules.specs.Find.{finds}
-use Rattle.script_rules.specs.Text.{newline, space, decimal, worth, Digits, atText, noneText, noText, entriesText}
-use Rattle.script_rules.specs.Commands.{Command, find, bad, spoken, textOf, InFields}
-use Rattle.script_rules.specs.Answers.{numberLine, entryLinesOf, listText, carriedOut}
+use Rattle.index_rules.specs.Insert.{inserts}
+use Rattle.index_rules.specs.Remove.{removes}
+use Rattle.index_rules.specs.Rollback.{rolls}
+use Rattle.script_rules.specs.Text.{newline, decimal, worth, Digits}
+use Rattle.script_rules.specs.Commands.{Command, insert, remove, find, rollback, mark, list, bad, spoken}
+use Rattle.script_rules.specs.Letters.{letters, textOf, InFields, wordLine, listingText, NextVisits}
+use Rattle.script_rules.specs.Answers.{Said, receiptText, carriedOut}
 use Rattle.script_rules.specs.Feeding.{Line, blankLine, Paper, typed, longest, feeds, finishes, Heard, prefixed, heard, deskOf}
-use Rattle.script_rules.specs.Feeding.{printed}
-use Rattle.script_rules.specs.Feeding.{Run, NoNewline}
+use Rattle.script_rules.specs.Feeding.{lentPaper, receipts, printed, Run, NoNewline}
 
 -- "decimal numbers", "with no leading zero".
 pub record Decimals (x : ℕ) : Type 0 where
@@ -42,20 +48,52 @@ pub record Calls (chunk : List ℕ) (line : Line) (ix : Index) (buffer : List �
   pub most : feeds chunk (deskOf line ix buffer) .taken ≤ length chunk
   pub some : longest ≤ length buffer → 0 < length chunk → 0 < feeds chunk (deskOf line ix buffer) .taken
 
+-- A command that is a call of the index, and its answer: the word of the table and the number that comes with it, or "`no` and its number";
+-- "`no 3` prints no slot". What is left is what the call leaves.
+pub record Prints (word : String) (o : Outcome) (s : Said) : Type 0 where
+  pub value : (v : ℕ) → o .answer ≡ given v → s .text ≡ wordLine word v
+  pub number : o .answer .number ≢ 0 → s .text ≡ wordLine "no " (o .answer .number)
+  pub left : s .left ≡ o .left
+
 -- "The script program's `?` prints the number last on its line": the slot and the looks, that there is none and the looks, 9 and the looks;
 -- 1 is answered before anything is looked at.
 pub record Asks (ix : Index) (h k : ℕ) : Type 0 where
   pub at : (slot : ℕ) → finds (unsizedOf (ix .live)) h k .answer ≡ given slot
       → carriedOut ix (find h k) .text
-      ≡ atText ++ (decimal slot ++ (space ∷ (decimal (length (finds (unsizedOf (ix .live)) h k .looks)) ++ (newline ∷ []))))
+      ≡ letters "at " ++ (decimal slot ++ wordLine " " (length (finds (unsizedOf (ix .live)) h k .looks)))
   pub none : finds (unsizedOf (ix .live)) h k .answer ≡ nothing
-      → carriedOut ix (find h k) .text
-      ≡ noneText ++ (space ∷ (decimal (length (finds (unsizedOf (ix .live)) h k .looks)) ++ (newline ∷ [])))
+      → carriedOut ix (find h k) .text ≡ letters "none" ++ wordLine " " (length (finds (unsizedOf (ix .live)) h k .looks))
   pub nine : finds (unsizedOf (ix .live)) h k .answer ≡ refused 9
-      → carriedOut ix (find h k) .text
-      ≡ noText ++ (decimal 9 ++ (space ∷ (decimal (length (finds (unsizedOf (ix .live)) h k .looks)) ++ (newline ∷ []))))
-  pub one : finds (unsizedOf (ix .live)) h k .answer ≡ refused 1 → carriedOut ix (find h k) .text ≡ noText ++ (decimal 1 ++ (newline ∷ []))
+      → carriedOut ix (find h k) .text ≡ letters "no 9" ++ wordLine " " (length (finds (unsizedOf (ix .live)) h k .looks))
+  pub one : finds (unsizedOf (ix .live)) h k .answer ≡ refused 1 → carriedOut ix (find h k) .text ≡ letters "no 1\n"
   pub left : carriedOut ix (find h k) .left ≡ ix
+
+-- "`mark` and the journal's length".
+pub record PrintsMark (ix : Index) : Type 0 where
+  pub fit : FitIndex ix → carriedOut ix mark .text ≡ wordLine "mark " (lengthOf (ix .lines))
+  pub unfit : (FitIndex ix → ⊥) → carriedOut ix mark .text ≡ letters "no 1\n"
+  pub left : carriedOut ix mark .left ≡ ix
+
+-- "`entries` and their number, then a line for each", "by the chain from first".
+pub record PrintsList (t : Live) (text : List ℕ) : Type 0 where
+  pub unfit : (Fit t → ⊥) → text ≡ letters "no 1\n"
+  -- next visits these slots from first on, no more of them than there are
+  pub chain : Fit t → (l : List ℕ) → NextVisits (slotsOf (t .names)) (t .cells) (firstOf t) l → length l ≤ slotsOf (t .names)
+      → text ≡ listingText (map (entryOf t) l)
+  -- 9 where there are no such slots
+  pub lost : Fit t
+      → ((l : List ℕ) → NextVisits (slotsOf (t .names)) (t .cells) (firstOf t) l → length l ≤ slotsOf (t .names) → ⊥)
+      → text ≡ letters "no 9\n"
+  pub sound : Fit t → (h : Sound t) → text ≡ listingText (listing h)
+
+-- What is printed at the end of an upload: "a refusal prints `no` and its number, and else the index is listed as `l` lists it". In a
+-- buffer with room for the longest answer it stands whole, and nothing is written into a shorter one.
+pub record PrintsReceipt (number : ℕ) (t : Live) : Type 0 where
+  pub refusal : number ≢ 0 → receiptText number t ≡ wordLine "no " number
+  pub list : number ≡ 0 → PrintsList t (receiptText number t)
+  pub whole : (buffer : List ℕ) → longest ≤ length buffer
+      → let p = receipts number t (lentPaper buffer 0) in take (p .at) (p .bytes) ≡ receiptText number t
+  pub short : (buffer : List ℕ) → length buffer < longest → receipts number t (lentPaper buffer 0) ≡ lentPaper buffer 0
 
 pub record Claims : Type 0 where
   pub decimals : (x : ℕ) → Decimals x
@@ -77,7 +115,12 @@ pub record Claims : Type 0 where
       (heard blankLine ix l .text ≡ []) × (printed f ≡ carriedOut ix (spoken l) .text) × (f .desk .index ≡ carriedOut ix (spoken l) .left)
   pub no-line : (ix : Index) (buffer : List ℕ) → longest ≤ length buffer
       → (printed (finishes (deskOf blankLine ix buffer)) ≡ []) × (finishes (deskOf blankLine ix buffer) .desk .index ≡ ix)
-  -- "`l` lists hash, key, place by the chain from first"
-  pub lists : (t : Live) → Fit t → (h : Sound t)
-      → listText t ≡ numberLine entriesText (countOf t) ++ entryLinesOf (t .names) (t .cells) (h .chain)
+  -- the table: what each command prints, and what it leaves
+  pub prints-insert : (ix : Index) (h k p : ℕ) → Prints "slot " (inserts ix h k p) (carriedOut ix (insert h k p))
+  pub prints-remove : (ix : Index) (h k : ℕ) → Prints "gone " (removes ix h k) (carriedOut ix (remove h k))
   pub asks : (ix : Index) (h k : ℕ) → Asks ix h k
+  pub prints-rollback : (ix : Index) (m : ℕ) → Prints "back " (rolls ix m) (carriedOut ix (rollback m))
+  pub prints-mark : (ix : Index) → PrintsMark ix
+  pub prints-list : (ix : Index) → PrintsList (ix .live) (carriedOut ix list .text) × (carriedOut ix list .left ≡ ix)
+  pub prints-bad : (ix : Index) → (carriedOut ix bad .text ≡ letters "bad\n") × (carriedOut ix bad .left ≡ ix)
+  pub prints-receipt : (number : ℕ) (t : Live) → PrintsReceipt number t

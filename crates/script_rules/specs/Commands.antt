@@ -1,12 +1,11 @@
 -- What a line of a script means.
-use mathlib.Core.List.{List, [], _∷_, _++_}
-use Prim.Native.Nat.{ℕ, _<_, _^_}
+use mathlib.Core.List.{List, [], _∷_}
+use Prim.Native.Nat.{ℕ}
 use lib.ListN.{length, drop}
 use lib.Dec.{ltb}
 use Rattle.slots.specs.Words.{pick}
-use Rattle.script_rules.specs.Text.{Read, read, unread, readNumber, readNext, startsWith, decimal, space, plusWord, minusWord}
-use Rattle.script_rules.specs.Text.{askWord}
-use Rattle.script_rules.specs.Text.{rollWord, markWord, listWord}
+use Rattle.script_rules.specs.Text.{Read, read, unread, readNumber, readNext, startsWith, plusWord, minusWord, askWord, rollWord}
+use Rattle.script_rules.specs.Text.{markWord, listWord}
 
 -- "`+` takes hash, key, place; `-` and `?` hash, key; `r` a mark; `m` and `l` nothing." "A line of another form .. prints `bad`."
 pub data Command : Type 0 where
@@ -55,23 +54,3 @@ meant l =
 -- "or over 80 bytes before its newline, prints `bad`"
 unfoldable pub spoken : List ℕ → Command
 spoken l = pick (ltb 80 (length l)) bad (meant l)
-
--- The one text of a command: its word, and its numbers after single spaces.
-abbrev pub textOf : Command → List ℕ
-textOf (insert h k p) = plusWord ++ (decimal h ++ (space ∷ (decimal k ++ (space ∷ decimal p))))
-textOf (remove h k) = minusWord ++ (decimal h ++ (space ∷ decimal k))
-textOf (find h k) = askWord ++ (decimal h ++ (space ∷ decimal k))
-textOf (rollback m) = rollWord ++ decimal m
-textOf mark = markWord
-textOf list = listWord
-textOf bad = []
-
--- A command's numbers fit their fields; `bad` is no command.
-abbrev pub InFields : Command → Type 0
-InFields (insert h k p) = (h < 2 ^ 64) × (k < 2 ^ 64) × (p < 2 ^ 32)
-InFields (remove h k) = (h < 2 ^ 64) × (k < 2 ^ 64)
-InFields (find h k) = (h < 2 ^ 64) × (k < 2 ^ 64)
-InFields (rollback m) = m < 2 ^ 32
-InFields mark = Unit {0}
-InFields list = Unit {0}
-InFields bad = ⊥

@@ -6,10 +6,11 @@ use Prim.Native.Nat.{ℕ, suc, _+_, _-_, _≤_}
 use lib.ListN.{length, take, drop, set, replicate}
 use lib.Dec.{eqb, ltb}
 use Rattle.slots.specs.Words.{pick}
+use Rattle.index_rules.specs.Live.{Live}
 use Rattle.index_rules.specs.Index.{Index, lent}
 use Rattle.script_rules.specs.Text.{newline}
 use Rattle.script_rules.specs.Commands.{Command, spoken}
-use Rattle.script_rules.specs.Answers.{carriedOut}
+use Rattle.script_rules.specs.Answers.{receiptText, carriedOut}
 
 -- The line that has come so far: at most 81 bytes of it, since one over 80 is bad whatever follows.
 abbrev pub width : ℕ
@@ -47,6 +48,10 @@ typed p (b ∷ l) = typed (typedOne p b) l
 -- No answer is longer: 4,096 entries of at most 63 bytes, and the line before them.
 abbrev pub longest : ℕ
 longest = 262144
+
+-- What is printed at the end of an upload, on a lent buffer; nothing where the longest answer has no room.
+unfoldable pub receipts : ℕ → Live → Paper → Paper
+receipts number t p = pick (ltb (length (p .bytes)) longest) p (typed p (receiptText number t))
 
 -- A command obeyed: what is left of the tree and the journal, and the answer on the paper.
 pub record CommandTurn : Type 0 where

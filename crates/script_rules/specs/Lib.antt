@@ -1,5 +1,6 @@
 pub mod Text
 pub mod Commands
+pub mod Letters
 pub mod Answers
 pub mod Feeding
 pub mod Claims

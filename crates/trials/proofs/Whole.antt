@@ -16,7 +16,7 @@ use Rattle.script_rules.specs.Commands.{spoken}
 use Rattle.script_rules.specs.Answers.{Said, carriedOut}
 use Rattle.script_rules.specs.Feeding.{Line, blankLine, heldOf, noted, Paper, typedOne, typed, longest, Desk, answered, fedByte, Fed, fed}
 use Rattle.script_rules.specs.Feeding.{roomLeft, feeding, feeds, finishes, Heard, prefixed, heard, deskOf, printed}
-use Rattle.script_rules.proofs.Feeding.{ends-none, ends-line}
+use Rattle.script_rules.proofs.Ending.{ends-none, ends-line}
 use Rattle.script_rules.proofs.Room.{answer-short, typed-whole}
 use Rattle.script_rules.proofs.Cutting.{call-heard, taken-most, taken-some}
 use Rattle.trials.specs.declared.play.Met.{Met}

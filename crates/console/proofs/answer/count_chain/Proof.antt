@@ -5,7 +5,7 @@ use denote.Ref.{now}
 use Prim.Native.Nat.{ℕ, _-_, _^_, _<_, _≤_}
 use native.Mathlib.Omega.{arith}
 use Rattle.script_rules.specs.Answers.{met}
-use Rattle.script_rules.proofs.Listing.{raised, raised-none, count-end, count-spent, count-outside, count-on}
+use Rattle.console.proofs.Listing.{raised, raised-none, count-end, count-spent, count-outside, count-on}
 use borrow.Author.Needs.{needs}
 use Rattle.console.proofs.answer.count_chain.Statement.{statement}
 use Rattle.console.proofs.answer.count_chain.Tie as tie

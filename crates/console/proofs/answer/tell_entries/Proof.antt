@@ -4,7 +4,7 @@ use denote.Ref.{now}
 use lib.ListN.{length}
 use Rattle.script_rules.specs.Answers.{entryLines}
 use Rattle.script_rules.specs.Feeding.{typed}
-use Rattle.script_rules.proofs.Listing.{entries-on, entries-over}
+use Rattle.console.proofs.Listing.{entries-on, entries-over}
 use borrow.Author.Needs.{needs}
 use Rattle.console.proofs.answer.tell_entries.Statement.{statement}
 use Rattle.console.proofs.answer.tell_entries.Tie as tie

@@ -1,6 +1,6 @@
 -- The three words are read, and six writes follow one another.
 use denote.Ref.{now}
-use Rattle.script_rules.proofs.Listing.{entry-typed}
+use Rattle.console.proofs.Listing.{entry-typed}
 use borrow.Author.Needs.{needs}
 use Rattle.console.proofs.answer.tell_entry.Statement.{statement}
 use Rattle.console.proofs.answer.tell_entry.Tie as tie

@@ -2,7 +2,7 @@
 use mathlib.Core.Path.{sym, ap, _∙_}
 use borrow.Author.Tests.{not-true, not-false}
 use Rattle.console.specs.Meanings.{metOf}
-use Rattle.script_rules.proofs.Listing.{list-unfit, list-lost, list-all}
+use Rattle.console.proofs.Listing.{list-unfit, list-lost, list-all}
 use borrow.Author.Needs.{needs}
 use Rattle.console.proofs.answer.tell_list.Statement.{statement}
 use Rattle.console.proofs.answer.tell_list.Tie as tie

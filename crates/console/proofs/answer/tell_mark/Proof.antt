@@ -1,6 +1,6 @@
 -- The two tests of fitness settle the model's, and the length is read.
 use borrow.Author.Tests.{not-true, not-false}
-use Rattle.script_rules.proofs.Listing.{mark-unfit, mark-journal, mark-all}
+use Rattle.console.proofs.Listing.{mark-unfit, mark-journal, mark-all}
 use borrow.Author.Needs.{needs}
 use Rattle.console.proofs.answer.tell_mark.Statement.{statement}
 use Rattle.console.proofs.answer.tell_mark.Tie as tie

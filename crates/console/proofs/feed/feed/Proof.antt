@@ -5,7 +5,8 @@ use Prim.Native.Nat.{_-_, _^_, _<_, _≤_}
 use lib.ListN.{length, drop}
 use native.Mathlib.Omega.{arith}
 use Rattle.script_rules.specs.Feeding.{lentDesk, feeding}
-use Rattle.script_rules.proofs.Feeding.{feeding-over, feeding-full, feeding-on, feeds-short, feeds-long, kept-within}
+use Rattle.script_rules.proofs.Feeding.{feeds-short, feeds-long}
+use Rattle.console.proofs.Bytes.{feeding-over, feeding-full, feeding-on, kept-within}
 use Rattle.console.specs.Meanings.{heldLine}
 use borrow.Author.Needs.{needs}
 use Rattle.console.proofs.feed.feed.Statement.{statement}

@@ -1,5 +1,5 @@
 -- There is no room, no line has begun, or the line is answered.
-use Rattle.script_rules.proofs.Feeding.{ends-short, ends-none, ends-line}
+use Rattle.script_rules.proofs.Ending.{ends-short, ends-none, ends-line}
 use native.Mathlib.Omega.{arith}
 use Rattle.console.proofs.Turns.{turn-within}
 use borrow.Author.Needs.{needs}

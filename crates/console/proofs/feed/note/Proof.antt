@@ -1,13 +1,14 @@
 -- The line is full, or the byte goes to its end.
+use native.Mathlib.Omega.{arith}
 use borrow.Author.Tests.{lt-ltb, le-ltb}
-use Rattle.script_rules.specs.Feeding.{noted}
+use Rattle.script_rules.specs.Feeding.{width, noted}
 use borrow.Author.Needs.{needs}
 use Rattle.console.proofs.feed.note.Statement.{statement}
 use Rattle.console.proofs.feed.note.Tie as tie
 
 returns : tie.Need-returns
 unfolding noted
-returns c = simp (le-ltb _ _ (c .if1 .taken))
+returns c = simp (le-ltb (c .before .before .args .line .count) width (omega arith))
 
 array-write-bytes : tie.Need-array-write-bytes
 array-write-bytes c = search needs
@@ -17,7 +18,7 @@ add-t9 c = search needs
 
 returns-2 : tie.Need-returns-2
 unfolding noted
-returns-2 c = simp (lt-ltb _ _ (c .if1 .left))
+returns-2 c = simp (lt-ltb (c .before .before .args .line .count) width (omega arith))
 
 pub note-spec : {M : Type 1} → statement M
 note-spec = tie.close (tie.spec returns array-write-bytes add-t9 returns-2)

@@ -1,5 +1,5 @@
 -- A newline ends the line, any other byte goes to it.
-use Rattle.script_rules.proofs.Feeding.{byte-newline, byte-other}
+use Rattle.console.proofs.Bytes.{byte-newline, byte-other}
 use borrow.Author.Needs.{needs}
 use Rattle.console.proofs.feed.take_byte.Statement.{statement}
 use Rattle.console.proofs.feed.take_byte.Tie as tie

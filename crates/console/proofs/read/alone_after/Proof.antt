@@ -1,7 +1,7 @@
 -- The line ends there, or it goes on.
 use mathlib.Core.Path.{sym}
 use denote.Ref.{now}
-use Rattle.script_rules.proofs.Reading.{alone-end, alone-more}
+use Rattle.console.proofs.Reading.{alone-end, alone-more}
 use Rattle.console.specs.Phrases.{commandOf}
 use Rattle.console.proofs.read.alone_after.Statement.{statement}
 use Rattle.console.proofs.read.alone_after.Tie as tie

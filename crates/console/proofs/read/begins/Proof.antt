@@ -4,7 +4,7 @@ use denote.Ref.{now}
 use Prim.Native.Nat.{_≤_, _-_}
 use lib.ListN.{length, drop}
 use Rattle.script_rules.specs.Text.{startsWith}
-use Rattle.script_rules.proofs.Reading.{begins-all, begins-short, begins-other, begins-on}
+use Rattle.console.proofs.Reading.{begins-all, begins-short, begins-other, begins-on}
 use borrow.Author.Needs.{needs}
 use Rattle.console.proofs.read.begins.Statement.{statement}
 use Rattle.console.proofs.read.begins.Tie as tie

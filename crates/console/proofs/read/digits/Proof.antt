@@ -4,7 +4,7 @@ use denote.Ref.{now}
 use Prim.Native.Nat.{_<_, _-_, _^_}
 use lib.ListN.{length, drop}
 use Rattle.script_rules.specs.Text.{readOn}
-use Rattle.script_rules.proofs.Reading.{on-end, on-low, on-high, on-wide, on-digit}
+use Rattle.console.proofs.Reading.{on-end, on-low, on-high, on-wide, on-digit}
 use borrow.Author.Needs.{needs}
 use Rattle.console.proofs.read.digits.Statement.{statement}
 use Rattle.console.proofs.read.digits.Tie as tie

@@ -1,7 +1,7 @@
 -- Each way out is a law of the number that stands at the place.
 use mathlib.Core.Path.{sym, _∙_}
 use denote.Ref.{now}
-use Rattle.script_rules.proofs.Reading.{number-end, number-zero, number-low, number-high, number-digit}
+use Rattle.console.proofs.Reading.{number-end, number-zero, number-low, number-high, number-digit}
 use borrow.Author.Needs.{needs}
 use Rattle.console.proofs.read.first_number.Statement.{statement}
 use Rattle.console.proofs.read.first_number.Tie as tie

@@ -3,7 +3,7 @@ use mathlib.Core.Path.{sym, ap, _∙_}
 use denote.Ref.{now}
 use native.Mathlib.Omega.{arith}
 use Rattle.script_rules.specs.Commands.{most32}
-use Rattle.script_rules.proofs.Reading.{alone-end, alone-more}
+use Rattle.console.proofs.Reading.{alone-end, alone-more}
 use Rattle.script_rules.proofs.Meaning.{number-bound}
 use Rattle.console.specs.Phrases.{readOf}
 use Rattle.console.proofs.Lines.{mark-none, mark-all}

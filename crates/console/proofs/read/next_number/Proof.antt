@@ -1,7 +1,7 @@
 -- Each way out is a law of the byte that stands at the place.
 use mathlib.Core.Path.{sym, _∙_}
 use denote.Ref.{now}
-use Rattle.script_rules.proofs.Reading.{next-end, next-other, next-space}
+use Rattle.console.proofs.Reading.{next-end, next-other, next-space}
 use borrow.Author.Needs.{needs}
 use Rattle.console.proofs.read.next_number.Statement.{statement}
 use Rattle.console.proofs.read.next_number.Tie as tie

@@ -1,7 +1,7 @@
 -- A number is missing, something follows them, or the two stand alone.
 use mathlib.Core.Path.{sym, ap, _∙_}
 use denote.Ref.{now}
-use Rattle.script_rules.proofs.Reading.{alone-end, alone-more}
+use Rattle.console.proofs.Reading.{alone-end, alone-more}
 use Rattle.console.specs.Phrases.{readOf}
 use Rattle.console.proofs.Lines.{pair-none, pair-one, pair-all}
 use borrow.Author.Needs.{needs}
