@@ -1,18 +1,17 @@
 -- What find, lookup and the walk answer is one of at most 4,096 slots, Nothing or a refusal without a value; so its word tells which.
-use mathlib.Core.Path.{_≡_, refl, ap, sym, _∙_}
-use mathlib.Core.Logic.{_↔_}
+use mathlib.Core.Path.{_≡_, refl, sym, _∙_}
+use mathlib.Core.Logic.{_≢_}
 use mathlib.Core.Bool.{Bool, true, false, false≢true}
 use mathlib.Core.List.{List}
 use Prim.Native.Nat.{ℕ, zero, suc, _+_, _-_, _<_, _≤_}
-use native.Mathlib.Decide.{ℕ-discrete}
 use native.Mathlib.Omega.{arith}
 use lib.ListN.{length}
 use lib.Dec.{eqb, leb, ltb}
-use borrow.Author.Tests.{leb-false, ltb-true, eq-eqb, ne-eqb}
+use borrow.Author.Tests.{leb-false, ltb-true}
 use Rattle.slots.specs.Words.{null, pick, next, cell}
-use Rattle.slots.specs.Answers.{Answer, given, nothing, refused}
+use Rattle.slots.specs.Answers.{Answer, given, nothing, refused, answerWord}
 use Rattle.slots.proofs.Laws.{number, given-is, nothing-given}
-use Rattle.tree_rules.specs.Find.{Look, here, on, Search, lookedThen, slotsOf, looked, searched, found}
+use Rattle.tree_rules.specs.Find.{Look, here, on, Search, counted, lookedThen, slotsOf, looked, searched, found}
 use Rattle.index_rules.specs.Live.{Unsized, rootWord, fitsUnsized}
 use Rattle.index_rules.specs.Find.{finds}
 use Rattle.index_rules.proofs.Fit.{unsized-fits, fits-unsized}
@@ -25,28 +24,27 @@ use Rattle.set_rules.proofs.Naming.{ranges}
 use Rattle.set_rules.specs.Lookup.{listLook, soughtInList, homeBin, asked, forwarded, lookups}
 use Rattle.set_rules.specs.Cursor.{Cursor, Step, fineCursor}
 use Rattle.set_rules.specs.Walk.{WalkPlace, deepest, binHere, Sought, entered, sought, turnsIn, stepped, standing, stepsOn, nexts}
-use Rattle.slots.specs.Answers.{answerWord}
 use Rattle.exports.specs.Words.{searchWord}
-use Rattle.exports.specs.Cursors.{cursorIn}
-use Rattle.exports.specs.Cursors.{walkedInto as walkedWords}
-use Rattle.exports.specs.Claims.{Tells, TellsLooks}
+use Rattle.exports.specs.Told as T
+use Rattle.exports.specs.Told.{Valued, gives, LooksTold}
+use Rattle.exports.proofs.Telling.{answer-tells, told-below, looks-told}
 
 -- The three kinds of answer, where there are n slots.
 pub data Plain (n : ℕ) : Answer → Type 0 where
   slot : {x : ℕ} → x < n → Plain n (given x)
   none : Plain n nothing
-  refuses : {m : ℕ} → 1 ≤ m → m ≤ 11 → Plain n (refused m)
+  refuses : {m : ℕ} → 1 ≤ m → m ≤ 11 → m ≢ 3 → Plain n (refused m)
 
 more : {m n : ℕ} {a : Answer} → m ≤ n → Plain m a → Plain n a
 more l (slot {x = x} b) = slot {x = x} (omega arith)
 more l none = none
-more l (refuses b c) = refuses b c
+more l (refuses b c d) = refuses b c d
 
 nine : {n : ℕ} → Plain n (refused 9)
-nine = refuses {m = 9} (omega arith) (omega arith)
+nine = refuses {m = 9} (omega arith) (omega arith) (λ e. omega arith)
 
 -- What holds of both ways of a test holds of the test.
-picked : {A : Type 0} (P : A → Type 0) (b : Bool) {x y : A} → (b ≡ true → P x) → (b ≡ false → P y) → P (pick b x y)
+pub picked : {A : Type 0} (P : A → Type 0) (b : Bool) {x y : A} → (b ≡ true → P x) → (b ≡ false → P y) → P (pick b x y)
 picked P true f g = f refl
 picked P false f g = g refl
 
@@ -91,7 +89,7 @@ finds-plain t hash key =
     picked Told (fitsUnsized t)
     (λ e. (let fit = fits-unsized t e in
     more (omega (arith, fit .two, fit .most)) (found-plain (t .names) (t .cells) hash key (rootWord (t .head)))))
-    (λ e. refuses {m = 1} (omega arith) (omega arith))
+    (λ e. refuses {m = 1} (omega arith) (omega arith) (λ e. omega arith))
 
 -- The loop over the tables.
 module _ (s : Set) (hash key : ℕ) where
@@ -116,8 +114,8 @@ unfolding lookups
 lookups-plain s t hash key =
     picked Told (setFits s)
     (λ e. picked Told (ltb t (tablesOf s)) (λ f. more (few s e) (forwarded-plain s hash key (tablesOf s - t) t))
-    (λ f. refuses {m = 10} (omega arith) (omega arith)))
-    (λ e. refuses {m = 1} (omega arith) (omega arith))
+    (λ f. refuses {m = 10} (omega arith) (omega arith) (λ e. omega arith)))
+    (λ e. refuses {m = 1} (omega arith) (omega arith) (λ e. omega arith))
 
 -- A step of the walk.
 module _ (s : Set) (c : Cursor) where
@@ -153,41 +151,23 @@ module _ (s : Set) (c : Cursor) where
   nexts-plain =
       picked (λ (r : Step). Plain 4096 (r .answer)) (setFits s)
       (λ e. picked (λ (r : Step). Plain 4096 (r .answer)) (fineCursor s c) (λ f. more (few s e) walked-plain)
-      (λ f. refuses {m = 11} (omega arith) (omega arith)))
-      (λ e. refuses {m = 1} (omega arith) (omega arith))
+      (λ f. refuses {m = 11} (omega arith) (omega arith) (λ e. omega arith)))
+      (λ e. refuses {m = 1} (omega arith) (omega arith) (λ e. omega arith))
 
--- The word of each kind tells it from the others.
-pub tells : {a : Answer} → Plain 4096 a → Tells a
-unfolding answerWord
-tells (slot {x = x} l) =
-    record {
-      below = λ i e. omega (arith, given-is e);
-      at = λ i b. (λ e. ap given (omega arith), λ e. omega (arith, given-is e));
-      none = (λ e. absurd (omega arith), λ e. absurd (nothing-given (sym e)));
-      refuses = λ n b. (λ e. absurd (omega arith), λ e. absurd (omega (arith, number e)));
-    }
-tells none =
-    record {
-      below = λ i e. absurd (nothing-given e);
-      at = λ i b. (λ e. absurd (omega arith), λ e. absurd (nothing-given e));
-      none = (λ e. refl, λ e. refl);
-      refuses = λ n b. (λ e. absurd (omega arith), λ e. absurd (omega (arith, number e)));
-    }
-tells (refuses {m = m} l k) =
-    let z : pick (eqb m 0) null 0 ≡ 0 = rw (ne-eqb m 0 (omega arith)) in
-    record {
-      below = λ i e. absurd (omega (arith, number e));
-      at = λ i b. (λ e. absurd (omega (arith, z)), λ e. absurd (omega (arith, number e)));
-      none = (λ e. absurd (omega (arith, z)), λ e. absurd (omega (arith, number e)));
-      refuses = λ n b. (λ e. ap refused (omega (arith, z)), λ e. omega (arith, z, number e));
-    }
+-- The value of each kind, and the bound of a slot.
+pub plain-valued : {a : Answer} → Plain 4096 a → (v : ℕ) × Valued null a v
+plain-valued (slot {x = x} l) = (x, gives {v = x} (omega arith))
+plain-valued none = (null, T.none (omega arith))
+plain-valued (refuses l k d) = (0, T.refuses l (omega arith) d)
 
--- Its word has 48 bits, so that looks stand above it.
+pub plain-below : {a : Answer} → Plain 4096 a → (x : ℕ) → a ≡ given x → x < 4096
+plain-below (slot l) x e = omega (arith, given-is e)
+plain-below none x e = absurd (nothing-given e)
+plain-below (refuses l k d) x e = absurd (omega (arith, number e))
+
+-- Its word has 48 bits.
 pub answer-below : {a : Answer} → Plain 4096 a → answerWord a < 281474976710656
-unfolding answerWord
-answer-below (slot l) = omega arith
-answer-below none = omega arith
-answer-below (refuses {m = m} l k) = let z : pick (eqb m 0) null 0 ≡ 0 = rw (ne-eqb m 0 (omega arith)) in omega (arith, z)
+answer-below p = told-below (answer-tells (plain-valued p .1))
 
 pub finds-looks : (t : Unsized) (hash key : ℕ) → length (finds t hash key .looks) ≤ 4096
 finds-looks t hash key = go (fitsUnsized t) refl
@@ -203,26 +183,10 @@ lookups-looks s t hash key = go (setFits s) refl
     go true e = omega (arith, few s e, lookups-claims s t hash key .most)
     go false e = rw (lookups-claims s t hash key .one-looks (λ fit. false≢true (sym e ∙ set-fits fit))) (omega arith)
 
-pub tells-looks : (s : Search) → Plain 4096 (s .answer) → length (s .looks) ≤ 4096 → TellsLooks s
-unfolding searchWord
-tells-looks s p l =
-    record {
-      tells = tells p;
-      low = omega (arith, answer-below p);
-      high = omega (arith, answer-below p);
-      within = l;
-    }
+pub find-tells : (t : Unsized) (hash key : ℕ) → LooksTold (finds t hash key) (searchWord (counted (finds t hash key)))
+find-tells t hash key =
+    let p = finds-plain t hash key in looks-told (finds t hash key) (plain-valued p .1) (plain-below p) (finds-looks t hash key)
 
--- Of the exported walk: a cursor of another length is 1, and else the word is the step's.
-one-not-null : answerWord (refused 1) ≡ null → ⊥
-unfolding answerWord
-one-not-null e = omega arith
-
-pub walk-done : (s : Set) (w : List ℕ) → (walkedWords s w .word ≡ null) ↔ ((length w ≡ 11) × (nexts s (cursorIn w) .answer ≡ nothing))
-unfolding walkedWords
-walk-done s w = go (ℕ-discrete (length w) 11) (tells (nexts-plain s (cursorIn w)) .none)
-  where
-    go : Dec (length w ≡ 11) → (answerWord (nexts s (cursorIn w) .answer) ≡ null) ↔ (nexts s (cursorIn w) .answer ≡ nothing)
-        → (walkedWords s w .word ≡ null) ↔ ((length w ≡ 11) × (nexts s (cursorIn w) .answer ≡ nothing))
-    go (yes e) t = (λ f. (e, t .0 (rw (eq-eqb (length w) 11 e) at f)), λ f. rw (eq-eqb (length w) 11 e) (t .1 (f .1)))
-    go (no n) t = (λ f. absurd (one-not-null (rw (ne-eqb (length w) 11 n) at f)), λ f. absurd (n (f .0)))
+pub lookup-tells : (s : Set) (t hash key : ℕ) → LooksTold (lookups s t hash key) (searchWord (counted (lookups s t hash key)))
+lookup-tells s t hash key =
+    let p = lookups-plain s t hash key in looks-told (lookups s t hash key) (plain-valued p .1) (plain-below p) (lookups-looks s t hash key)

@@ -2,17 +2,47 @@
 use mathlib.Core.Path.{sym, _∙_}
 use native.Mathlib.Omega.{arith}
 use Rattle.exports.specs.Claims.{Claims}
-use Rattle.exports.proofs.Answering.{finds-plain, lookups-plain, nexts-plain, finds-looks, lookups-looks, tells, tells-looks}
-use Rattle.exports.proofs.Answering.{walk-done}
+use Rattle.exports.proofs.Telling.{answers-apart, one-word, answer-tells, check-tells, worded-tells}
+use Rattle.exports.proofs.Answering.{find-tells, lookup-tells}
+use Rattle.exports.proofs.Giving.{inserts-valued, removes-valued, replaces-valued, rolls-valued, freshes-valued, sounds-valued}
+use Rattle.exports.proofs.Giving.{kths-valued, positions-valued, accepts-valued, checks-valued, batch-told}
+use Rattle.exports.proofs.Holding.{cursor-words, start-tells, walk-tells, walk-lists, walk-whole, walk-done}
+use Rattle.exports.proofs.Saying.{reader-words, reader-one}
+use Rattle.exports.proofs.Calling.{started, chunk-told, end-told, read-none, continued, uploaded}
 
 pub claims : Claims
 claims =
     record {
       numbers-apart = λ m n v w a b e. omega arith;
       values-apart = λ m n v w a b e. omega arith;
-      find-tells = λ t hash key. tells-looks _ (finds-plain t hash key) (finds-looks t hash key);
-      lookup-tells = λ s table hash key. tells-looks _ (lookups-plain s table hash key) (lookups-looks s table hash key);
-      walk-tells = λ s c. tells (nexts-plain s c);
+      answers-apart = answers-apart;
+      one-word = one-word;
+      find-tells = find-tells;
+      check-tells = λ t. check-tells (checks-valued t .1);
+      sound-tells = λ t. answer-tells (sounds-valued t .1);
+      kth-tells = λ t k. answer-tells (kths-valued t k .1);
+      position-tells = λ t hash key. answer-tells (positions-valued t hash key .1);
+      insert-tells = λ ix hash key place. worded-tells _ (inserts-valued ix hash key place .1);
+      remove-tells = λ ix hash key. worded-tells _ (removes-valued ix hash key .1);
+      replace-tells = λ ix hash key place. worded-tells _ (replaces-valued ix hash key place .1);
+      fresh-tells = λ ix. worded-tells _ (freshes-valued ix .1);
+      rollback-tells = λ ix mark. worded-tells _ (rolls-valued ix mark .1);
+      batch-tells = batch-told;
+      accept-tells = λ s. answer-tells (accepts-valued s .1);
+      lookup-tells = lookup-tells;
+      reader-words = reader-words;
+      reader-one = reader-one;
+      read-start = started;
+      read-chunk = λ ix w l k r h. chunk-told ix w r h k;
+      read-end = end-told;
+      read-none = read-none;
+      reading = continued;
+      uploading = uploaded;
+      cursor-words = cursor-words;
+      start-tells = start-tells;
+      walk-tells = walk-tells;
+      walk-lists = walk-lists;
+      walk-whole = walk-whole;
       walk-done = walk-done;
       find-one = λ t hash key a b p q. p ∙ sym q;
       check-one = λ t a b p q. p ∙ sym q;

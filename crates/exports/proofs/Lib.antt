@@ -1,5 +1,9 @@
 pub mod Telling
+pub mod Answering
+pub mod Giving
+pub mod Holding
+pub mod Saying
+pub mod Calling
 pub mod Keeping
 pub mod Reading
-pub mod Answering
 pub mod Claims

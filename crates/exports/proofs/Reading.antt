@@ -1,19 +1,17 @@
 -- A reader's words, read and written, and what a call over them comes to.
-use mathlib.Core.Path.{_≡_, refl, ap, sym, _∙_}
+use mathlib.Core.Path.{_≡_, ap, sym, _∙_}
 use mathlib.Core.Logic.{_≢_}
 use mathlib.Core.List.{List}
 use Prim.Native.Nat.{ℕ, _+_, _*_, _<_, _≤_}
 use native.Mathlib.Omega.{arith}
 use lib.ListN.{length, getD, set}
-use lib.Dec.{eqb, ltb}
 use borrow.Author.Tests.{eq-eqb, ne-eqb, lt-ltb, le-ltb}
-use Rattle.slots.specs.Words.{pick}
-use Rattle.slots.specs.Answers.{Answer, refused, answerWord}
+use Rattle.slots.specs.Answers.{Answer, answerWord}
 use Rattle.index_rules.specs.Index.{Index}
 use Rattle.upload_rules.specs.Reader.{Note, Reader, readerOf, newReader}
 use Rattle.upload_rules.specs.Reading.{session, ReadOutcome, readOutcome, readStart, readChunk, readEnd}
 use Rattle.reader.specs.Notes.{NoteSaid, known, unknown, noteWord, noteAt}
-use Rattle.exports.specs.Readers.{ReaderSaid, saying, sayingNone, withNote, readerIn, readerWritten, ReadWorded, readWorded}
+use Rattle.exports.specs.Readers.{ReaderSaid, saying, sayingNone, withNote, readerIn, readerWritten, readWorded}
 use Rattle.exports.specs.Readers.{startedReader, readInto, chunkRead, endedReader}
 
 -- What stands in the words.

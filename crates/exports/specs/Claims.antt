@@ -1,18 +1,20 @@
--- What crate `exports` proves beside its contracts: a word has one number and one value, it tells which answer it is, and each exported
--- routine has one outcome.
+-- What crate `exports` proves beside its contracts: a word has one number and one value, it tells which answer it is, the words of a reader
+-- and of a cursor are what the rules' tables say, and each exported routine has one outcome.
 use mathlib.Core.Path.{_≡_}
 use mathlib.Core.Logic.{_↔_}
 use mathlib.Core.List.{List}
-use Prim.Native.Nat.{ℕ, _+_, _*_, _/_, _%_, _<_, _≤_}
+use Prim.Native.Nat.{ℕ, _+_, _*_, _<_}
 use lib.ListN.{length}
-use Rattle.slots.specs.Words.{null, mostSlots}
-use Rattle.slots.specs.Answers.{Answer, given, nothing, refused, OneAnswer}
-use Rattle.tree_rules.specs.Find.{Search, counted}
+use Rattle.slots.specs.Words.{null}
+use Rattle.slots.specs.Answers.{Answer, nothing, answerWord, OneAnswer}
+use Rattle.tree_rules.specs.Find.{counted}
 use Rattle.index_rules.specs.Live.{Live, Unsized}
-use Rattle.index_rules.specs.Index.{Index}
+use Rattle.index_rules.specs.Index.{Index, FitIndex}
 use Rattle.index_rules.specs.Find.{finds}
 use Rattle.index_rules.specs.Check.{checks}
-use Rattle.index_rules.specs.Sound.{sounds}
+use Rattle.index_rules.specs.Sound.{Sound, sounds}
+use Rattle.index_rules.specs.Contents.{contents}
+use Rattle.index_rules.specs.Calls.{Places}
 use Rattle.index_rules.specs.Ranks.{kths, positions}
 use Rattle.index_rules.specs.Insert.{inserts}
 use Rattle.index_rules.specs.Remove.{removes}
@@ -20,38 +22,66 @@ use Rattle.index_rules.specs.Replace.{replaces}
 use Rattle.index_rules.specs.Rollback.{rolls}
 use Rattle.index_rules.specs.Batch.{batches}
 use Rattle.index_rules.specs.Fresh.{freshes}
-use Rattle.set_rules.specs.Words.{Set}
+use Rattle.set_rules.specs.Words.{Set, Fit, tablesOf}
+use Rattle.set_rules.specs.Accepted.{Accepted}
 use Rattle.set_rules.specs.Accepting.{accepts}
 use Rattle.set_rules.specs.Lookup.{lookups}
 use Rattle.set_rules.specs.Cursor.{Cursor}
 use Rattle.set_rules.specs.Walk.{nexts}
-use Rattle.slots.specs.Answers.{answerWord}
+use Rattle.set_rules.specs.Whole.{Listing}
+use Rattle.upload_rules.specs.Upload.{Bytes}
+use Rattle.upload_rules.specs.Reader.{Reader}
+use Rattle.upload_rules.specs.Reading.{session, readChunk, readEnd}
 use Rattle.exports.specs.Words.{searchWord, checkWord, Worded, worded, BatchWorded, batchWorded}
-use Rattle.exports.specs.Readers.{ReadWorded, startedReader, chunkRead, endedReader}
+use Rattle.exports.specs.Readers.{saying, readerIn, ReadWorded, startedReader, chunkRead, endedReader}
 use Rattle.exports.specs.Cursors.{cursorIn, Kept, startedInto, walkedInto}
-
--- The word of an answer tells which it is: a slot given is below 4,096, so that null is Nothing or Done alone.
-pub record Tells (a : Answer) : Type 0 where
-  pub below : (slot : ℕ) → a ≡ given slot → slot < mostSlots
-  pub at : (slot : ℕ) → slot < null → (answerWord a ≡ slot) ↔ (a ≡ given slot)
-  pub none : (answerWord a ≡ null) ↔ (a ≡ nothing)
-  pub refuses : (n : ℕ) → 1 ≤ n → (answerWord a ≡ 4294967296 * n) ↔ (a ≡ refused n)
-
--- The word of a search tells its answer and its looks: the low 48 bits are the answer's word, the 16 above them how many slots were
--- looked at.
-pub record TellsLooks (s : Search) : Type 0 where
-  pub tells : Tells (s .answer)
-  pub low : searchWord (counted s) % 281474976710656 ≡ answerWord (s .answer)
-  pub high : searchWord (counted s) / 281474976710656 ≡ length (s .looks)
-  pub within : length (s .looks) ≤ mostSlots
+use Rattle.exports.specs.Told.{WordTells, LooksTold}
+use Rattle.exports.specs.Lent.{ReaderWords, CursorWords}
+use Rattle.exports.specs.Leaving.{WritesTold, BatchTold, UnknownReader, StartTold, ReadTold, Continued, UploadTold, CursorMade}
+use Rattle.exports.specs.Leaving.{WalkTold, WordsListing, WordsWalk}
 
 pub record Claims : Type 0 where
   -- "The answer is value + 2^32 * number."
   pub numbers-apart : (m n v w : ℕ) → v < 4294967296 → w < 4294967296 → v + 4294967296 * m ≡ w + 4294967296 * n → m ≡ n
   pub values-apart : (m n v w : ℕ) → v < 4294967296 → w < 4294967296 → v + 4294967296 * m ≡ w + 4294967296 * n → v ≡ w
-  pub find-tells : (t : Unsized) (hash key : ℕ) → TellsLooks (finds t hash key)
-  pub lookup-tells : (s : Set) (table hash key : ℕ) → TellsLooks (lookups s table hash key)
-  pub walk-tells : (s : Set) (c : Cursor) → Tells (nexts s c .answer)
+  -- two answers with one word are one answer, and an answer has one word
+  pub answers-apart : {bare : ℕ} {a b : Answer} {word : ℕ} → WordTells bare a word → WordTells bare b word → a ≡ b
+  pub one-word : {bare : ℕ} {a : Answer} {v w : ℕ} → WordTells bare a v → WordTells bare a w → v ≡ w
+  -- what each word tells
+  pub find-tells : (t : Unsized) (hash key : ℕ) → LooksTold (finds t hash key) (searchWord (counted (finds t hash key)))
+  pub check-tells : (t : Unsized) → WordTells 0 (checks t) (checkWord (checks t))
+  pub sound-tells : (t : Live) → WordTells null (sounds t) (answerWord (sounds t))
+  pub kth-tells : (t : Live) (k : ℕ) → WordTells null (kths t k) (answerWord (kths t k))
+  pub position-tells : (t : Live) (hash key : ℕ) → WordTells null (positions t hash key) (answerWord (positions t hash key))
+  pub insert-tells : (ix : Index) (hash key place : ℕ) → WritesTold (inserts ix hash key place) (worded (inserts ix hash key place))
+  pub remove-tells : (ix : Index) (hash key : ℕ) → WritesTold (removes ix hash key) (worded (removes ix hash key))
+  pub replace-tells : (ix : Index) (hash key place : ℕ) → WritesTold (replaces ix hash key place) (worded (replaces ix hash key place))
+  pub fresh-tells : (ix : Index) → WritesTold (freshes ix) (worded (freshes ix))
+  pub rollback-tells : (ix : Index) (mark : ℕ) → WritesTold (rolls ix mark) (worded (rolls ix mark))
+  pub batch-tells : (ix : Index) (calls answers : List ℕ) → BatchTold ix calls answers
+  pub accept-tells : (s : Set) → WordTells null (accepts s) (answerWord (accepts s))
+  pub lookup-tells : (s : Set) (table hash key : ℕ)
+      → LooksTold (lookups s table hash key) (searchWord (counted (lookups s table hash key)))
+  -- the reader: the words say a reader exactly if they are that reader's by the table of section 12, and each call leaves such words
+  pub reader-words : (w : List ℕ) (r : Reader) → (readerIn w ≡ saying r) ↔ ReaderWords w r
+  pub reader-one : (v w : List ℕ) (r : Reader) → ReaderWords v r → ReaderWords w r → v ≡ w
+  pub read-start : (ix : Index) (w : List ℕ) → StartTold ix w
+  pub read-chunk : (ix : Index) (w l : List ℕ) → Bytes l → (r : Reader) → ReaderWords w r
+      → ReadTold (readChunk (session r ix) l) (chunkRead ix w l)
+  pub read-end : (ix : Index) (w : List ℕ) (r : Reader) → ReaderWords w r → ReadTold (readEnd (session r ix)) (endedReader ix w)
+  -- "out of them chunk and end answer 1, which is not noted, and change nothing"
+  pub read-none : (ix : Index) (w l : List ℕ) → ((r : Reader) → ReaderWords w r → ⊥)
+      → UnknownReader ix w (chunkRead ix w l) × UnknownReader ix w (endedReader ix w)
+  pub reading : (ix : Index) (w : List ℕ) → Continued ix w
+  pub uploading : (ix : Index) → FitIndex ix → (h : Sound (ix .live)) → Places (contents h) → (w : List ℕ) → length w ≡ 8
+      → (l : List ℕ) → Bytes l → UploadTold ix h w l
+  -- the cursor likewise
+  pub cursor-words : (w : List ℕ) → length w ≡ 11 → (c : Cursor) → (cursorIn w ≡ c) ↔ CursorWords w c
+  pub start-tells : (s : Set) (t : ℕ) (w : List ℕ) → CursorMade s t w
+  pub walk-tells : (s : Set) (w : List ℕ) → WalkTold s w
+  -- calls of the walk give what steps give, so a whole walk of an accepted set is what the rules say
+  pub walk-lists : (s : Set) (w : List ℕ) (c : Cursor) → CursorWords w c → (l : List ℕ) → WordsListing s w l ↔ Listing s c l
+  pub walk-whole : (s : Set) → Fit s → Accepted s → (t : ℕ) → t < tablesOf s → (w : List ℕ) → length w ≡ 11 → WordsWalk s t w
   -- null in the walk's word is Done, with a cursor of eleven words
   pub walk-done : (s : Set) (cursor : List ℕ)
       → (walkedInto s cursor .word ≡ null) ↔ ((length cursor ≡ 11) × (nexts s (cursorIn cursor) .answer ≡ nothing))

@@ -6,7 +6,7 @@ use lib.Dec.{eqb, ltb}
 use Rattle.slots.specs.Words.{pick}
 use Rattle.slots.specs.Answers.{refused, answerWord}
 use Rattle.index_rules.specs.Index.{Index}
-use Rattle.upload_rules.specs.Reader.{Note, Reader, readerOf, newReader}
+use Rattle.upload_rules.specs.Reader.{Reader, readerOf, newReader}
 use Rattle.upload_rules.specs.Reading.{session, ReadOutcome, readStart, readChunk, readEnd}
 use Rattle.reader.specs.Notes.{NoteSaid, known, unknown, noteWord, noteAt}
 

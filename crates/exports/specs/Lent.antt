@@ -1,0 +1,54 @@
+-- The reader and the cursor that words are, by the rules' tables: nothing here knows how they are read and written.
+use mathlib.Core.Path.{_≡_}
+use mathlib.Core.List.{List}
+use Prim.Native.Nat.{ℕ, _+_, _<_}
+use lib.ListN.{length, getD}
+use Rattle.slots.specs.Answers.{Answer, some, given, refused}
+use Rattle.set_rules.specs.Cursor.{Cursor}
+use Rattle.upload_rules.specs.Reader.{Note, unsaid, said, Reader}
+use Rattle.exports.specs.Told.{WordTells}
+
+-- An answer of the reader: "the entries taken since the start, or a refusal".
+pub data ReaderAnswer : Answer → Type 0 where
+  takes : {n : ℕ} → n < 4294967296 → ReaderAnswer (given n)
+  -- "3 with the slot of the pair at that point"
+  present : {x : ℕ} → x < 4294967296 → ReaderAnswer (record { number = 3; value = some x })
+  -- "18 Wrong kind, 3, 5, 6 as the insert gives them, 13 Long past section 4, 12 Short at the end call"
+  wrongKind : ReaderAnswer (refused 18)
+  full : ReaderAnswer (refused 5)
+  unlined : ReaderAnswer (refused 6)
+  long : ReaderAnswer (refused 13)
+  short : ReaderAnswer (refused 12)
+  -- "where the rollback is refused in turn, its 1, 2, 7 or 8"
+  unfit : ReaderAnswer (refused 1)
+  damaged : ReaderAnswer (refused 2)
+  badMark : ReaderAnswer (refused 7)
+  misfit : ReaderAnswer (refused 8)
+
+-- "0 while nothing is noted, else 1 + the answer word"
+pub data NoteTold : Note → ℕ → Type 0 where
+  nothing : NoteTold unsaid 0
+  noted : {a : Answer} {word : ℕ} → ReaderAnswer a → WordTells 4294967296 a word → NoteTold (said a) (1 + word)
+
+-- "The reader is eight words of 64 bits": "section", "got", "owed", "hash", "key", "mark", "taken", "note".
+pub record ReaderWords (w : List ℕ) (r : Reader) : Type 0 where
+  pub eight : length w ≡ 8
+  pub section : getD w 0 0 ≡ r .section
+  pub got : getD w 1 0 ≡ r .got
+  pub owed : getD w 2 0 ≡ r .owed
+  pub hash : getD w 3 0 ≡ r .hash
+  pub key : getD w 4 0 ≡ r .key
+  pub mark : getD w 5 0 ≡ r .mark
+  pub taken : getD w 6 0 ≡ r .taken
+  pub note : NoteTold (r .note) (getD w 7 0)
+  -- the mark is "any of 32 bits"
+  pub narrow : r .mark < 4294967296
+
+-- "A cursor is 11 words: base table, depth, eight indexes, last slot"
+pub record CursorWords (w : List ℕ) (c : Cursor) : Type 0 where
+  pub eleven : length w ≡ 11
+  pub base : getD w 0 0 ≡ c .base
+  pub depth : getD w 1 0 ≡ c .depth
+  pub eight : length (c .indexes) ≡ 8
+  pub indexes : (j : ℕ) → j < 8 → getD w (2 + j) 0 ≡ getD (c .indexes) j 0
+  pub last : getD w 10 0 ≡ c .last
