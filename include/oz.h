@@ -36,14 +36,15 @@
  * OZ_NULL, 0; sizes all 0; lines all 0. oz_fresh writes it.
  *
  * Answers. An answer is value + 2^32 * number + 2^48 * looks; oz_value, oz_number and oz_looks take it apart. Number 0
- * is no refusal. 1 to 13, 15 and 18 are refusals: the value is 0, with 3 a slot, and nothing was written, or an upload
- * taken back. Where several hold, the one that stands first in a routine's list below is given. A number above 100 is a
- * failing test of oz_check.
+ * is no refusal. 1 to 13, 15 and 18 are refusals: the value is 0, with 3 a slot, and nothing was written; what a refused
+ * chunk or end call of an upload leaves stands with oz_read_chunk. Where several hold, the one that stands first in a
+ * routine's list below is given. A number above 100 is a failing test of oz_check.
  * Looks are how many slots oz_find or oz_lookup read the hash of, on a hit, on OZ_NULL and on 9; every other answer has
  * 0.
  *
- * Stack, as measured with a tree of 4,096 slots in one line: oz_check 709 KiB, since it follows the links as deep as
- * they go; oz_rollback 224 KiB, since it keeps the tree's words and its sizes aside; the others under 64 KiB.
+ * Stack, as measured: oz_check 709 KiB on 4,096 slots in one line, since it follows the links as deep as they go;
+ * oz_rollback 198 KiB, since it keeps the tree's words and its sizes aside, and oz_read_chunk and oz_read_end 201 KiB where
+ * they refuse, since they roll back; the others under 64 KiB.
  */
 #ifndef OZ_H
 #define OZ_H
@@ -133,8 +134,9 @@ uint64_t oz_read_start(const uint64_t *names, size_t names_len, const uint32_t *
  * in the upload as place; answers the entries taken since the start. Wherever an upload is cut, the answers and all words
  * are the same. Refusals 18, 13, and 3 with the slot, 5, 6 as oz_insert gives them: everything since the start is then rolled
  * back, the answer is noted in the reader, and every later chunk and end call give it again and change nothing. 1, 2, 7 or 8
- * where somebody else wrote the slices, so that the rollback is refused; 1 also for a reader that is not 8 words or whose
- * words are out of their ranges, which is not noted and changes nothing. */
+ * where somebody else wrote the slices, so that the rollback is refused: it then writes nothing, and what this chunk and
+ * those before it inserted stays; 7 also where the journal's length is below the mark + the entries taken. 1 also for a reader
+ * that is not 8 words or whose words are out of their ranges, which is not noted and changes nothing. */
 uint64_t oz_read_chunk(uint64_t *names, size_t names_len, uint32_t *cells, size_t cells_len, uint32_t *head,
                        size_t head_len, uint32_t *sizes, size_t sizes_len, uint64_t *lines, size_t lines_len,
                        uint64_t *reader, size_t reader_len, const uint8_t *chunk, size_t chunk_len);
