@@ -1,0 +1,16 @@
+pub mod Leading
+pub mod Slots
+pub mod Standing
+pub mod Seated
+pub mod Chained
+pub mod Parts
+pub mod Levels
+pub mod Testing
+pub mod Colours
+pub mod Listed
+pub mod Ordering
+pub mod Sizes
+pub mod Ways
+pub mod Telling
+pub mod Only
+pub mod Claims

@@ -1,0 +1,69 @@
+-- What crate `night_rules` proves, in one record. Every statement of the crate stands here.
+use mathlib.Core.Path.{_≡_}
+use mathlib.Core.Logic.{_≢_, _↔_}
+use mathlib.Core.Bool.{true}
+use mathlib.Core.List.{List}
+use Prim.Native.Nat.{ℕ, _<_}
+use lib.ListN.{length}
+use Rattle.slots.specs.Answers.{given, refused}
+use Rattle.tree_rules.specs.Find.{slotsOf}
+use Rattle.tree_rules.specs.Tree.{Tree}
+use Rattle.index_rules.specs.Live.{Live, Fit}
+use Rattle.index_rules.specs.Sound.{Sound, T1, T2, T3, T4, T5, T6, T7, T8, sounds}
+use Rattle.night_rules.specs.Account.{Account, tellsSound, shownWords}
+use Rattle.night_rules.specs.Shows.{Shows1, Header1, Shows3, Shows4, Shows5, Shows6, Shows7, Shows8}
+use Rattle.night_rules.specs.Reason.{Reason}
+use Rattle.night_rules.specs.Why.{shows1, shows3, shows4, shows5, shows6, shows7, shows8, why, whys}
+
+-- "Given the rules before it, a rule holds exactly if no slot, nor the header, shows it broken." T4 to T6 and T8 are asked of the tree that
+-- has T3.
+pub record Complete (t : Live) : Type 0 where
+  pub one : T1 t ↔ (((i : ℕ) → Shows1 t i → ⊥) × (Header1 t → ⊥))
+  pub three : T1 t → T2 t → ((tree : Tree) × T3 t tree) ↔ ((i : ℕ) → Shows3 t i → ⊥)
+  pub four : {tree : Tree} → T3 t tree → T4 t tree ↔ ((i : ℕ) → Shows4 t tree i → ⊥)
+  pub five : {tree : Tree} → T3 t tree → T5 tree ↔ ((i : ℕ) → Shows5 t i → ⊥)
+  pub six : {tree : Tree} → T3 t tree → T6 tree ↔ ((i : ℕ) → Shows6 t i → ⊥)
+  pub seven : T1 t → T2 t → ((chain : List ℕ) × T7 t chain) ↔ ((i : ℕ) → Shows7 t i → ⊥)
+  pub eight : T1 t → {tree : Tree} → T3 t tree → T8 t tree ↔ ((i : ℕ) → Shows8 t tree i → ⊥)
+
+-- The test of one slot is true exactly where the slot shows the rule broken.
+pub record Tested (t : Live) (i : ℕ) : Type 0 where
+  pub one : (shows1 t i ≡ true) ↔ Shows1 t i
+  pub three : T1 t → (shows3 t i ≡ true) ↔ Shows3 t i
+  pub four : {tree : Tree} → T3 t tree → (shows4 t i ≡ true) ↔ Shows4 t tree i
+  pub five : (shows5 t i ≡ true) ↔ Shows5 t i
+  pub six : {tree : Tree} → T3 t tree → (shows6 t i ≡ true) ↔ Shows6 t i
+  pub seven : T1 t → (shows7 t i ≡ true) ↔ Shows7 t i
+  pub eight : T1 t → {tree : Tree} → T3 t tree → (shows8 t i ≡ true) ↔ Shows8 t tree i
+
+-- What is told of a tree whose slices fit.
+pub record Reasons (t : Live) : Type 0 where
+  -- nothing but that it is sound, exactly of a sound tree
+  pub sound : (why t ≡ tellsSound) ↔ Sound t
+  pub number : (why t .rule ≡ 0) ↔ Sound t
+  -- else a true reason, and there is no other
+  pub reason : (Sound t → ⊥) → Reason t (why t)
+  pub only : (w : Account) → Reason t w → w ≡ why t
+  -- "two reasons of one tree are equal", and a sound tree has none
+  pub one-reason : (w v : Account) → Reason t w → Reason t v → w ≡ v
+  pub no-reason : Sound t → (w : Account) → Reason t w → ⊥
+
+-- The call on any words: "Refusals: 1 only".
+pub record Whys (t : Live) (shown : List ℕ) : Type 0 where
+  -- "1 where the tree's slices do not fit or `shown` is not eight words, and `shown` stays as it was"
+  pub one : (whys t shown .answer ≡ refused 1) ↔ ((Fit t × (length shown ≡ 8)) → ⊥)
+  pub stays : whys t shown .answer ≡ refused 1 → whys t shown .shown ≡ shown
+  pub only-one : (m : ℕ) → m ≢ 0 → whys t shown .answer .number ≡ m → whys t shown .answer ≡ refused 1
+  -- 0 exactly where the full check says yes
+  pub sound : (whys t shown .answer ≡ given 0) ↔ ((length shown ≡ 8) × (sounds t ≡ given 1))
+  -- "for a sound tree all eight are" null
+  pub nulls : whys t shown .answer ≡ given 0 → whys t shown .shown ≡ shownWords tellsSound
+  -- else the number and the words of the one true reason
+  pub reason : (k : ℕ) → whys t shown .answer ≡ given k → k ≢ 0
+      → (w : Account) × Reason t w × (w .rule ≡ k) × (whys t shown .shown ≡ shownWords w)
+
+pub record Claims : Type 0 where
+  pub complete : (t : Live) → Fit t → Complete t
+  pub tested : (t : Live) → Fit t → (i : ℕ) → i < slotsOf (t .names) → Tested t i
+  pub reasons : (t : Live) → Fit t → Reasons t
+  pub whys : (t : Live) (shown : List ℕ) → Whys t shown

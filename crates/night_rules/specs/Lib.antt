@@ -1,0 +1,5 @@
+pub mod Account
+pub mod Shows
+pub mod Reason
+pub mod Why
+pub mod Claims
