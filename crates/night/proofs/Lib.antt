@@ -1,0 +1,4 @@
+pub mod Stepping
+pub mod Parts
+pub mod Sought
+pub mod Claims

@@ -1,0 +1,4 @@
+pub mod Shown
+pub mod Told
+pub mod Whys
+pub mod Claims
