@@ -73,7 +73,8 @@ pub(crate) fn lowest(
 // What is told with the lowest slot of a rule.
 fn tell(rule: u32, names: &[u64], cells: &[u32], i: u32) -> Account
     requires { ⌜ length (now names) ≤ mostNames ⌝ }
-    ensures { λ r. ⌜ ((head sizes : List ℕ) → accountOf r ≡ told rule (lentTree (now (names .entry)) (now (cells .entry)) head sizes) i) ⌝ }
+    ensures { λ r. ⌜ ((head sizes : List ℕ) → accountOf r
+        ≡ told rule (lentTree (now (names .entry)) (now (cells .entry)) head sizes) i) ⌝ }
 {
     let n = names.len() / 2;
     if rule == 4 {
