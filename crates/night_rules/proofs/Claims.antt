@@ -16,7 +16,7 @@ use Rattle.index_rules.proofs.Sounding.{sound-claims}
 use Rattle.night_rules.specs.Account.{Account, tellsSound, shownWords, Explained, explained}
 use Rattle.night_rules.specs.Reason.{Reason}
 use Rattle.night_rules.specs.Why.{why, whys}
-use Rattle.night_rules.specs.Claims.{Reasons, Whys, Claims}
+use Rattle.night_rules.specs.Claims.{ShownTable, Reasons, Whys, Claims}
 use Rattle.night_rules.proofs.Standing.{three-complete}
 use Rattle.night_rules.proofs.Seated.{three-none}
 use Rattle.night_rules.proofs.Chained.{seven-complete, seven-none}
@@ -120,6 +120,17 @@ module _ (t : Live) (shown : List ℕ) where
           let z = given-is e in
           (why t, reasoned f (λ s. m (sym z ∙ ap (λ (w : Account). w .rule) (told-sound f s))), z, refl)
 
+-- Each word of what is told.
+table : ShownTable
+table =
+    record {
+      slot = λ rule i. (refl, refl);
+      header = λ rule. (refl, refl);
+      pair = λ i j. (refl, refl);
+      ways = λ i w v. (refl, refl);
+      sound = (refl, refl);
+    }
+
 pub claims : Claims
 claims =
     record {
@@ -141,6 +152,7 @@ claims =
         seven = λ one. seven-tests fit one i l;
         eight = λ one three. eight-tests fit one three i l;
       };
+      shown = table;
       reasons = λ t fit. reason-claims fit;
       whys = why-claims;
     }

@@ -2,15 +2,16 @@
 use mathlib.Core.Path.{_≡_}
 use mathlib.Core.Logic.{_≢_, _↔_}
 use mathlib.Core.Bool.{true}
-use mathlib.Core.List.{List}
+use mathlib.Core.List.{List, [], _∷_}
 use Prim.Native.Nat.{ℕ, _<_}
 use lib.ListN.{length}
+use Rattle.slots.specs.Words.{null}
 use Rattle.slots.specs.Answers.{given, refused}
 use Rattle.tree_rules.specs.Find.{slotsOf}
 use Rattle.tree_rules.specs.Tree.{Tree}
 use Rattle.index_rules.specs.Live.{Live, Fit}
 use Rattle.index_rules.specs.Sound.{Sound, T1, T2, T3, T4, T5, T6, T7, T8, sounds}
-use Rattle.night_rules.specs.Account.{Account, tellsSound, shownWords}
+use Rattle.night_rules.specs.Account.{WayDown, Account, tellsSlot, tellsHeader, tellsPair, tellsWays, tellsSound, shownWords}
 use Rattle.night_rules.specs.Shows.{Shows1, Header1, Shows3, Shows4, Shows5, Shows6, Shows7, Shows8}
 use Rattle.night_rules.specs.Reason.{Reason}
 use Rattle.night_rules.specs.Why.{shows1, shows3, shows4, shows5, shows6, shows7, shows8, why, whys}
@@ -35,6 +36,23 @@ pub record Tested (t : Live) (i : ℕ) : Type 0 where
   pub six : {tree : Tree} → T3 t tree → (shows6 t i ≡ true) ↔ Shows6 t i
   pub seven : T1 t → (shows7 t i ≡ true) ↔ Shows7 t i
   pub eight : T1 t → {tree : Tree} → T3 t tree → (shows8 t i ≡ true) ↔ Shows8 t tree i
+
+-- Eight words in a row.
+abbrev pub eightWords : ℕ → ℕ → ℕ → ℕ → ℕ → ℕ → ℕ → ℕ → List ℕ
+eightWords a b c d e f g h = a ∷ (b ∷ (c ∷ (d ∷ (e ∷ (f ∷ (g ∷ (h ∷ [])))))))
+
+-- "Slot, other, then two ways, each its last slot, side, blacks", word by word, and "words of `shown` that say nothing are null".
+pub record ShownTable : Type 0 where
+  pub slot : (rule i : ℕ)
+      → (tellsSlot rule i .rule ≡ rule) × (shownWords (tellsSlot rule i) ≡ eightWords i null null null null null null null)
+  pub header : (rule : ℕ)
+      → (tellsHeader rule .rule ≡ rule) × (shownWords (tellsHeader rule) ≡ eightWords null null null null null null null null)
+  -- "`other` is that next slot"
+  pub pair : (i j : ℕ) → (tellsPair i j .rule ≡ 4) × (shownWords (tellsPair i j) ≡ eightWords i j null null null null null null)
+  -- "The first way goes by the left link, the second by the right."
+  pub ways : (i : ℕ) (w v : WayDown) → (tellsWays i w v .rule ≡ 6)
+      × (shownWords (tellsWays i w v) ≡ eightWords i null (w .last) (w .side) (w .blacks) (v .last) (v .side) (v .blacks))
+  pub sound : (tellsSound .rule ≡ 0) × (shownWords tellsSound ≡ eightWords null null null null null null null null)
 
 -- What is told of a tree whose slices fit.
 pub record Reasons (t : Live) : Type 0 where
@@ -65,5 +83,6 @@ pub record Whys (t : Live) (shown : List ℕ) : Type 0 where
 pub record Claims : Type 0 where
   pub complete : (t : Live) → Fit t → Complete t
   pub tested : (t : Live) → Fit t → (i : ℕ) → i < slotsOf (t .names) → Tested t i
+  pub shown : ShownTable
   pub reasons : (t : Live) → Fit t → Reasons t
   pub whys : (t : Live) (shown : List ℕ) → Whys t shown
