@@ -16,6 +16,8 @@
  *                         pair before. Kind is 1 insert, 2 remove, 2 + 2^32 remove of a pair that stood right behind
  *                         another in the chain, which is then the pair before, 3 replace; but for 2 + 2^32 the pair
  *                         before is 0, 0. The place of a replace is the new place + 2^32 * the old one
+ *   shown    u32, 8       of oz_why: slot, other, then two ways down, each its last slot, side (0 left, 1 right) and black
+ *                         slots; OZ_NULL where a word says nothing
  *   calls    u64, 4 each  of a batch, per call: kind (1 insert, 2 remove, 3 replace), hash, key, place
  *   answers  u64          of a batch: a word for each call, what the single call would answer
  *   reader   u64, 8       of an upload: the caller keeps them between the calls and writes none. Sections that are whole;
@@ -155,6 +157,15 @@ uint64_t oz_check(const uint64_t *names, size_t names_len, const uint32_t *cells
 /* The full check: 1 exactly if the tree is sound, its sizes included, else 0. Refusal 1. */
 uint64_t oz_sound(const uint64_t *names, size_t names_len, const uint32_t *cells, size_t cells_len,
                   const uint32_t *head, size_t head_len, const uint32_t *sizes, size_t sizes_len);
+
+/* Why the tree is not sound: the number of the first broken rule, 1 to 8 for T1 to T8, or 0 exactly if the tree is sound.
+ * shown[0] is the lowest slot that shows it, OZ_NULL where only the header does (T1, T2); with 4 shown[1] is the slot next in
+ * order, whose pair is not above. With 6 two ways from the root by that slot meet unequally many black slots, the first by its
+ * left link and the second by its right: shown[2] and shown[5] are their last slots, shown[3] and shown[6] the sides of the
+ * null links that they end at, shown[4] and shown[7] the black slots. Every other word, and each for a sound tree, is OZ_NULL.
+ * Refusal 1 (for a shown that is not 8 words, too), with shown as it was; nothing else is written. */
+uint64_t oz_why(const uint64_t *names, size_t names_len, const uint32_t *cells, size_t cells_len, const uint32_t *head,
+                size_t head_len, const uint32_t *sizes, size_t sizes_len, uint32_t *shown, size_t shown_len);
 
 /* The slot of the pair at position k in order, by hash and then key, counted from 0. Refusals 1, 2, 15 where k is not
  * below the count. */

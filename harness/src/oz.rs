@@ -70,6 +70,7 @@ export!(oz_read_end read_end
 );
 export!(oz_check check names: &[u64], cells: &[u32], head: &[u32],);
 export!(oz_sound sound names: &[u64], cells: &[u32], head: &[u32], sizes: &[u32],);
+export!(oz_why why names: &[u64], cells: &[u32], head: &[u32], sizes: &[u32], shown: &mut [u32],);
 export!(oz_kth kth names: &[u64], cells: &[u32], head: &[u32], sizes: &[u32], k: u32,);
 export!(oz_position position names: &[u64], cells: &[u32], head: &[u32], sizes: &[u32], hash: u64, key: u64,);
 export!(oz_accept accept lengths: &[u32], bins: &[u32], heads: &[u32], names: &[u64], cells: &[u32],);
@@ -303,6 +304,11 @@ impl Index {
 
     pub fn sound(&self) -> Answer {
         sound(&self.names, &self.cells, &self.head, &self.sizes)
+    }
+
+    /// The number told, 0 where the tree is sound, and in eight words what shows it.
+    pub fn why(&self, shown: &mut [u32]) -> Answer {
+        why(&self.names, &self.cells, &self.head, &self.sizes, shown)
     }
 
     pub fn kth(&self, k: u32) -> Answer {

@@ -101,6 +101,10 @@ impl Live {
         oz::sound(self.names.get(), self.cells.get(), self.head.get(), self.sizes.get())
     }
 
+    fn why(&self, shown: &mut [u32]) -> oz::Answer {
+        oz::why(self.names.get(), self.cells.get(), self.head.get(), self.sizes.get(), shown)
+    }
+
     fn kth(&self, k: u32) -> oz::Answer {
         oz::kth(self.names.get(), self.cells.get(), self.head.get(), self.sizes.get(), k)
     }
@@ -454,6 +458,34 @@ fn read_any(rng: &mut Rng, l: &mut Live) -> (&'static str, oz::Answer, bool) {
     ("read_chunk", answer, cut == answer && *l == other && reader == words && l.guarded() && reader.guarded(G64))
 }
 
+/// What is told of a tree, by its number.
+const TOLD: [&str; 9] = ["why, sound,", "why, T1,", "why, T2,", "why, T3,", "why, T4,", "why, T5,", "why, T6,", "why, T7,", "why, T8,"];
+
+/// Why any words are not sound: the answer, and whether 1 came exactly where it is to come and left `shown` as it was, 0 was told exactly
+/// where the full check says yes, each word that says nothing is null and each other one in its range.
+fn why_any(rng: &mut Rng, l: &Live) -> (&'static str, oz::Answer, bool) {
+    let len = [0, 7, 9, 8, 8, 8, 8, 8][rng.below(8) as usize];
+    let mut shown = Lent::new(&(0..len).map(|_| word32(rng, 8)).collect::<Vec<u32>>(), G32);
+    let (before, words) = (l.clone(), shown.clone());
+    let answer = l.why(shown.lend());
+    let verdict = l.sound();
+    let kept = *l == before && shown.guarded(G32);
+    if len != 8 || verdict.number == 1 {
+        return ("why", answer, kept && answer == oz::Answer::plain(1, 0) && shown == words);
+    }
+    let Some(name) = TOLD.get(answer.value as usize).filter(|_| answer.number == 0) else { return ("why", answer, false) };
+    let slots = l.names.len as u32 / 2;
+    let way = |w: &[u32]| w[0] < slots && w[1] < 2 && w[2] <= slots;
+    let w = shown.get();
+    let slot = match answer.value {
+        0 | 2 => w[0] == NULL,
+        rule => w[0] < slots || (rule == 1 && w[0] == NULL),
+    };
+    let other = if answer.value == 4 { w[1] < slots && w[1] != w[0] } else { w[1] == NULL };
+    let ways = if answer.value == 6 { way(&w[2..5]) && way(&w[5..8]) && w[4] != w[7] } else { w[2..].iter().all(|v| *v == NULL) };
+    (name, answer, kept && slot && other && ways && (answer.value == 0) == (verdict.value == 1))
+}
+
 /// Batches of 1,100 drawn calls at the limits of slots and lines, the tree full but for one slot, each held to the same calls made singly:
 /// how many there were, and how many were not the same.
 fn limits(rng: &mut Rng) -> (u64, u64) {
@@ -491,9 +523,14 @@ fn live_calls(rng: &mut Rng, tally: &mut Tally) {
         let (h, k) = if rng.below(4) == 0 { (word64(rng, 3), word64(rng, 9)) } else { (rng.below(3), rng.below(8)) };
         let mark = word32(rng, 3);
         let mut as_single = true;
-        let (name, answer) = match rng.below(32) / 2 {
+        let (name, answer) = match rng.below(34) / 2 {
             14 | 15 => {
                 let (name, answer, fine) = read_any(rng, &mut l);
+                as_single = fine;
+                (name, answer)
+            }
+            16 => {
+                let (name, answer, fine) = why_any(rng, &l);
                 as_single = fine;
                 (name, answer)
             }
@@ -528,6 +565,7 @@ fn live_calls(rng: &mut Rng, tally: &mut Tally) {
         let writes = matches!(name, "fresh" | "insert" | "remove" | "replace" | "rollback" | "batch") && answer.number == 0;
         let fine = match name {
             "read_start" | "read_chunk" | "read_end" => as_single,
+            _ if name.starts_with("why") => as_single,
             "replace" if writes => l.guarded() && placed(&before, &l, answer.value),
             "remove" if writes => l.guarded() && l.sized() && noted(&before, &l, h, k),
             "batch" if !as_single => false,

@@ -9,6 +9,7 @@ use Rattle.exports.proofs.Giving.{kths-valued, positions-valued, accept
 use Rattle.exports.proofs.Holding.{cursor-words, start-tells, walk-tells, walk-lists, walk-whole, walk-done}
 use Rattle.exports.proofs.Saying.{reader-words, reader-one}
 use Rattle.exports.proofs.Calling.{started, chunk-told, end-told, read-none, continued, uploaded}
+use Rattle.exports.proofs.Explaining.{why-tells}
 
 pub claims : Claims
 claims =
@@ -20,6 +21,7 @@ claims =
       find-tells = find-tells;
       check-tells = λ t. check-tells (checks-valued t .1);
       sound-tells = λ t. answer-tells (sounds-valued t .1);
+      why-tells = why-tells;
       kth-tells = λ t k. answer-tells (kths-valued t k .1);
       position-tells = λ t hash key. answer-tells (positions-valued t hash key .1);
       insert-tells = λ ix hash key place. worded-tells _ (inserts-valued ix hash key place .1);
@@ -47,6 +49,7 @@ claims =
       find-one = λ t hash key a b p q. p ∙ sym q;
       check-one = λ t a b p q. p ∙ sym q;
       sound-one = λ t a b p q. p ∙ sym q;
+      why-one = λ t shown a b p q. p ∙ sym q;
       kth-one = λ t k a b p q. p ∙ sym q;
       position-one = λ t hash key a b p q. p ∙ sym q;
       insert-one = λ ix hash key place a b p q. p ∙ sym q;

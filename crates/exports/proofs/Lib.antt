@@ -6,4 +6,5 @@ pub mod Saying
 pub mod Calling
 pub mod Keeping
 pub mod Reading
+pub mod Explaining
 pub mod Claims

@@ -1,5 +1,5 @@
--- What crate `exports` proves beside its contracts: a word has one number and one value, it tells which answer it is, the words of a reader
--- and of a cursor are what the rules' tables say, and each exported routine has one outcome.
+-- What crate `exports` proves beside its contracts: a word has one number and one value, it tells which answer it is, the words of a
+-- reader, of a cursor and of a reason are what the rules' tables say, and each exported routine has one outcome.
 use mathlib.Core.Path.{_≡_}
 use mathlib.Core.Logic.{_↔_}
 use mathlib.Core.List.{List}
@@ -22,6 +22,7 @@ use Rattle.index_rules.specs.Replace.{replaces}
 use Rattle.index_rules.specs.Rollback.{rolls}
 use Rattle.index_rules.specs.Batch.{batches}
 use Rattle.index_rules.specs.Fresh.{freshes}
+use Rattle.night_rules.specs.Why.{whys}
 use Rattle.set_rules.specs.Words.{Set, Fit, tablesOf}
 use Rattle.set_rules.specs.Accepted.{Accepted}
 use Rattle.set_rules.specs.Accepting.{accepts}
@@ -32,13 +33,13 @@ use Rattle.set_rules.specs.Whole.{Listing}
 use Rattle.upload_rules.specs.Upload.{Bytes}
 use Rattle.upload_rules.specs.Reader.{Reader}
 use Rattle.upload_rules.specs.Reading.{session, readChunk, readEnd}
-use Rattle.exports.specs.Words.{searchWord, checkWord, Worded, worded, BatchWorded, batchWorded}
+use Rattle.exports.specs.Words.{searchWord, checkWord, Worded, worded, BatchWorded, batchWorded, WhyWorded, whyWorded}
 use Rattle.exports.specs.Readers.{saying, readerIn, ReadWorded, startedReader, chunkRead, endedReader}
 use Rattle.exports.specs.Cursors.{cursorIn, Kept, startedInto, walkedInto}
 use Rattle.exports.specs.Told.{WordTells, LooksTold}
 use Rattle.exports.specs.Lent.{ReaderWords, CursorWords}
 use Rattle.exports.specs.Leaving.{WritesTold, BatchTold, UnknownReader, StartTold, ReadTold, Continued, UploadTold, CursorMade}
-use Rattle.exports.specs.Leaving.{WalkTold, WordsListing, WordsWalk}
+use Rattle.exports.specs.Leaving.{WalkTold, WordsListing, WordsWalk, ReasonTold}
 
 pub record Claims : Type 0 where
   -- "The answer is value + 2^32 * number."
@@ -51,6 +52,7 @@ pub record Claims : Type 0 where
   pub find-tells : (t : Unsized) (hash key : ℕ) → LooksTold (finds t hash key) (searchWord (counted (finds t hash key)))
   pub check-tells : (t : Unsized) → WordTells 0 (checks t) (checkWord (checks t))
   pub sound-tells : (t : Live) → WordTells null (sounds t) (answerWord (sounds t))
+  pub why-tells : (t : Live) (shown : List ℕ) → ReasonTold t shown (whys t shown) (whyWorded (whys t shown))
   pub kth-tells : (t : Live) (k : ℕ) → WordTells null (kths t k) (answerWord (kths t k))
   pub position-tells : (t : Live) (hash key : ℕ) → WordTells null (positions t hash key) (answerWord (positions t hash key))
   pub insert-tells : (ix : Index) (hash key place : ℕ) → WritesTold (inserts ix hash key place) (worded (inserts ix hash key place))
@@ -88,6 +90,7 @@ pub record Claims : Type 0 where
   pub find-one : (t : Unsized) (hash key : ℕ) → OneAnswer (λ (r : ℕ). r ≡ searchWord (counted (finds t hash key)))
   pub check-one : (t : Unsized) → OneAnswer (λ (r : ℕ). r ≡ checkWord (checks t))
   pub sound-one : (t : Live) → OneAnswer (λ (r : ℕ). r ≡ answerWord (sounds t))
+  pub why-one : (t : Live) (shown : List ℕ) → OneAnswer (λ (r : WhyWorded). r ≡ whyWorded (whys t shown))
   pub kth-one : (t : Live) (k : ℕ) → OneAnswer (λ (r : ℕ). r ≡ answerWord (kths t k))
   pub position-one : (t : Live) (hash key : ℕ) → OneAnswer (λ (r : ℕ). r ≡ answerWord (positions t hash key))
   pub insert-one : (ix : Index) (hash key place : ℕ) → OneAnswer (λ (r : Worded). r ≡ worded (inserts ix hash key place))

@@ -2,11 +2,12 @@
 use mathlib.Core.Path.{_≡_}
 use mathlib.Core.Logic.{_≢_, _⊎_, _↔_}
 use mathlib.Core.List.{List, [], _∷_, _++_}
-use Prim.Native.Nat.{ℕ, _/_, _<_}
-use lib.ListN.{length}
+use Prim.Native.Nat.{ℕ, _/_, _<_, _≤_}
+use lib.ListN.{length, getD}
 use Rattle.slots.specs.Words.{null, mostSlots}
 use Rattle.slots.specs.Pairs.{Pair}
 use Rattle.slots.specs.Answers.{Answer, given, refused}
+use Rattle.index_rules.specs.Live.{Live, Fit}
 use Rattle.index_rules.specs.Sound.{Sound}
 use Rattle.index_rules.specs.Index.{Index, Outcome, FitIndex, lengthOf}
 use Rattle.index_rules.specs.Batch.{FitCalls, batches, singly}
@@ -19,9 +20,11 @@ use Rattle.upload_rules.specs.Reader.{said, Reader, newReader, FitReader}
 use Rattle.upload_rules.specs.Reading.{session, ReadOutcome, readStart}
 use Rattle.upload_rules.specs.Parts.{Enters, Refusal, Short}
 use Rattle.upload_rules.specs.Left.{Uploaded, Restored}
+use Rattle.night_rules.specs.Account.{Account, Explained}
+use Rattle.night_rules.specs.Reason.{Reason}
 use Rattle.exports.specs.Told.{WordTells}
-use Rattle.exports.specs.Lent.{ReaderWords, CursorWords}
-use Rattle.exports.specs.Words.{Worded, batchWorded}
+use Rattle.exports.specs.Lent.{ReaderWords, CursorWords, AccountWords, SaysNothing}
+use Rattle.exports.specs.Words.{Worded, batchWorded, WhyWorded}
 use Rattle.exports.specs.Readers.{ReadWorded, startedReader, chunkRead, endedReader}
 use Rattle.exports.specs.Cursors.{Kept, startedInto, walkedInto}
 
@@ -47,6 +50,23 @@ pub record BatchTold (ix : Index) (calls answers : List ℕ) : Type 0 where
   -- an answer's word for each call, in their order
   pub each : FitIndex ix → Sound (ix .live) → (c : FitCalls calls answers)
       → EachTold (singly (c .made) ix) (batchWorded (batches ix calls answers) .answers)
+
+-- oz_why, on any words of `shown`: of the rules' call that comes to o the word tells the answer, and what is told is true.
+pub record ReasonTold (t : Live) (shown : List ℕ) (o : Explained) (r : WhyWorded) : Type 0 where
+  pub tells : WordTells null (o .answer) (r .word)
+  -- "It is 1 where the tree's slices do not fit or `shown` is not eight words, and `shown` stays as it was."
+  pub one : (r .word / 4294967296 ≡ 1) ↔ ((Fit t × (length shown ≡ 8)) → ⊥)
+  pub stays : RefusedBy (r .word) → r .shown ≡ shown
+  -- "Refusals: 1 only."
+  pub only-one : RefusedBy (r .word) → r .word / 4294967296 ≡ 1
+  -- "The number told is 0 for a sound tree, else that of the first broken rule", one of "T1 to T8"
+  pub sound : (r .word ≡ 0) ↔ (Fit t × (length shown ≡ 8) × Sound t)
+  pub rules : r .word / 4294967296 ≡ 0 → r .word ≤ 8
+  -- the one true reason, in these words
+  pub reason : r .word / 4294967296 ≡ 0 → r .word ≢ 0
+      → (a : Account) × Reason t a × (a .rule ≡ r .word) × AccountWords (r .shown) a
+  -- "Words of `shown` that say nothing are null"
+  pub nulls : r .word / 4294967296 ≡ 0 → (at : ℕ) → at < 8 → SaysNothing (r .word) at → getD (r .shown) at 0 ≡ null
 
 -- The words are told as 1 and stay.
 abbrev pub UnknownReader : Index → List ℕ → ReadWorded → Type 0

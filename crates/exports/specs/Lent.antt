@@ -1,11 +1,13 @@
--- The reader and the cursor that words are, by the rules' tables: nothing here knows how they are read and written.
+-- The reader, the cursor and the reason that words are, by the rules' tables: nothing here knows how they are read and written.
 use mathlib.Core.Path.{_≡_}
+use mathlib.Core.Logic.{_≢_}
 use mathlib.Core.List.{List}
-use Prim.Native.Nat.{ℕ, _+_, _<_}
+use Prim.Native.Nat.{ℕ, _+_, _<_, _≤_}
 use lib.ListN.{length, getD}
 use Rattle.slots.specs.Answers.{Answer, some, given, refused}
 use Rattle.set_rules.specs.Cursor.{Cursor}
 use Rattle.upload_rules.specs.Reader.{Note, unsaid, said, Reader}
+use Rattle.night_rules.specs.Account.{Account}
 use Rattle.exports.specs.Told.{WordTells}
 
 -- An answer of the reader: "the entries taken since the start, or a refusal".
@@ -52,3 +54,25 @@ pub record CursorWords (w : List ℕ) (c : Cursor) : Type 0 where
   pub eight : length (c .indexes) ≡ 8
   pub indexes : (j : ℕ) → j < 8 → getD w (2 + j) 0 ≡ getD (c .indexes) j 0
   pub last : getD w 10 0 ≡ c .last
+
+-- "The words are: slot, other, then two ways, each its last slot, side, blacks."
+pub record AccountWords (w : List ℕ) (a : Account) : Type 0 where
+  pub eight : length w ≡ 8
+  pub slot : getD w 0 0 ≡ a .slot
+  pub other : getD w 1 0 ≡ a .other
+  -- "The first way goes by the left link, the second by the right."
+  pub one-last : getD w 2 0 ≡ a .one .last
+  pub one-side : getD w 3 0 ≡ a .one .side
+  pub one-blacks : getD w 4 0 ≡ a .one .blacks
+  pub two-last : getD w 5 0 ≡ a .two .last
+  pub two-side : getD w 6 0 ≡ a .two .side
+  pub two-blacks : getD w 7 0 ≡ a .two .blacks
+
+-- Where a rule is told, or 0, the word at this place says nothing: T2 has no slot, none but T4 another one, none but T6 two ways.
+pub data SaysNothing : ℕ → ℕ → Type 0 where
+  -- "for a sound tree all eight are"
+  sound : {at : ℕ} → SaysNothing 0 at
+  -- "null: the header"
+  header : SaysNothing 2 0
+  other : {rule : ℕ} → rule ≢ 4 → SaysNothing rule 1
+  ways : {rule at : ℕ} → rule ≢ 6 → 2 ≤ at → SaysNothing rule at

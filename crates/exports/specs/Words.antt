@@ -5,6 +5,7 @@ use Rattle.slots.specs.Answers.{Answer, wordOf, answerWord}
 use Rattle.tree_rules.specs.Find.{Counted}
 use Rattle.index_rules.specs.Index.{Index, Outcome}
 use Rattle.index_rules.specs.Batch.{Batched}
+use Rattle.night_rules.specs.Account.{Explained}
 
 -- "with looks it is value + 2^32 * number + 2^48 * looks": how many slots were looked at stands above the answer's 48 bits.
 unfoldable pub searchWord : Counted → ℕ
@@ -30,3 +31,11 @@ pub record BatchWorded : Type 0 where
 
 unfoldable pub batchWorded : Batched → BatchWorded
 batchWorded b = record { word = answerWord (b .answer); left = b .left; answers = b .answers }
+
+-- And the reason of a tree, which leaves the words of `shown`.
+pub record WhyWorded : Type 0 where
+  pub word : ℕ
+  pub shown : List ℕ
+
+unfoldable pub whyWorded : Explained → WhyWorded
+whyWorded e = record { word = answerWord (e .answer); shown = e .shown }

@@ -2,6 +2,7 @@
 mod cursor;
 pub mod frozen;
 pub mod reads;
+pub mod reasons;
 pub mod uploads;
 mod words;
 pub mod writes;
