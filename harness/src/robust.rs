@@ -461,10 +461,9 @@ fn read_any(rng: &mut Rng, l: &mut Live) -> (&'static str, oz::Answer, bool) {
 /// What is told of a tree, by its number.
 const TOLD: [&str; 9] = ["why, sound,", "why, T1,", "why, T2,", "why, T3,", "why, T4,", "why, T5,", "why, T6,", "why, T7,", "why, T8,"];
 
-/// Why any words are not sound: the answer, and whether 1 came exactly where it is to come and left `shown` as it was, 0 was told exactly
+/// Why any words are not sound, with so many words of `shown`: the answer, and whether 1 came exactly where it is to come and left `shown` as it was, 0 was told exactly
 /// where the full check says yes, each word that says nothing is null and each other one in its range.
-fn why_any(rng: &mut Rng, l: &Live) -> (&'static str, oz::Answer, bool) {
-    let len = [0, 7, 9, 8, 8, 8, 8, 8][rng.below(8) as usize];
+fn why_any(rng: &mut Rng, l: &Live, len: usize) -> (&'static str, oz::Answer, bool) {
     let mut shown = Lent::new(&(0..len).map(|_| word32(rng, 8)).collect::<Vec<u32>>(), G32);
     let (before, words) = (l.clone(), shown.clone());
     let answer = l.why(shown.lend());
@@ -484,6 +483,33 @@ fn why_any(rng: &mut Rng, l: &Live) -> (&'static str, oz::Answer, bool) {
     let other = if answer.value == 4 { w[1] < slots && w[1] != w[0] } else { w[1] == NULL };
     let ways = if answer.value == 6 { way(&w[2..5]) && way(&w[5..8]) && w[4] != w[7] } else { w[2..].iter().all(|v| *v == NULL) };
     (name, answer, kept && slot && other && ways && (answer.value == 0) == (verdict.value == 1))
+}
+
+/// Why a sound tree with one or two words changed is not sound, with `shown` of each length: a colour, a name, a link, a size or the header
+/// is another, so that each rule comes up as the first broken one.
+fn reason_calls(rng: &mut Rng, tally: &mut Tally) {
+    let slots = 1 + rng.below(12) as usize;
+    let mut ix = Index::new(slots, 1);
+    for _ in 0..rng.below(2 * slots as u64 + 1) {
+        ix.forget();
+        ix.insert(rng.below(3), rng.below(9), 5);
+    }
+    for _ in 0..1 + rng.below(2) {
+        let i = rng.below(slots as u64) as usize;
+        let link = if rng.below(4) == 0 { NULL } else { rng.below(slots as u64) as u32 };
+        match rng.below(5) {
+            0 => ix.cells[7 * i + oz::STATE] = [0, 2, 1][ix.cells[7 * i + oz::STATE] as usize],
+            1 => ix.names[2 * i + rng.below(2) as usize] = rng.below(9),
+            2 => ix.cells[7 * i + oz::PARENT + rng.below(5) as usize] = link,
+            3 => ix.sizes[i] = rng.below(slots as u64 + 1) as u32,
+            _ => ix.head[rng.below(2) as usize] = link,
+        }
+    }
+    let l = Live::new(&ix);
+    for len in [0, 7, 8, 9] {
+        let (name, answer, fine) = why_any(rng, &l, len);
+        tally.note(name, answer, slots, fine);
+    }
 }
 
 /// Batches of 1,100 drawn calls at the limits of slots and lines, the tree full but for one slot, each held to the same calls made singly:
@@ -530,7 +556,8 @@ fn live_calls(rng: &mut Rng, tally: &mut Tally) {
                 (name, answer)
             }
             16 => {
-                let (name, answer, fine) = why_any(rng, &l);
+                let len = [0, 7, 9, 8, 8, 8, 8, 8][rng.below(8) as usize];
+                let (name, answer, fine) = why_any(rng, &l, len);
                 as_single = fine;
                 (name, answer)
             }
@@ -762,6 +789,7 @@ fn main() {
         set_calls(&mut rng, &mut tally);
         near_calls(&mut rng, &mut tally);
         drawn_calls(&mut rng, &mut tally);
+        reason_calls(&mut rng, &mut tally);
     }
     println!("calls {} on random and damaged words, each slice between guard words", tally.calls);
     for ((name, number), count) in &tally.by {
