@@ -44,9 +44,9 @@
  * Looks are how many slots oz_find or oz_lookup read the hash of, on a hit, on OZ_NULL and on 9; every other answer has
  * 0.
  *
- * Stack, as measured: oz_check 709 KiB on 4,096 slots in one line, since it follows the links as deep as they go;
- * oz_rollback 198 KiB, since it keeps the tree's words and its sizes aside, and oz_read_chunk and oz_read_end 201 KiB where
- * they refuse, since they roll back; the others under 64 KiB.
+ * Stack, as measured: oz_check 709 KiB and oz_why 388 KiB on 4,096 slots in one line, since they follow the links as deep as
+ * they go; oz_rollback 198 KiB, since it keeps the tree's words and its sizes aside, and oz_read_chunk and oz_read_end 201 KiB
+ * where they refuse, since they roll back; the others under 64 KiB.
  */
 #ifndef OZ_H
 #define OZ_H

@@ -461,8 +461,8 @@ fn read_any(rng: &mut Rng, l: &mut Live) -> (&'static str, oz::Answer, bool) {
 /// What is told of a tree, by its number.
 const TOLD: [&str; 9] = ["why, sound,", "why, T1,", "why, T2,", "why, T3,", "why, T4,", "why, T5,", "why, T6,", "why, T7,", "why, T8,"];
 
-/// Why any words are not sound, with so many words of `shown`: the answer, and whether 1 came exactly where it is to come and left `shown` as it was, 0 was told exactly
-/// where the full check says yes, each word that says nothing is null and each other one in its range.
+/// Why any words are not sound, with so many words of `shown`: the answer, and whether 1 came exactly where it is to come and left `shown`
+/// as it was, 0 was told exactly where the full check says yes, each word that says nothing is null and each other one in its range.
 fn why_any(rng: &mut Rng, l: &Live, len: usize) -> (&'static str, oz::Answer, bool) {
     let mut shown = Lent::new(&(0..len).map(|_| word32(rng, 8)).collect::<Vec<u32>>(), G32);
     let (before, words) = (l.clone(), shown.clone());
