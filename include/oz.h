@@ -18,6 +18,8 @@
  *                         before is 0, 0. The place of a replace is the new place + 2^32 * the old one
  *   shown    u32, 8       of oz_why: slot, other, then two ways down, each its last slot, side (0 left, 1 right) and black
  *                         slots; OZ_NULL where a word says nothing
+ *   report   u32, n or    of oz_salvage: a word for each slot, 0 kept, 1 free, 2 of unknown state, 3 + s repeats slot s
+ *            more
  *   calls    u64, 4 each  of a batch, per call: kind (1 insert, 2 remove, 3 replace), hash, key, place
  *   answers  u64          of a batch: a word for each call, what the single call would answer
  *   reader   u64, 8       of an upload: the caller keeps them between the calls and writes none. Sections that are whole;
@@ -166,6 +168,18 @@ uint64_t oz_sound(const uint64_t *names, size_t names_len, const uint32_t *cells
  * Refusal 1 (for a shown that is not 8 words, too), with shown as it was; nothing else is written. */
 uint64_t oz_why(const uint64_t *names, size_t names_len, const uint32_t *cells, size_t cells_len, const uint32_t *head,
                 size_t head_len, const uint32_t *sizes, size_t sizes_len, uint32_t *shown, size_t shown_len);
+
+/* What can be saved of a damaged tree: each slot with state 1 or 2 whose pair is in no lower kept slot is inserted into the
+ * second tree, names2, cells2, head2 and sizes2, which is empty and has as many slots. Of the first tree only names and cells
+ * are lent: slots are read by number, and no link is followed. The slots kept; they stand in slots 0, 1, 2 and so on of the
+ * second tree, in their order, with their pairs and places. report[i] says what became of slot i: 0 kept, 1 free, 2 of a state
+ * above 2, 3 + s where the lower slot s was kept with its pair; words past the slots stay. The second tree is then sound. From
+ * a sound tree it gives the same pairs and places, listed by slot number with the last first. Write the second tree's journal
+ * anew: its length is 0. Refusal 1 (for a second tree that is not empty or of another capacity, and for a report with fewer
+ * words than slots, too), and nothing was written. */
+uint64_t oz_salvage(const uint64_t *names, size_t names_len, const uint32_t *cells, size_t cells_len, uint64_t *names2,
+                    size_t names2_len, uint32_t *cells2, size_t cells2_len, uint32_t *head2, size_t head2_len,
+                    uint32_t *sizes2, size_t sizes2_len, uint32_t *report, size_t report_len);
 
 /* The slot of the pair at position k in order, by hash and then key, counted from 0. Refusals 1, 2, 15 where k is not
  * below the count. */

@@ -2,6 +2,7 @@
 #![allow(dead_code, unused_imports, clippy::all)]
 
 pub mod oz;
+pub mod reasons;
 pub mod rng;
 pub mod sets;
 pub mod uploads;

@@ -71,6 +71,9 @@ export!(oz_read_end read_end
 export!(oz_check check names: &[u64], cells: &[u32], head: &[u32],);
 export!(oz_sound sound names: &[u64], cells: &[u32], head: &[u32], sizes: &[u32],);
 export!(oz_why why names: &[u64], cells: &[u32], head: &[u32], sizes: &[u32], shown: &mut [u32],);
+export!(oz_salvage salvage
+    names: &[u64], cells: &[u32], names2: &mut [u64], cells2: &mut [u32], head2: &mut [u32], sizes2: &mut [u32], report: &mut [u32],
+);
 export!(oz_kth kth names: &[u64], cells: &[u32], head: &[u32], sizes: &[u32], k: u32,);
 export!(oz_position position names: &[u64], cells: &[u32], head: &[u32], sizes: &[u32], hash: u64, key: u64,);
 export!(oz_accept accept lengths: &[u32], bins: &[u32], heads: &[u32], names: &[u64], cells: &[u32],);

@@ -34,5 +34,6 @@ phrasing =
       meaning-one = λ line a b e f. one-to-one a b (e ∙ sym f);
       put-byte-one = λ p x a b e f. e ∙ sym f;
       put-word-one = λ p word a b e f. e ∙ sym f;
+      fill-one = λ p sentence numbers a b e f. e ∙ sym f;
       put-number-one = λ p x a b e f. e ∙ sym f;
     }

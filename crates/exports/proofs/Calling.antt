@@ -19,7 +19,7 @@ use Rattle.index_rules.specs.Calls.{Places}
 use Rattle.index_rules.proofs.Journal.{fits-index, index-fits}
 use Rattle.index_rules.proofs.Sounding.{yes-sound, unsound}
 use Rattle.upload_rules.specs.Upload as U
-use Rattle.upload_rules.specs.Upload.{Bytes}
+use Rattle.endian.specs.Bytes.{Bytes}
 use Rattle.upload_rules.specs.Reader.{Note, unsaid, said, Reader, newReader, FitReader, fitsReader, noteAnswer, readerAnswer}
 use Rattle.upload_rules.specs.Reading.{Session, session, newSession, ReadOutcome, readOutcome, byteRead, bytesRead, readStart, readChunk}
 use Rattle.upload_rules.specs.Reading.{endRead, readEnd, readWhole}

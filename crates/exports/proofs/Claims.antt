@@ -10,6 +10,7 @@ use Rattle.exports.proofs.Holding.{cursor-words, start-tells, walk-tell
 use Rattle.exports.proofs.Saying.{reader-words, reader-one}
 use Rattle.exports.proofs.Calling.{started, chunk-told, end-told, read-none, continued, uploaded}
 use Rattle.exports.proofs.Explaining.{why-tells}
+use Rattle.exports.proofs.Rescuing.{salvage-tells, report-one}
 
 pub claims : Claims
 claims =
@@ -22,6 +23,8 @@ claims =
       check-tells = λ t. check-tells (checks-valued t .1);
       sound-tells = λ t. answer-tells (sounds-valued t .1);
       why-tells = why-tells;
+      salvage-tells = salvage-tells;
+      report-one = report-one;
       kth-tells = λ t k. answer-tells (kths-valued t k .1);
       position-tells = λ t hash key. answer-tells (positions-valued t hash key .1);
       insert-tells = λ ix hash key place. worded-tells _ (inserts-valued ix hash key place .1);
@@ -50,6 +53,7 @@ claims =
       check-one = λ t a b p q. p ∙ sym q;
       sound-one = λ t a b p q. p ∙ sym q;
       why-one = λ t shown a b p q. p ∙ sym q;
+      salvage-one = λ names cells u report a b p q. p ∙ sym q;
       kth-one = λ t k a b p q. p ∙ sym q;
       position-one = λ t hash key a b p q. p ∙ sym q;
       insert-one = λ ix hash key place a b p q. p ∙ sym q;

@@ -7,4 +7,5 @@ pub mod Calling
 pub mod Keeping
 pub mod Reading
 pub mod Explaining
+pub mod Rescuing
 pub mod Claims

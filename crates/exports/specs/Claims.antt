@@ -1,5 +1,5 @@
 -- What crate `exports` proves beside its contracts: a word has one number and one value, it tells which answer it is, the words of a
--- reader, of a cursor and of a reason are what the rules' tables say, and each exported routine has one outcome.
+-- reader, of a cursor, of a reason and of a report are what the rules' tables say, and each exported routine has one outcome.
 use mathlib.Core.Path.{_≡_}
 use mathlib.Core.Logic.{_↔_}
 use mathlib.Core.List.{List}
@@ -23,6 +23,7 @@ use Rattle.index_rules.specs.Rollback.{rolls}
 use Rattle.index_rules.specs.Batch.{batches}
 use Rattle.index_rules.specs.Fresh.{freshes}
 use Rattle.night_rules.specs.Why.{whys}
+use Rattle.night_rules.specs.Salvage.{salvages}
 use Rattle.set_rules.specs.Words.{Set, Fit, tablesOf}
 use Rattle.set_rules.specs.Accepted.{Accepted}
 use Rattle.set_rules.specs.Accepting.{accepts}
@@ -30,16 +31,17 @@ use Rattle.set_rules.specs.Lookup.{lookups}
 use Rattle.set_rules.specs.Cursor.{Cursor}
 use Rattle.set_rules.specs.Walk.{nexts}
 use Rattle.set_rules.specs.Whole.{Listing}
-use Rattle.upload_rules.specs.Upload.{Bytes}
+use Rattle.endian.specs.Bytes.{Bytes}
 use Rattle.upload_rules.specs.Reader.{Reader}
 use Rattle.upload_rules.specs.Reading.{session, readChunk, readEnd}
 use Rattle.exports.specs.Words.{searchWord, checkWord, Worded, worded, BatchWorded, batchWorded, WhyWorded, whyWorded}
+use Rattle.exports.specs.Words.{SalvageWorded, salvageWorded}
 use Rattle.exports.specs.Readers.{saying, readerIn, ReadWorded, startedReader, chunkRead, endedReader}
 use Rattle.exports.specs.Cursors.{cursorIn, Kept, startedInto, walkedInto}
 use Rattle.exports.specs.Told.{WordTells, LooksTold}
-use Rattle.exports.specs.Lent.{ReaderWords, CursorWords}
+use Rattle.exports.specs.Lent.{ReaderWords, CursorWords, ReportWord}
 use Rattle.exports.specs.Leaving.{WritesTold, BatchTold, UnknownReader, StartTold, ReadTold, Continued, UploadTold, CursorMade}
-use Rattle.exports.specs.Leaving.{WalkTold, WordsListing, WordsWalk, ReasonTold}
+use Rattle.exports.specs.Leaving.{WalkTold, WordsListing, WordsWalk, ReasonTold, SalvageTold}
 
 pub record Claims : Type 0 where
   -- "The answer is value + 2^32 * number."
@@ -53,6 +55,10 @@ pub record Claims : Type 0 where
   pub check-tells : (t : Unsized) → WordTells 0 (checks t) (checkWord (checks t))
   pub sound-tells : (t : Live) → WordTells null (sounds t) (answerWord (sounds t))
   pub why-tells : (t : Live) (shown : List ℕ) → ReasonTold t shown (whys t shown) (whyWorded (whys t shown))
+  pub salvage-tells : (names cells : List ℕ) (u : Live) (report : List ℕ)
+      → SalvageTold names cells u report (salvages names cells u report) (salvageWorded (salvages names cells u report))
+  -- a slot has one word
+  pub report-one : (names cells : List ℕ) (i v w : ℕ) → ReportWord names cells i v → ReportWord names cells i w → v ≡ w
   pub kth-tells : (t : Live) (k : ℕ) → WordTells null (kths t k) (answerWord (kths t k))
   pub position-tells : (t : Live) (hash key : ℕ) → WordTells null (positions t hash key) (answerWord (positions t hash key))
   pub insert-tells : (ix : Index) (hash key place : ℕ) → WritesTold (inserts ix hash key place) (worded (inserts ix hash key place))
@@ -91,6 +97,8 @@ pub record Claims : Type 0 where
   pub check-one : (t : Unsized) → OneAnswer (λ (r : ℕ). r ≡ checkWord (checks t))
   pub sound-one : (t : Live) → OneAnswer (λ (r : ℕ). r ≡ answerWord (sounds t))
   pub why-one : (t : Live) (shown : List ℕ) → OneAnswer (λ (r : WhyWorded). r ≡ whyWorded (whys t shown))
+  pub salvage-one : (names cells : List ℕ) (u : Live) (report : List ℕ)
+      → OneAnswer (λ (r : SalvageWorded). r ≡ salvageWorded (salvages names cells u report))
   pub kth-one : (t : Live) (k : ℕ) → OneAnswer (λ (r : ℕ). r ≡ answerWord (kths t k))
   pub position-one : (t : Live) (hash key : ℕ) → OneAnswer (λ (r : ℕ). r ≡ answerWord (positions t hash key))
   pub insert-one : (ix : Index) (hash key place : ℕ) → OneAnswer (λ (r : Worded). r ≡ worded (inserts ix hash key place))

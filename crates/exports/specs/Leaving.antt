@@ -7,6 +7,7 @@ use lib.ListN.{length, getD}
 use Rattle.slots.specs.Words.{null, mostSlots}
 use Rattle.slots.specs.Pairs.{Pair}
 use Rattle.slots.specs.Answers.{Answer, given, refused}
+use Rattle.tree_rules.specs.Find.{slotsOf}
 use Rattle.index_rules.specs.Live.{Live, Fit}
 use Rattle.index_rules.specs.Sound.{Sound}
 use Rattle.index_rules.specs.Index.{Index, Outcome, FitIndex, lengthOf}
@@ -15,16 +16,20 @@ use Rattle.set_rules.specs.Words.{Set}
 use Rattle.set_rules.specs.Cursor.{Cursor, starts}
 use Rattle.set_rules.specs.Walk.{nexts}
 use Rattle.set_rules.specs.Walked.{WholeWalk}
-use Rattle.upload_rules.specs.Upload.{Bytes, Upload, entriesOf}
+use Rattle.upload_rules.specs.Upload.{Upload, entriesOf}
+use Rattle.endian.specs.Bytes.{Bytes}
 use Rattle.upload_rules.specs.Reader.{said, Reader, newReader, FitReader}
 use Rattle.upload_rules.specs.Reading.{session, ReadOutcome, readStart}
 use Rattle.upload_rules.specs.Parts.{Enters, Refusal, Short}
 use Rattle.upload_rules.specs.Left.{Uploaded, Restored}
 use Rattle.night_rules.specs.Account.{Account, Explained}
 use Rattle.night_rules.specs.Reason.{Reason}
+use Rattle.night_rules.specs.Salvage.{Salvaged, salvaged}
+use Rattle.night_rules.specs.Saved.{FitSalvage}
+use Rattle.night_rules.specs.Claims.{Saves}
 use Rattle.exports.specs.Told.{WordTells}
-use Rattle.exports.specs.Lent.{ReaderWords, CursorWords, AccountWords, SaysNothing}
-use Rattle.exports.specs.Words.{Worded, batchWorded, WhyWorded}
+use Rattle.exports.specs.Lent.{ReaderWords, CursorWords, AccountWords, SaysNothing, ReportWord}
+use Rattle.exports.specs.Words.{Worded, batchWorded, WhyWorded, SalvageWorded}
 use Rattle.exports.specs.Readers.{ReadWorded, startedReader, chunkRead, endedReader}
 use Rattle.exports.specs.Cursors.{Kept, startedInto, walkedInto}
 
@@ -67,6 +72,20 @@ pub record ReasonTold (t : Live) (shown : List ℕ) (o : Explained) (r : WhyWord
       → (a : Account) × Reason t a × (a .rule ≡ r .word) × AccountWords (r .shown) a
   -- "Words of `shown` that say nothing are null"
   pub nulls : r .word / 4294967296 ≡ 0 → (at : ℕ) → at < 8 → SaysNothing (r .word) at → getD (r .shown) at 0 ≡ null
+
+-- oz_salvage, on any words: of the rules' call that comes to o the word tells the answer, and what is left is what the rules say.
+pub record SalvageTold (names cells : List ℕ) (u : Live) (report : List ℕ) (o : Salvaged) (r : SalvageWorded) : Type 0 where
+  pub tells : WordTells null (o .answer) (r .word)
+  -- "Refusals: 1 only."
+  pub one : (r .word / 4294967296 ≡ 1) ↔ (FitSalvage names cells u report → ⊥)
+  pub only-one : RefusedBy (r .word) → r .word / 4294967296 ≡ 1
+  -- "A refused call writes nothing."
+  pub stays : RefusedBy (r .word) → (r .into ≡ u) × (r .report ≡ report)
+  -- "It answers the slots kept", no more than there are, and all that is left is what section 14 says
+  pub few : r .word / 4294967296 ≡ 0 → r .word ≤ slotsOf names
+  pub saves : r .word / 4294967296 ≡ 0 → Saves names cells u report (salvaged (given (r .word)) (r .into) (r .report))
+  -- each word of the report, by the table
+  pub words : r .word / 4294967296 ≡ 0 → (i : ℕ) → i < slotsOf names → ReportWord names cells i (getD (r .report) i null)
 
 -- The words are told as 1 and stay.
 abbrev pub UnknownReader : Index → List ℕ → ReadWorded → Type 0

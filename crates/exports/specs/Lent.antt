@@ -1,13 +1,17 @@
--- The reader, the cursor and the reason that words are, by the rules' tables: nothing here knows how they are read and written.
+-- The reader, the cursor, the reason and the report that words are, by the rules' tables: nothing here knows how they are read and
+-- written.
 use mathlib.Core.Path.{_≡_}
 use mathlib.Core.Logic.{_≢_}
 use mathlib.Core.List.{List}
 use Prim.Native.Nat.{ℕ, _+_, _<_, _≤_}
 use lib.ListN.{length, getD}
+use Rattle.slots.specs.Words.{state, cell}
+use Rattle.slots.specs.Pairs.{pairOf}
 use Rattle.slots.specs.Answers.{Answer, some, given, refused}
 use Rattle.set_rules.specs.Cursor.{Cursor}
 use Rattle.upload_rules.specs.Reader.{Note, unsaid, said, Reader}
 use Rattle.night_rules.specs.Account.{Account}
+use Rattle.night_rules.specs.Saved.{Usable}
 use Rattle.exports.specs.Told.{WordTells}
 
 -- An answer of the reader: "the entries taken since the start, or a refusal".
@@ -76,3 +80,17 @@ pub data SaysNothing : ℕ → ℕ → Type 0 where
   header : SaysNothing 2 0
   other : {rule : ℕ} → rule ≢ 4 → SaysNothing rule 1
   ways : {rule at : ℕ} → rule ≢ 6 → 2 ≤ at → SaysNothing rule at
+
+-- "Of the slots of these states that have one pair the lowest is kept."
+pub record SavedSlot (names cells : List ℕ) (i : ℕ) : Type 0 where
+  pub usable : Usable cells i
+  pub lowest : (s : ℕ) → s < i → Usable cells s → pairOf names s ≢ pairOf names i
+
+-- "The report has a word of 32 bits for each slot of the first tree": the table, by that tree's names and cells alone.
+pub data ReportWord (names cells : List ℕ) (i : ℕ) : ℕ → Type 0 where
+  kept : SavedSlot names cells i → ReportWord names cells i 0
+  free : cell cells i state ≡ 0 → ReportWord names cells i 1
+  unknown : 2 < cell cells i state → ReportWord names cells i 2
+  -- "s is a lower kept slot with its pair"
+  repeats : {s : ℕ} → Usable cells i → s < i → SavedSlot names cells s → pairOf names s ≡ pairOf names i
+      → ReportWord names cells i (3 + s)

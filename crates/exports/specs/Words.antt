@@ -3,9 +3,11 @@ use mathlib.Core.List.{List}
 use Prim.Native.Nat.{ℕ, _+_, _*_}
 use Rattle.slots.specs.Answers.{Answer, wordOf, answerWord}
 use Rattle.tree_rules.specs.Find.{Counted}
+use Rattle.index_rules.specs.Live.{Live}
 use Rattle.index_rules.specs.Index.{Index, Outcome}
 use Rattle.index_rules.specs.Batch.{Batched}
 use Rattle.night_rules.specs.Account.{Explained}
+use Rattle.night_rules.specs.Salvage.{Salvaged}
 
 -- "with looks it is value + 2^32 * number + 2^48 * looks": how many slots were looked at stands above the answer's 48 bits.
 unfoldable pub searchWord : Counted → ℕ
@@ -39,3 +41,12 @@ pub record WhyWorded : Type 0 where
 
 unfoldable pub whyWorded : Explained → WhyWorded
 whyWorded e = record { word = answerWord (e .answer); shown = e .shown }
+
+-- And a salvage, which leaves the second tree and the report.
+pub record SalvageWorded : Type 0 where
+  pub word : ℕ
+  pub into : Live
+  pub report : List ℕ
+
+unfoldable pub salvageWorded : Salvaged → SalvageWorded
+salvageWorded o = record { word = answerWord (o .answer); into = o .into; report = o .report }

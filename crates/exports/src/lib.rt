@@ -3,6 +3,7 @@ mod cursor;
 pub mod frozen;
 pub mod reads;
 pub mod reasons;
+pub mod saves;
 pub mod uploads;
 mod words;
 pub mod writes;

@@ -33,9 +33,9 @@ use Rattle.index_rules.proofs.Frames.{headed-length, headed-root, heade
 use Rattle.tree_rules.specs.Find.{slotsOf}
 
 -- The slot i is free and cleared.
-record Blank (t : Live) (i : ℕ) : Type 0 where
-  states : cell (t .cells) i state ≡ free
-  cleared : Cleared t i
+pub record Blank (t : Live) (i : ℕ) : Type 0 where
+  pub states : cell (t .cells) i state ≡ free
+  pub cleared : Cleared t i
 
 -- One slot cleared.
 abbrev bare : ℕ → Live → Live
@@ -176,10 +176,10 @@ bared-blank {n} (suc k) t c d b i l =
 module _ {t : Live} (fit : Fit t) (blank : (i : ℕ) → i < slotsOf (t .names) → Blank t i) (root : rootOf t ≡ null) (first : firstOf t ≡ null)
     (none : countOf t ≡ 0)
     (weightless : (k : ℕ) → sizeWord (t .sizes) k ≡ 0) where
-  unused : (i : ℕ) → i < slotsOf (t .names) → used (t .cells) i ≡ 0
+  pub unused : (i : ℕ) → i < slotsOf (t .names) → used (t .cells) i ≡ 0
   unused i l = simp (eq-eqb (cell (t .cells) i state) free (blank i l .states))
 
-  unfoldable empty-sound : Sound t
+  unfoldable pub empty-sound : Sound t
   unfolding slots times sizeIn
   empty-sound =
       record {

@@ -67,7 +67,7 @@ least-one a b p q u v = go (decLt a b) (decLt b a)
     go (no l) (yes m) = absurd (u b m q)
     go (no l) (no m) = omega arith
 
-lowest-is : {t : Live} → Fit t → (x : ℕ) → Lowest t x → lowestFree t ≡ x
+pub lowest-is : {t : Live} → Fit t → (x : ℕ) → Lowest t x → lowestFree t ≡ x
 lowest-is {t} fit x l = go (ℕ-discrete (lowestFree t) null)
   where
     go : Dec (lowestFree t ≡ null) → lowestFree t ≡ x

@@ -12,7 +12,8 @@ use Rattle.index_rules.specs.Fresh.{FitLengths, freshes}
 use Rattle.index_rules.specs.Contents.{Entry, contents, listing, In, first, later}
 use Rattle.index_rules.specs.Calls.{Places}
 use Rattle.index_rules.proofs.Claims as index-rules
-use Rattle.upload_rules.specs.Upload.{Bytes, Upload, entriesOf}
+use Rattle.upload_rules.specs.Upload.{Upload, entriesOf}
+use Rattle.endian.specs.Bytes.{Bytes}
 use Rattle.upload_rules.specs.Parts.{Enters}
 use Rattle.upload_rules.specs.Left.{frontAll}
 use Rattle.upload_rules.specs.Reading.{readWhole}

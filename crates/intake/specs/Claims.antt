@@ -7,7 +7,8 @@ use Rattle.slots.specs.Pairs.{Pair}
 use Rattle.index_rules.specs.Sound.{Sound}
 use Rattle.index_rules.specs.Index.{Index}
 use Rattle.index_rules.specs.Fresh.{FitLengths, freshes}
-use Rattle.upload_rules.specs.Upload.{Bytes, Upload, entriesOf}
+use Rattle.upload_rules.specs.Upload.{Upload, entriesOf}
+use Rattle.endian.specs.Bytes.{Bytes}
 use Rattle.upload_rules.specs.Parts.{Enters, Refusal, Short}
 use Rattle.upload_rules.specs.Reading.{readWhole}
 use Rattle.script_rules.specs.Letters.{wordLine, listingText}

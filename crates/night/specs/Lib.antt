@@ -1,4 +1,7 @@
 pub mod Shown
 pub mod Told
+pub mod Breaches
+pub mod Found
 pub mod Whys
+pub mod Salvages
 pub mod Claims

@@ -42,7 +42,7 @@ pub(crate) fn rule1(names: &[u64], cells: &[u32], head: &[u32]) -> bool
 }
 
 // The link is null exactly if the count is 0.
-fn null_if_none(link: u32, count: u32) -> bool
+pub(crate) fn null_if_none(link: u32, count: u32) -> bool
     ensures { λ r. ⌜ r ≡ agree (eqb link null) (eqb count 0) ⌝ }
 {
     if link == NULL {

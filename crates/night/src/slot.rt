@@ -45,7 +45,7 @@ fn is_used(cells: &[u32], i: u32) -> bool
 }
 
 // The neighbour of i along the field f, if any, points back to i along the field g.
-fn points_back(cells: &[u32], i: u32, f: u32, g: u32) -> bool
+pub(crate) fn points_back(cells: &[u32], i: u32, f: u32, g: u32) -> bool
     ensures { λ r. ⌜ r ≡ pointsBack (now (cells .entry)) i f g ⌝ }
 {
     let j = get(cells, i, f);
@@ -98,7 +98,7 @@ fn one_child(cells: &[u32], p: u32, i: u32) -> bool
 }
 
 // Slot i is the root and has a parent, or is another slot and no child of its own.
-fn misrooted(cells: &[u32], head: &[u32], i: u32) -> bool
+pub(crate) fn misrooted(cells: &[u32], head: &[u32], i: u32) -> bool
     ensures { λ r. ⌜ ((names sizes : List ℕ) → r ≡ isMisrooted (lentTree names (now (cells .entry)) (now (head .entry)) sizes) i) ⌝ }
 {
     let p = get(cells, i, PARENT);
@@ -111,7 +111,7 @@ fn misrooted(cells: &[u32], head: &[u32], i: u32) -> bool
 }
 
 // Slot i has the same child twice.
-fn twins(cells: &[u32], i: u32) -> bool
+pub(crate) fn twins(cells: &[u32], i: u32) -> bool
     ensures { λ r. ⌜ r ≡ areTwins (now (cells .entry)) i ⌝ }
 {
     let l = get(cells, i, LEFT);
@@ -134,7 +134,7 @@ fn pair_rises(names: &[u64], i: u32, j: u32) -> bool
 }
 
 // Slot i is the first and has a prev.
-fn misfirst(cells: &[u32], head: &[u32], i: u32) -> bool
+pub(crate) fn misfirst(cells: &[u32], head: &[u32], i: u32) -> bool
     ensures { λ r. ⌜ ((names sizes : List ℕ) → r ≡ isMisfirst (lentTree names (now (cells .entry)) (now (head .entry)) sizes) i) ⌝ }
 {
     let first = word(head, FIRST, NULL);

@@ -47,7 +47,7 @@ pub enum Explanation {
 impl Explanation {
     // The number told, or the refusal.
     pub fn answer(self) -> Answer
-        ensures { λ r. ⌜ answerOf r ≡ tellingAnswer (whyOf self) ⌝ }
+        ensures { λ r. ⌜ answerOf r ≡ (tellingAnswer (whyOf self)) ⌝ }
     {
         match self {
             Explanation::Told(account) => given(account.rule),

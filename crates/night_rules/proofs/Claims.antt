@@ -27,7 +27,10 @@ use Rattle.night_rules.proofs.Levels.{six-complete, six-none}
 use Rattle.night_rules.proofs.Ways.{six-tests}
 use Rattle.night_rules.proofs.Sizes.{eight-tests, eight-complete, eight-none}
 use Rattle.night_rules.proofs.Telling.{off, told-sound, sound-or}
+use Rattle.night_rules.proofs.Breaking.{broken}
+use Rattle.night_rules.proofs.Examining.{found}
 use Rattle.night_rules.proofs.Only.{only, unsound, numbered}
+use Rattle.night_rules.proofs.Salvaged.{cleared-exactly, salvage-claims}
 
 module _ {t : Live} (fit : Fit t) where
   numbered-sound : why t .rule ≡ 0 → Sound t
@@ -154,5 +157,9 @@ claims =
       };
       shown = table;
       reasons = λ t fit. reason-claims fit;
+      breaches = λ t fit w reason. broken fit reason;
+      examined = λ t. found {t = t} reason-claims;
       whys = why-claims;
+      cleared = λ u fit. cleared-exactly fit;
+      salvages = salvage-claims;
     }

@@ -13,4 +13,9 @@ pub mod Sizes
 pub mod Ways
 pub mod Telling
 pub mod Only
+pub mod Breaking
+pub mod Examining
+pub mod Keeping
+pub mod Salvaging
+pub mod Salvaged
 pub mod Claims

@@ -107,12 +107,18 @@ module _ {t : Live} (fit : Fit t) (one : T1 t) {tree : Tree} (three : T3 t tree)
   eight-none h i (missized u d) = d (h i)
   eight-none h i (sizedFree l e d) = d (h i ∙ sizeIn-none i tree (free-off fit one three i l e))
 
-  number-in : {i : ℕ} → Used t i → numberBelow (slotsOf (t .names)) (t .cells) i ≡ sizeIn i tree
+  pub number-in : {i : ℕ} → Used t i → numberBelow (slotsOf (t .names)) (t .cells) i ≡ sizeIn i tree
   number-in {i} u =
       let b = part-of three u in
       let m = rooted-most (slotsOf (t .names)) (t .cells) (small fit) (rootOf t) (three .rooted) in
       walk-number (slotsOf (t .names)) (small fit) (b .hangs) (omega (arith, part-length (b .part)))
       ∙ sym (part-size (three .rooted .once) (b .part))
+
+  pub number-most : {i : ℕ} → Used t i → sizeIn i tree ≤ slotsOf (t .names)
+  number-most {i} u =
+      let b = part-of three u in
+      let m = rooted-most (slotsOf (t .names)) (t .cells) (small fit) (rootOf t) (three .rooted) in
+      omega (arith, part-size (three .rooted .once) (b .part), part-length (b .part))
 
   pub eight-tests : (i : ℕ) → i < slotsOf (t .names) → Decides (shows8 t i) (Shows8 t tree i)
   unfolding shows8

@@ -29,11 +29,11 @@ use Rattle.night_rules.proofs.Sizes.{eight-tests, eight-complete}
 use Rattle.night_rules.specs.Account.{tellsSlot, tellsSound}
 
 -- What a search for the lowest comes to.
-data Tried (f : ℕ → Bool) (i k : ℕ) : ℕ → Type 0 where
+pub data Tried (f : ℕ → Bool) (i k : ℕ) : ℕ → Type 0 where
   found : {r : ℕ} → i ≤ r → r < i + k → f r ≡ true → ((j : ℕ) → i ≤ j → j < r → f j ≡ false) → Tried f i k r
   nowhere : ((j : ℕ) → i ≤ j → j < i + k → f j ≡ false) → Tried f i k null
 
-tried : (f : ℕ → Bool) (k i : ℕ) → Tried f i k (lowestWith k f i)
+pub tried : (f : ℕ → Bool) (k i : ℕ) → Tried f i k (lowestWith k f i)
 unfolding lowestWith
 tried f zero i = nowhere (λ j a b. absurd (omega arith))
 tried f (suc k) i = go (f i) refl (tried f k (suc i))

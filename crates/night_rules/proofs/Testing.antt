@@ -148,7 +148,7 @@ header-none one (strayFirst d) = d (one .first)
 header-none one (miscounted d) = d (one .count)
 
 -- A neighbour along f, if any, points back along g.
-back-tests : (cells : List ℕ) (i f g : ℕ)
+pub back-tests : (cells : List ℕ) (i f g : ℕ)
     → Decides (neg (pointsBack cells i f g)) ((cell cells i f ≢ null) × (cell cells (cell cells i f) g ≢ i))
 unfolding pointsBack
 back-tests cells i f g =
@@ -160,11 +160,11 @@ unfolding oneChild
 child-tests cells p i = pick-tests (eq-tests _ _) (neg-tests (eq-tests _ _)) (eq-tests _ _)
 
 -- The first part of T3's reading: a root has no parent, another slot is exactly one of its parent's children.
-abbrev Misrooted : Live → ℕ → Type 0
+abbrev pub Misrooted : Live → ℕ → Type 0
 Misrooted t i =
     ((i ≡ rootOf t) × (cell (t .cells) i parent ≢ null)) ⊎ ((i ≢ rootOf t) × (OneChild (t .cells) (cell (t .cells) i parent) i → ⊥))
 
-misrooted-tests : (t : Live) (i : ℕ) → Decides (misrooted t i) (Misrooted t i)
+pub misrooted-tests : (t : Live) (i : ℕ) → Decides (misrooted t i) (Misrooted t i)
 unfolding misrooted
 misrooted-tests t i = go (ℕ-discrete i (rootOf t))
   where
@@ -186,11 +186,11 @@ misrooted-tests t i = go (ℕ-discrete i (rootOf t))
         lacks (inl p) = absurd (d (p .0))
         lacks (inr p) = p .1
 
-twins-tests : (cells : List ℕ) (i : ℕ) → Decides (twins cells i) ((cell cells i left ≢ null) × (cell cells i left ≡ cell cells i right))
+pub twins-tests : (cells : List ℕ) (i : ℕ) → Decides (twins cells i) ((cell cells i left ≢ null) × (cell cells i left ≡ cell cells i right))
 unfolding twins
 twins-tests cells i = and-tests (neg-tests (eq-tests _ _)) (eq-tests _ _)
 
-misfirst-tests : (t : Live) (i : ℕ) → Decides (misfirst t i) ((i ≡ firstOf t) × (cell (t .cells) i prev ≢ null))
+pub misfirst-tests : (t : Live) (i : ℕ) → Decides (misfirst t i) ((i ≡ firstOf t) × (cell (t .cells) i prev ≢ null))
 unfolding misfirst
 misfirst-tests t i = and-tests (eq-tests _ _) (neg-tests (eq-tests _ _))
 

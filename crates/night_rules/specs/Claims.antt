@@ -1,20 +1,26 @@
 -- What crate `night_rules` proves, in one record. Every statement of the crate stands here.
 use mathlib.Core.Path.{_≡_}
-use mathlib.Core.Logic.{_≢_, _↔_}
+use mathlib.Core.Logic.{_≢_, _⊎_, _↔_}
 use mathlib.Core.Bool.{true}
-use mathlib.Core.List.{List, [], _∷_}
-use Prim.Native.Nat.{ℕ, _<_}
-use lib.ListN.{length}
+use mathlib.Core.List.{List, [], _∷_, map}
+use Prim.Native.Nat.{ℕ, _<_, _≤_}
+use lib.ListN.{length, getD}
 use Rattle.slots.specs.Words.{null}
 use Rattle.slots.specs.Answers.{given, refused}
 use Rattle.tree_rules.specs.Find.{slotsOf}
 use Rattle.tree_rules.specs.Tree.{Tree}
-use Rattle.index_rules.specs.Live.{Live, Fit}
+use Rattle.redblack.specs.Holding.{Stands}
+use Rattle.index_rules.specs.Live.{Live, Fit, lentTree, countOf}
 use Rattle.index_rules.specs.Sound.{Sound, T1, T2, T3, T4, T5, T6, T7, T8, sounds}
+use Rattle.index_rules.specs.Contents.{Entry, entryOf, contents, listing, In}
 use Rattle.night_rules.specs.Account.{WayDown, Account, tellsSlot, tellsHeader, tellsPair, tellsWays, tellsSound, shownWords}
 use Rattle.night_rules.specs.Shows.{Shows1, Header1, Shows3, Shows4, Shows5, Shows6, Shows7, Shows8}
 use Rattle.night_rules.specs.Reason.{Reason}
+use Rattle.night_rules.specs.Breach.{BreaksAt, breach}
+use Rattle.night_rules.specs.Finding.{Examined}
 use Rattle.night_rules.specs.Why.{shows1, shows3, shows4, shows5, shows6, shows7, shows8, why, whys}
+use Rattle.night_rules.specs.Salvage.{Salvaged, salvaged, salvages}
+use Rattle.night_rules.specs.Saved.{ClearedTree, FitSalvage, KeptSlot, Reports, slotEntry, keptBelow, keptDown, Filled}
 
 -- "Given the rules before it, a rule holds exactly if no slot, nor the header, shows it broken." T4 to T6 and T8 are asked of the tree that
 -- has T3.
@@ -80,9 +86,50 @@ pub record Whys (t : Live) (shown : List ℕ) : Type 0 where
   pub reason : (k : ℕ) → whys t shown .answer ≡ given k → k ≢ 0
       → (w : Account) × Reason t w × (w .rule ≡ k) × (whys t shown .shown ≡ shownWords w)
 
+-- What a salvage that is not refused comes to, of the names and cells of a first tree and a cleared second one.
+pub record Saves (names cells : List ℕ) (u : Live) (report : List ℕ) (o : Salvaged) : Type 0 where
+  pub reports : (i : ℕ) → i < slotsOf names → Reports names cells (o .report) i
+  -- "Words of the report past the slots stay."
+  pub past : (i : ℕ) → slotsOf names ≤ i → getD (o .report) i null ≡ getD report i null
+  pub long : length (o .report) ≡ length report
+  -- "It answers the slots kept."
+  pub answer : o .answer ≡ given (keptBelow (o .report) (slotsOf names))
+  -- "After every call not refused it is sound", and of the same capacity
+  pub fit : Fit (o .into)
+  pub same : slotsOf (o .into .names) ≡ slotsOf names
+  pub sound : Sound (o .into)
+  -- "holds the entries of the kept slots and no others", as many as are kept
+  pub holds : (e : Entry)
+      → In e (contents sound) ↔ ((i : ℕ) × (i < slotsOf names) × KeptSlot (o .report) i × (slotEntry names cells i ≡ e))
+  pub many : length (contents sound) ≡ keptBelow (o .report) (slotsOf names)
+  -- "Kept slots go to slots 0, 1, 2 and so on of the second tree, in their order"
+  pub placed : (i : ℕ) → i < slotsOf names → KeptSlot (o .report) i → Stands (keptBelow (o .report) i) (sound .tree)
+      × (entryOf (o .into) (keptBelow (o .report) i) ≡ slotEntry names cells i)
+  -- "the listing has the last kept slot first"
+  pub lists : listing sound ≡ map (slotEntry names cells) (keptDown (o .report) (slotsOf names))
+  -- "as the inserts of these entries in their order leave it"
+  pub filled : Filled u (map (slotEntry names cells) (keptDown (o .report) (slotsOf names))) (o .into)
+  -- "From a sound tree it gives the same pairs and places, and every slot is kept or free."
+  pub whole : (head sizes : List ℕ) → Fit (lentTree names cells head sizes) → (h : Sound (lentTree names cells head sizes))
+      → (contents sound ≡ contents h) × ((i : ℕ) → i < slotsOf names → KeptSlot (o .report) i ⊎ (getD (o .report) i null ≡ 1))
+
+-- The call on any words: "Refusals: 1 only".
+pub record Salvages (names cells : List ℕ) (u : Live) (report : List ℕ) : Type 0 where
+  pub one : (salvages names cells u report .answer ≡ refused 1) ↔ (FitSalvage names cells u report → ⊥)
+  -- "A refused call writes nothing."
+  pub nothing-written : salvages names cells u report .answer .number ≢ 0 → salvages names cells u report ≡ salvaged (refused 1) u report
+  pub done : FitSalvage names cells u report → Saves names cells u report (salvages names cells u report)
+
 pub record Claims : Type 0 where
   pub complete : (t : Live) → Fit t → Complete t
   pub tested : (t : Live) → Fit t → (i : ℕ) → i < slotsOf (t .names) → Tested t i
   pub shown : ShownTable
   pub reasons : (t : Live) → Fit t → Reasons t
+  -- how the rule is broken, at the slot or in the header, is true of the tree
+  pub breaches : (t : Live) → Fit t → (w : Account) → Reason t w → BreaksAt t w (breach t w)
+  -- what is found on any words: each finding exactly when, and true
+  pub examined : (t : Live) → Examined t
   pub whys : (t : Live) (shown : List ℕ) → Whys t shown
+  -- "cleared exactly if it is sound and its count is 0"
+  pub cleared : (u : Live) → Fit u → ClearedTree u ↔ (Sound u × (countOf u ≡ 0))
+  pub salvages : (names cells : List ℕ) (u : Live) (report : List ℕ) → Salvages names cells u report

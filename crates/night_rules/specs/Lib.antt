@@ -2,4 +2,8 @@ pub mod Account
 pub mod Shows
 pub mod Reason
 pub mod Why
+pub mod Breach
+pub mod Finding
+pub mod Salvage
+pub mod Saved
 pub mod Claims

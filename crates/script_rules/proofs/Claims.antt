@@ -12,6 +12,7 @@ use Rattle.script_rules.specs.Commands.{Command, insert, remove, find, r
 use Rattle.script_rules.specs.Letters.{textOf, InFields}
 use Rattle.script_rules.specs.Feeding.{Line, longest, Desk, Fed, feeds, deskOf}
 use Rattle.script_rules.specs.Claims.{Means, Calls, Claims}
+use Rattle.script_rules.proofs.Filling.{fills, fields}
 use Rattle.script_rules.proofs.Numbers.{decimal-claims}
 use Rattle.script_rules.proofs.Meaning.{meant-told, text-meant}
 use Rattle.script_rules.proofs.Feeding.{feeds-short, feeds-long}
@@ -89,6 +90,8 @@ calls chunk line ix buffer = record {
 
 pub claims : Claims
 claims = record {
+  fills = fills;
+  fields = fields;
   decimals = decimal-claims;
   means = means;
   room = answer-short;

@@ -1,4 +1,5 @@
 pub mod Typing
+pub mod Filling
 pub mod Reading
 pub mod Numbers
 pub mod Meaning

@@ -5,6 +5,7 @@ use mathlib.Core.List.{List, [], _∷_, _++_, map}
 use Prim.Native.Nat.{ℕ, _+_, _^_, _<_, _≤_}
 use Prim.Native.String.{String}
 use lib.ListN.{length, take}
+use Rattle.slots.specs.Words.{null}
 use Rattle.slots.specs.Answers.{given, nothing, refused}
 use Rattle.tree_rules.specs.Find.{slotsOf}
 use Rattle.index_rules.specs.Live.{Live, unsizedOf, Fit, firstOf}
@@ -18,6 +19,7 @@ use Rattle.index_rules.specs.Rollback.{rolls}
 use Rattle.script_rules.specs.Text.{newline, decimal, worth, Digits}
 use Rattle.script_rules.specs.Commands.{Command, insert, remove, find, rollback, mark, list, bad, spoken}
 use Rattle.script_rules.specs.Letters.{letters, textOf, InFields, wordLine, listingText, NextVisits}
+use Rattle.script_rules.specs.Blanks.{fieldText, blanksFilled}
 use Rattle.script_rules.specs.Answers.{Said, receiptText, carriedOut}
 use Rattle.script_rules.specs.Feeding.{Line, blankLine, Paper, typed, longest, feeds, finishes, Heard, prefixed, heard, deskOf}
 use Rattle.script_rules.specs.Feeding.{lentPaper, receipts, printed, Run, NoNewline}
@@ -95,7 +97,28 @@ pub record PrintsReceipt (number : ℕ) (t : Live) : Type 0 where
       → let p = receipts number t (lentPaper buffer 0) in take (p .at) (p .bytes) ≡ receiptText number t
   pub short : (buffer : List ℕ) → length buffer < longest → receipts number t (lentPaper buffer 0) ≡ lentPaper buffer 0
 
+-- A sentence with blanks: a number, a link or the name of a field for each of them in their order, and every other byte as it is.
+pub record Fills (sentence numbers : List ℕ) (v : ℕ) : Type 0 where
+  pub number : blanksFilled (letters "#" ++ sentence) (v ∷ numbers) ≡ decimal v ++ blanksFilled sentence numbers
+  pub link : v ≢ null → blanksFilled (letters "@" ++ sentence) (v ∷ numbers) ≡ decimal v ++ blanksFilled sentence numbers
+  pub no-link : blanksFilled (letters "@" ++ sentence) (null ∷ numbers) ≡ letters "null" ++ blanksFilled sentence numbers
+  pub field : blanksFilled (letters "%" ++ sentence) (v ∷ numbers) ≡ fieldText v ++ blanksFilled sentence numbers
+  pub other : (b : ℕ) → b ≢ 35 → b ≢ 64 → b ≢ 37 → blanksFilled (b ∷ sentence) numbers ≡ b ∷ blanksFilled sentence numbers
+  pub end : blanksFilled [] numbers ≡ []
+
+-- "place, state, parent, left, right, prev, next (fields 0 to 6)".
+pub record Fields : Type 0 where
+  pub places : fieldText 0 ≡ letters "place"
+  pub states : fieldText 1 ≡ letters "state"
+  pub parents : fieldText 2 ≡ letters "parent"
+  pub lefts : fieldText 3 ≡ letters "left"
+  pub rights : fieldText 4 ≡ letters "right"
+  pub prevs : fieldText 5 ≡ letters "prev"
+  pub nexts : fieldText 6 ≡ letters "next"
+
 pub record Claims : Type 0 where
+  pub fills : (sentence numbers : List ℕ) (v : ℕ) → Fills sentence numbers v
+  pub fields : Fields
   pub decimals : (x : ℕ) → Decimals x
   pub means : (l : List ℕ) → Means l
   -- no answer is longer than the room that is asked for, and what there is room for is written whole

@@ -14,10 +14,12 @@ use Rattle.index_rules.specs.Index.{Index, FitIndex}
 use Rattle.index_rules.specs.Contents.{Entry, entry, contents}
 use Rattle.index_rules.specs.Calls.{Places}
 use Rattle.upload_rules.specs.Upload as U
-use Rattle.upload_rules.specs.Upload.{Bytes, another, little, pairBytes, headerBytes, sectionBytes, sectionsBytes, entriesAt}
+use Rattle.upload_rules.specs.Upload.{pairBytes, headerBytes, sectionBytes, sectionsBytes, entriesAt}
+use Rattle.endian.specs.Bytes.{Bytes, another, little}
 use Rattle.upload_rules.specs.Upload.{entriesOf}
 use Rattle.upload_rules.specs.Parts.{UploadPart, between, within, partEntries, Partial, whole, kind, low, entries, Enters}
-use Rattle.upload_rules.proofs.Endian.{numberOf, little-length, number-little}
+use Rattle.endian.specs.Bytes.{numberOf}
+use Rattle.endian.proofs.Endian.{little-length, number-little}
 use Rattle.upload_rules.proofs.Differing.{differ-front, differ-next}
 use Rattle.upload_rules.proofs.Sections.{length-one, pair-length, pair-bytes, sections-more}
 use Rattle.upload_rules.proofs.Moving.{Spelled, spell, pairAt, bytes-take}

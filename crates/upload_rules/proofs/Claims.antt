@@ -12,7 +12,7 @@ use Rattle.index_rules.specs.Contents.{contents}
 use Rattle.index_rules.specs.Calls.{Places}
 use Rattle.index_rules.proofs.Inserting.{false-of, insert-claims}
 use Rattle.index_rules.proofs.Rolling.{rollback-claims}
-use Rattle.upload_rules.specs.Upload.{Bytes}
+use Rattle.endian.specs.Bytes.{Bytes}
 use Rattle.upload_rules.specs.Reader.{unsaid, noting, FitReader, fitsReader}
 use Rattle.upload_rules.specs.Reading.{Session, session, ReadOutcome, readOutcome, endCame, readEnd}
 use Rattle.upload_rules.specs.Steps.{ByteStep, short}

@@ -17,7 +17,8 @@ use Rattle.index_rules.specs.Contents.{Entry, contents}
 use Rattle.index_rules.specs.Calls.{Places}
 use Rattle.index_rules.proofs.Inserting.{value-inj}
 use Rattle.upload_rules.specs.Upload as U
-use Rattle.upload_rules.specs.Upload.{Bytes, entriesOf, Upload}
+use Rattle.upload_rules.specs.Upload.{entriesOf, Upload}
+use Rattle.endian.specs.Bytes.{Bytes}
 use Rattle.upload_rules.specs.Reader.{Note, said, noting, noteAnswer, readerAnswer}
 use Rattle.upload_rules.specs.Reading.{Session, session, ReadOutcome, readOutcome, turnedDown, byteCame, bytesRead, endCame, endRead}
 use Rattle.upload_rules.specs.Reading.{readChunk, newSession, readWhole}

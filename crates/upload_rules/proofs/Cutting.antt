@@ -6,7 +6,7 @@ use mathlib.Core.List.{List, [], _∷_, _++_, append-nil, append-assoc}
 use Prim.Native.Nat.{ℕ}
 use Rattle.slots.specs.Answers.{Answer, refused}
 use Rattle.index_rules.specs.Index.{Index}
-use Rattle.upload_rules.specs.Upload.{Bytes, nothing, another}
+use Rattle.endian.specs.Bytes.{Bytes, nothing, another}
 use Rattle.upload_rules.specs.Reader.{Note, unsaid, said, Reader, FitReader, fitsReader, isWhole, noteAnswer, readerAnswer}
 use Rattle.upload_rules.specs.Reading.{Session, ReadOutcome, readOutcome, turnedDown, byteCame, byteRead, bytesRead, endCame, endRead}
 use Rattle.upload_rules.specs.Reading.{readChunk, readEnd, readChunks, joinedBytes}

@@ -16,7 +16,8 @@ use Rattle.index_rules.specs.Contents.{Entry, contents}
 use Rattle.index_rules.specs.Calls.{Places}
 use Rattle.index_rules.proofs.Inserting.{value-inj}
 use Rattle.upload_rules.specs.Upload as U
-use Rattle.upload_rules.specs.Upload.{Bytes, nothing, another, pairBytes}
+use Rattle.upload_rules.specs.Upload.{pairBytes}
+use Rattle.endian.specs.Bytes.{Bytes, nothing, another}
 use Rattle.upload_rules.specs.Reader.{said}
 use Rattle.upload_rules.specs.Reading.{Session, bytesRead, newSession}
 use Rattle.upload_rules.specs.Parts.{UploadPart, between, kinded, counting, within, partBytes, partEntries, Partial, whole, kind, low}

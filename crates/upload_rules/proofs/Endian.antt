@@ -1,44 +1,11 @@
--- Bytes shifted in one after another are the number whose bytes they are, the lowest first.
-use mathlib.Core.Path.{_≡_, refl, ap}
+-- Bytes shifted in one after another are the number whose bytes they are.
+use mathlib.Core.Path.{_≡_, refl}
 use mathlib.Core.List.{List, [], _∷_, _++_}
-use Prim.Native.Nat.{ℕ, zero, suc, _+_, _*_, _/_, _%_, _^_, _<_}
+use Prim.Native.Nat.{ℕ, _+_, _*_, _^_, _<_}
 use native.Mathlib.Omega.{arith}
 use lib.ListN.{length}
-use Rattle.upload_rules.specs.Upload.{Bytes, nothing, another, little}
+use Rattle.endian.specs.Bytes.{numberOf}
 use Rattle.upload_rules.specs.Reading.{countByte, nameByte}
-
--- The number whose bytes these are.
-unfoldable pub numberOf : List ℕ → ℕ
-numberOf [] = 0
-numberOf (b ∷ l) = b + 256 * numberOf l
-
-pub little-length : (n x : ℕ) → length (little n x) ≡ n
-unfolding little
-little-length zero x = refl
-little-length (suc n) x = ap suc (little-length n (x / 256))
-
-pub little-bytes : (n x : ℕ) → Bytes (little n x)
-unfolding little
-little-bytes zero x = nothing
-little-bytes (suc n) x = another {b = x % 256} (omega arith) (little-bytes n (x / 256))
-
-pub number-little : (n x : ℕ) → x < 256 ^ n → numberOf (little n x) ≡ x
-unfolding little numberOf
-number-little zero x h = omega arith
-number-little (suc n) x h = let a = number-little n (x / 256) (omega arith) in omega arith
-
-pub little-number : {l : List ℕ} → Bytes l → little (length l) (numberOf l) ≡ l
-unfolding little numberOf
-little-number nothing = refl
-little-number (another {b} {l} h k) =
-    let m : (b + 256 * numberOf l) % 256 ≡ b = omega arith in
-    let d : (b + 256 * numberOf l) / 256 ≡ numberOf l = omega arith in
-    rw (m, d) (ap (λ (x : List ℕ). b ∷ x) (little-number k))
-
-pub number-small : {l : List ℕ} → Bytes l → numberOf l < 256 ^ length l
-unfolding numberOf
-number-small nothing = omega arith
-number-small (another {b} {l} h k) = let a = number-small k in let g : b + 256 * numberOf l < 256 ^ suc (length l) = omega arith in g
 
 -- The count's low byte comes first.
 pub count-two : (lo hi : ℕ) → lo < 256 → hi < 256 → countByte (countByte 0 lo) hi ≡ lo + 256 * hi

@@ -7,7 +7,8 @@ use native.Mathlib.Omega.{arith}
 use lib.ListN.{length, length-append}
 use Rattle.slots.specs.Pairs.{Pair}
 use Rattle.index_rules.specs.Contents.{Entry, entry}
-use Rattle.upload_rules.specs.Upload.{little, pairBytes, pairsBytes, headerBytes, sectionBytes, sectionsBytes, Sections, none, more}
+use Rattle.upload_rules.specs.Upload.{pairBytes, pairsBytes, headerBytes, sectionBytes, sectionsBytes, Sections, none, more}
+use Rattle.endian.specs.Bytes.{little}
 use Rattle.upload_rules.specs.Upload.{Upload, entriesAt, entriesOf}
 use Rattle.upload_rules.specs.Parts.{between, kinded, counting, within, partBytes, partEntries}
 use Rattle.upload_rules.proofs.Sections.{pairsIn, pairs-one, header-length, sections-length, sections-one, entries-at-one}

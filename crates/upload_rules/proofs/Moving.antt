@@ -10,13 +10,16 @@ use lib.Seq.{take-all, take-append-le, drop-append-le, length-take-le}
 use borrow.Author.Tests.{eq-eqb, ne-eqb, ltb-true, ltb-false, lt-ltb, le-ltb}
 use Rattle.slots.specs.Pairs.{Pair, pair}
 use Rattle.index_rules.specs.Index.{Index}
-use Rattle.upload_rules.specs.Upload.{Bytes, nothing, another, little, pairBytes}
+use Rattle.upload_rules.specs.Upload.{pairBytes}
+use Rattle.endian.specs.Bytes.{Bytes, nothing, another, little}
 use Rattle.upload_rules.specs.Reader.{Note, Reader, readerOf, unsaid, isWhole}
 use Rattle.upload_rules.specs.Reading.{session, owing, kindCame, countCame, entryCame, lastCame, byteCame, countByte, nameByte}
 use Rattle.upload_rules.specs.Reading.{inHash, entryPlace}
 use Rattle.upload_rules.specs.Parts.{UploadPart, between, kinded, counting, within, partBytes}
 use Rattle.upload_rules.proofs.Ranges.{pick-by}
-use Rattle.upload_rules.proofs.Endian.{numberOf, little-number, number-small, count-two, gathered, gathered-one, gathered-number}
+use Rattle.upload_rules.proofs.Endian.{count-two, gathered, gathered-one, gathered-number}
+use Rattle.endian.specs.Bytes.{numberOf}
+use Rattle.endian.proofs.Endian.{little-number, number-small}
 use Rattle.upload_rules.proofs.Sections.{pairsIn, pairs-in-one, length-one}
 use Rattle.upload_rules.proofs.Growing.{placed-is}
 

@@ -11,7 +11,7 @@ use Rattle.slots.specs.Words.{pick}
 use Rattle.index_rules.specs.Index.{Index}
 use Rattle.index_rules.specs.Insert.{inserts}
 use Rattle.index_rules.proofs.Fit.{both}
-use Rattle.upload_rules.specs.Upload.{Bytes, nothing, another}
+use Rattle.endian.specs.Bytes.{Bytes, nothing, another}
 use Rattle.upload_rules.specs.Reader.{Note, Reader, readerOf, newReader, FitReader, fitsReader, isWhole, isOpen}
 use Rattle.upload_rules.specs.Reading.{Session, session, turnedDown, owing, kindCame, countCame, entryCame, lastCame, byteCame}
 use Rattle.upload_rules.specs.Reading.{byteRead, bytesRead, endCame, endRead, countByte, nameByte, inHash, entryPlace}

@@ -16,7 +16,7 @@ use Rattle.index_rules.specs.Claims.{Demand3}
 use Rattle.index_rules.proofs.Inserting.{insert-claims}
 use Rattle.index_rules.proofs.Rolling.{rollback-claims}
 use Rattle.index_rules.proofs.Demanding.{demand-three}
-use Rattle.upload_rules.specs.Upload.{Bytes, nothing, another}
+use Rattle.endian.specs.Bytes.{Bytes, nothing, another}
 use Rattle.upload_rules.specs.Reader.{Note, Reader, newReader, unsaid, said, FitReader, isWhole, noteAnswer, readerAnswer}
 use Rattle.upload_rules.specs.Reading.{Session, session, ReadOutcome, byteRead, bytesRead, endCame, endRead, readChunk, readEnd}
 use Rattle.upload_rules.specs.Reading.{newSession, readWhole}

@@ -6,10 +6,11 @@ use native.Mathlib.Omega.{arith}
 use lib.ListN.{length, length-append}
 use Rattle.slots.specs.Pairs.{Pair}
 use Rattle.index_rules.specs.Contents.{Entry, entry, put}
-use Rattle.upload_rules.specs.Upload.{Bytes, little, pairBytes, pairsBytes, headerBytes, sectionBytes, sectionsBytes, Pairs, Sections}
+use Rattle.upload_rules.specs.Upload.{pairBytes, pairsBytes, headerBytes, sectionBytes, sectionsBytes, Pairs, Sections}
+use Rattle.endian.specs.Bytes.{Bytes, little}
 use Rattle.upload_rules.specs.Upload.{none, more, entriesAt, entriesOf}
 use Rattle.upload_rules.specs.Parts.{putAll}
-use Rattle.upload_rules.proofs.Endian.{little-length, little-bytes}
+use Rattle.endian.proofs.Endian.{little-length, little-bytes}
 use Rattle.upload_rules.proofs.Cutting.{bytes-append}
 
 -- How many pairs sections have.

@@ -12,7 +12,8 @@ use Rattle.index_rules.specs.Insert.{inserts}
 use Rattle.index_rules.specs.Rollback.{rolls}
 use Rattle.index_rules.specs.Contents.{contents}
 use Rattle.index_rules.specs.Calls.{Places}
-use Rattle.upload_rules.specs.Upload.{Bytes, Upload, entriesOf}
+use Rattle.upload_rules.specs.Upload.{Upload, entriesOf}
+use Rattle.endian.specs.Bytes.{Bytes}
 use Rattle.upload_rules.specs.Reader.{newReader, unsaid, said, noting, FitReader}
 use Rattle.upload_rules.specs.Reading.{Session, session, readOutcome, byteRead, newSession}
 use Rattle.upload_rules.specs.Reading.{readStart, readChunk, readEnd, readChunks, joinedBytes, readWhole}

@@ -13,7 +13,8 @@ use Rattle.index_rules.specs.Sound.{Sound}
 use Rattle.index_rules.specs.Index.{Index, lengthOf, linesOf}
 use Rattle.index_rules.specs.Contents.{Entry, contents, put, HasPair, Lacks}
 use Rattle.index_rules.specs.Calls.{Call, insertCall, after}
-use Rattle.upload_rules.specs.Upload.{Bytes, pairBytes, pairsBytes, headerBytes, sectionsBytes, Pairs, Sections, entriesAt, entriesOf}
+use Rattle.upload_rules.specs.Upload.{pairBytes, pairsBytes, headerBytes, sectionsBytes, Pairs, Sections, entriesAt, entriesOf}
+use Rattle.endian.specs.Bytes.{Bytes}
 
 -- Whole sections; or besides them the next one's kind byte; or that and the low byte of its count; or its header with this count, the
 -- pairs of some entries, and some bytes of the next.

@@ -1,20 +1,11 @@
 -- What an upload is: four sections of pairs, their bytes, and their entries. Nothing here knows of a reader.
 use mathlib.Core.Path.{_≡_}
 use mathlib.Core.List.{List, [], _∷_, _++_}
-use Prim.Native.Nat.{ℕ, zero, suc, _+_, _/_, _%_, _^_, _<_}
+use Prim.Native.Nat.{ℕ, suc, _+_, _^_, _<_}
 use lib.ListN.{length}
+use Rattle.endian.specs.Bytes.{little}
 use Rattle.slots.specs.Pairs.{Pair}
 use Rattle.index_rules.specs.Contents.{Entry, entry}
-
--- The numbers of a list are bytes.
-pub data Bytes : List ℕ → Type 0 where
-  nothing : Bytes []
-  another : {b : ℕ} {l : List ℕ} → b < 256 → Bytes l → Bytes (b ∷ l)
-
--- "Both little-endian, which is the lowest byte first": so many bytes of a number.
-unfoldable pub little : ℕ → ℕ → List ℕ
-little zero x = []
-little (suc n) x = (x % 256) ∷ little n (x / 256)
 
 -- "entries of eight bytes hash and eight bytes key"
 unfoldable pub pairBytes : Pair → List ℕ

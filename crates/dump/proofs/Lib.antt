@@ -1,0 +1,4 @@
+pub mod Measuring
+pub mod Loading
+pub mod Telling
+pub mod Claims

@@ -1,0 +1,6 @@
+pub mod Sentences
+pub mod Measuring
+pub mod Dumping
+pub mod Printing
+pub mod Room
+pub mod Claims

@@ -1,0 +1,3 @@
+pub mod Dump
+pub mod Sentence
+pub mod Claims

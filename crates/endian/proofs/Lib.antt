@@ -1,0 +1,3 @@
+pub mod Reading
+pub mod Endian
+pub mod Claims
