@@ -1,5 +1,5 @@
 //! Times in one run and on the same inputs: the exports, the source's own routines, and BTreeMap. Each figure is the best of the rounds.
-use harness::oz::{Index, Set, NULL};
+use harness::oz::{self, Index, Set, NULL};
 use harness::rng::Rng;
 use harness::sets;
 use harness::uploads;
@@ -166,6 +166,48 @@ fn upload_rows(rng: &mut Rng) {
     }
 }
 
+/// Salvage of 4,096 slots into a cleared tree, with no pair twice, and with the pairs of the first half again in the second; beside Rust
+/// that reads the same words into a BTreeMap: states 1 and 2, of each pair the first. Each figure is for all slots together.
+fn salvage_rows(rng: &mut Rng) {
+    const SLOTS: usize = 4096;
+    let cleared = Index::new(SLOTS, 0);
+    let mut first = cleared.clone();
+    for i in 0..SLOTS {
+        first.names[2 * i..2 * i + 2].copy_from_slice(&[rng.next(), rng.next()]);
+        first.cells[7 * i..7 * i + 2].copy_from_slice(&[i as u32, 1 + i as u32 % 2]);
+    }
+    let mut repeats = first.clone();
+    // The second half of the slots repeats the first, in a drawn order.
+    let mut order: Vec<usize> = (0..SLOTS / 2).collect();
+    rng.shuffle(&mut order);
+    for (i, of) in order.into_iter().enumerate() {
+        repeats.names.copy_within(2 * of..2 * of + 2, SLOTS + 2 * i);
+    }
+    for (name, first, kept) in [("all kept", &first, SLOTS), ("half of them repeats", &repeats, SLOTS / 2)] {
+        let (mut ours, mut map_time) = (f64::INFINITY, f64::INFINITY);
+        for _ in 0..ROUNDS {
+            let mut into = cleared.clone();
+            let mut report = vec![0; SLOTS];
+            let Index { names, cells, head, sizes, .. } = &mut into;
+            let from = Instant::now();
+            let answer = black_box(oz::salvage(&first.names, &first.cells, names, cells, head, sizes, &mut report));
+            ours = ours.min(from.elapsed().as_nanos() as f64);
+            assert_eq!((answer.number, answer.value as usize), (0, kept));
+            let (names, cells) = (black_box(&first.names), black_box(&first.cells));
+            let from = Instant::now();
+            let mut map = BTreeMap::new();
+            for (name, cell) in names.chunks_exact(2).zip(cells.chunks_exact(7)) {
+                if matches!(cell[oz::STATE], 1 | 2) {
+                    map.entry((name[0], name[1])).or_insert(cell[oz::PLACE]);
+                }
+            }
+            assert_eq!(black_box(&map).len(), kept);
+            map_time = map_time.min(from.elapsed().as_nanos() as f64);
+        }
+        row(&format!("salvage of 4,096 slots, {name}"), ours, None, Some(map_time));
+    }
+}
+
 fn main() {
     println!("| what | ours, ns | source, ns | BTreeMap, ns | ours / source | ours / BTreeMap |");
     println!("|---|---|---|---|---|---|");
@@ -298,6 +340,7 @@ fn main() {
     }
     batch_rows(&mut rng);
     upload_rows(&mut rng);
+    salvage_rows(&mut Rng::new(11));
     let set = sets::draw(&mut rng, 3, 64, 4096, 0);
     let n = set.names.len() / 2;
     let tables = Tables::of_words(&set).expect("an accepted set");

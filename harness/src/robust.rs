@@ -1,42 +1,10 @@
 //! Calls on random and damaged words, lengths and cursors, with guard words around each slice, and random runs of demand 3.
+use harness::lent::{Lent, G32, G64, GUARD};
 use harness::oz::{self, Index, LINE_WORDS, NOTED, NULL};
 use harness::rng::Rng;
+use harness::saved::Salvage;
 use harness::sets;
 use std::collections::BTreeMap;
-
-const GUARD: usize = 8;
-
-/// A slice with guard words on both sides.
-#[derive(Clone, PartialEq)]
-struct Lent<T> {
-    all: Vec<T>,
-    len: usize,
-}
-
-impl<T: Copy + PartialEq> Lent<T> {
-    fn new(words: &[T], guard: T) -> Self {
-        let mut all = vec![guard; GUARD];
-        all.extend_from_slice(words);
-        all.extend(std::iter::repeat(guard).take(GUARD));
-        Lent { all, len: words.len() }
-    }
-
-    fn get(&self) -> &[T] {
-        &self.all[GUARD..GUARD + self.len]
-    }
-
-    fn lend(&mut self) -> &mut [T] {
-        &mut self.all[GUARD..GUARD + self.len]
-    }
-
-    fn guarded(&self, guard: T) -> bool {
-        let end = GUARD + self.len;
-        self.all[..GUARD].iter().chain(&self.all[end..]).all(|w| *w == guard)
-    }
-}
-
-const G64: u64 = 0xA5A5_5A5A_C3C3_3C3C;
-const G32: u32 = 0x5AA5_3CC3;
 
 #[derive(Clone, PartialEq)]
 struct Live {
@@ -512,6 +480,33 @@ fn reason_calls(rng: &mut Rng, tally: &mut Tally) {
     }
 }
 
+/// Salvage of any first tree: into a cleared tree of its capacity or another, now and then with a word changed or of another length, with a
+/// report of about as many words. Words and answer are to be those of the model.
+fn salvage_any(rng: &mut Rng, l: &Live) -> (&'static str, oz::Answer, bool) {
+    let n = l.names.len / 2;
+    let slots = if rng.below(20) == 0 { rng.below(n as u64 + 3) as usize } else { n };
+    let mut second = Index::new(slots, 0);
+    if rng.below(8) == 0 {
+        let Index { names, cells, head, sizes, .. } = &mut second;
+        match rng.below(4) {
+            0 => names.iter_mut().skip(rng.below(slots as u64 + 1) as usize).take(1).for_each(|w| *w = word64(rng, 3)),
+            1 => head[rng.below(3) as usize] = word32(rng, slots as u64),
+            2 => sizes.iter_mut().skip(rng.below(slots as u64 + 1) as usize).take(1).for_each(|w| *w = word32(rng, 3)),
+            _ => cells.iter_mut().skip(rng.below(7 * slots as u64 + 1) as usize).take(1).for_each(|w| *w = word32(rng, slots as u64)),
+        }
+    }
+    let (a, b, c, d) = (length(rng, 2 * slots), length(rng, 7 * slots), length(rng, 3), length(rng, slots));
+    resize(&mut second.names, a, 0);
+    resize(&mut second.cells, b, NULL);
+    resize(&mut second.head, c, NULL);
+    resize(&mut second.sizes, d, 0);
+    let report: Vec<u32> = (0..length(rng, n)).map(|_| word32(rng, 4)).collect();
+    let mut lent = Salvage::new(l.names.get(), l.cells.get(), &second, &report);
+    let before = lent.clone();
+    let answer = lent.call();
+    ("salvage", answer, lent.wrong(&before, answer).is_none())
+}
+
 /// Batches of 1,100 drawn calls at the limits of slots and lines, the tree full but for one slot, each held to the same calls made singly:
 /// how many there were, and how many were not the same.
 fn limits(rng: &mut Rng) -> (u64, u64) {
@@ -549,7 +544,12 @@ fn live_calls(rng: &mut Rng, tally: &mut Tally) {
         let (h, k) = if rng.below(4) == 0 { (word64(rng, 3), word64(rng, 9)) } else { (rng.below(3), rng.below(8)) };
         let mark = word32(rng, 3);
         let mut as_single = true;
-        let (name, answer) = match rng.below(34) / 2 {
+        let (name, answer) = match rng.below(36) / 2 {
+            17 => {
+                let (name, answer, fine) = salvage_any(rng, &l);
+                as_single = fine;
+                (name, answer)
+            }
             14 | 15 => {
                 let (name, answer, fine) = read_any(rng, &mut l);
                 as_single = fine;
@@ -592,6 +592,7 @@ fn live_calls(rng: &mut Rng, tally: &mut Tally) {
         let writes = matches!(name, "fresh" | "insert" | "remove" | "replace" | "rollback" | "batch") && answer.number == 0;
         let fine = match name {
             "read_start" | "read_chunk" | "read_end" => as_single,
+            "salvage" => as_single && l == before,
             _ if name.starts_with("why") => as_single,
             "replace" if writes => l.guarded() && placed(&before, &l, answer.value),
             "remove" if writes => l.guarded() && l.sized() && noted(&before, &l, h, k),
