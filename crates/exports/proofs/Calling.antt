@@ -18,7 +18,7 @@ use Rattle.index_rules.specs.Contents.{contents}
 use Rattle.index_rules.specs.Calls.{Places}
 use Rattle.index_rules.proofs.Journal.{fits-index, index-fits}
 use Rattle.index_rules.proofs.Sounding.{yes-sound, unsound}
-use Rattle.upload_rules.specs.Upload as U
+use Rattle.endian.specs.Bytes as B
 use Rattle.endian.specs.Bytes.{Bytes}
 use Rattle.upload_rules.specs.Reader.{Note, unsaid, said, Reader, newReader, FitReader, fitsReader, noteAnswer, readerAnswer}
 use Rattle.upload_rules.specs.Reading.{Session, session, newSession, ReadOutcome, readOutcome, byteRead, bytesRead, readStart, readChunk}
@@ -102,8 +102,8 @@ byte-fine d b h f = go (d .reader .note) refl
 bytes-fine : (d : Session) {l : List ℕ} → Bytes l → FitReader (d .reader) → SayableReader (d .reader)
     → SayableReader (bytesRead d l .reader)
 unfolding bytesRead
-bytes-fine d U.nothing h f = f
-bytes-fine d (U.another {b} s k) h f = bytes-fine (byteRead d b) k (byte-range d b s h) (byte-fine d b h f)
+bytes-fine d B.nothing h f = f
+bytes-fine d (B.another {b} s k) h f = bytes-fine (byteRead d b) k (byte-range d b s h) (byte-fine d b h f)
 
 -- In range or not.
 in-or-out : {A : Type 0} (r : Reader) → (FitReader r → A) → ((FitReader r → ⊥) → A) → A
@@ -156,7 +156,7 @@ module _ (d : Session) (f : SayableReader (d .reader)) where
   end-good =
       in-or-out (d .reader)
       (λ h. (let e = end-in d h in
-      let i = claims .calls d .inside h [] U.nothing .1 in
+      let i = claims .calls d .inside h [] B.nothing .1 in
       let g = end-fine h in
       rw e (record { answers = fine-answer (endRead d .reader) (rw e at i) (rw e at g); fine = rw e at g })))
       (λ n. rw (claims .calls d .outside n [] .1) (record { answers = L.unfit; fine = f }))
