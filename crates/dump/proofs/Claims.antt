@@ -44,5 +44,7 @@ claims =
       gauge-one = λ bytes a b e f. measure-one-to-one a b (e ∙ sym f);
       load-one = λ names cells head sizes lines bytes a b e f. e ∙ sym f;
       answer-one = λ bytes out a b e f. e ∙ sym f;
+      write-one = λ p n c ix a b e f. e ∙ sym f;
+      rescue-one = λ bytes p q a b e f. e ∙ sym f;
       whole = stands;
     }

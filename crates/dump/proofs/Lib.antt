@@ -1,4 +1,5 @@
 pub mod Measuring
 pub mod Loading
 pub mod Telling
+pub mod Writing
 pub mod Claims

@@ -19,7 +19,7 @@ ghost use Rattle.dump_rules.specs.Dump.{loadedAs, loaded};
 ghost use Rattle.dump_rules.specs.Sentence.{indexText, whyText};
 
 // The words of the longest journal.
-const MOST_JOURNAL: usize = 1 + 6 * 1024;
+pub(crate) const MOST_JOURNAL: usize = 1 + 6 * 1024;
 
 // Of an index of c lines: a journal's length that passes them, or what is found of the tree.
 fn tell_index(
@@ -95,7 +95,7 @@ fn tell_dump(bytes: &[u8], n: u32, c: u32, out: &mut [u8]) -> usize
 }
 
 // What is printed of the bytes: of a dump what is found of its index, of other bytes what is wrong with them.
-fn tell_bytes(bytes: &[u8], out: &mut [u8]) -> usize
+pub(crate) fn tell_bytes(bytes: &[u8], out: &mut [u8]) -> usize
     ensures { λ r. ⌜ lentPaper (now (out .exit)) r ≡ typed (lentPaper (now (out .entry)) 0) (whyText (now (bytes .entry))) ⌝ }
 {
     let measure = gauge(bytes);

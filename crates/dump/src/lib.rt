@@ -2,5 +2,7 @@
 pub mod answer;
 pub mod load;
 pub mod measure;
+pub mod rescue;
 mod say;
 mod ways;
+pub mod write;

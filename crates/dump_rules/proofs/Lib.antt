@@ -3,4 +3,5 @@ pub mod Measuring
 pub mod Dumping
 pub mod Printing
 pub mod Room
+pub mod Rescuing
 pub mod Claims

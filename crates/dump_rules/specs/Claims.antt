@@ -1,12 +1,15 @@
 -- What crate `dump_rules` proves, in one record. Every statement of the crate stands here.
 use mathlib.Core.Path.{_≡_}
 use mathlib.Core.Logic.{_↔_}
-use mathlib.Core.List.{List, _++_}
-use Prim.Native.Nat.{ℕ, _<_, _≤_}
-use lib.ListN.{length}
+use mathlib.Core.List.{List, [], _++_}
+use Prim.Native.Nat.{ℕ, _+_, _<_, _≤_}
+use lib.ListN.{length, getD}
 use Rattle.endian.specs.Bytes.{Bytes}
-use Rattle.index_rules.specs.Sound.{Sound}
-use Rattle.index_rules.specs.Index.{Index, lengthOf}
+use Rattle.slots.specs.Words.{null, state, cell}
+use Rattle.tree_rules.specs.Chain.{tally}
+use Rattle.index_rules.specs.Sound.{Sound, used}
+use Rattle.index_rules.specs.Index.{Index, index, lengthOf}
+use Rattle.index_rules.specs.Fresh.{freshes}
 use Rattle.script_rules.specs.Text.{decimal}
 use Rattle.script_rules.specs.Letters.{letters}
 use Rattle.script_rules.specs.Blanks.{linkText, fieldText}
@@ -18,6 +21,7 @@ use Rattle.night_rules.specs.Breach.{redRoot}
 use Rattle.night_rules.specs.Breach.{redUnder, uneven, firstBehind, prevAstray, nextAstray, offFirst, wrongSize, freeSize}
 use Rattle.dump_rules.specs.Dump.{dumpBytes, DumpOf, whole, measured, loaded}
 use Rattle.dump_rules.specs.Sentence.{sentence, brokenText, whyText}
+use Rattle.dump_rules.specs.Rescue.{zeros, rescued, lossText, lossTexts, keptOf, rescueBytes, rescueWords}
 
 -- The sentence of each way of breaking a rule, in its own letters.
 pub record Sentences : Type 0 where
@@ -91,7 +95,28 @@ pub record Dumps (n c : ℕ) (ix : Index) : Type 0 where
       ≡ letters "unfit: the journal's length "
       ++ (decimal (lengthOf (ix .lines)) ++ (letters " passes its " ++ (decimal c ++ letters " lines\n")))
 
+-- The line of slot i on standard error, by its word of the report.
+pub record Losses (cells report : List ℕ) (i : ℕ) : Type 0 where
+  pub unknown : getD report i null ≡ 2
+      → lossText cells report i
+      ≡ letters "slot " ++ (decimal i ++ (letters ": unknown state " ++ (decimal (cell cells i state) ++ letters "\n")))
+  pub repeats : (s : ℕ) → getD report i null ≡ 3 + s
+      → lossText cells report i ≡ letters "slot " ++ (decimal i ++ (letters ": repeats slot " ++ (decimal s ++ letters "\n")))
+  -- a slot that is kept or free has none
+  pub none : getD report i null ≤ 1 → lossText cells report i ≡ []
+
+-- What `./salvage` writes of the dump of an index: the dump of what salvage makes of its names and cells, with an empty journal, and the
+-- lines of all its slots with the number kept.
+pub record Rescues (n c : ℕ) (ix : Index) : Type 0 where
+  pub dumped : rescueBytes (dumpBytes n c ix) ≡ dumpBytes n c (index (rescued n c ix .into) (freshes (zeros n c) .left .lines))
+  pub told : rescueWords (dumpBytes n c ix)
+      ≡ lossTexts n (ix .live .cells) (rescued n c ix .report) 0
+      ++ (letters "kept " ++ (decimal (keptOf (rescued n c ix .answer .value))
+      ++ (letters " of " ++ (decimal (tally n (used (ix .live .cells))) ++ letters "\n"))))
+
 pub record Claims : Type 0 where
+  pub losses : (cells report : List ℕ) (i : ℕ) → Losses cells report i
+  pub rescues : (n c : ℕ) (ix : Index) → DumpOf n c ix → Rescues n c ix
   pub sentences : Sentences
   pub dumps : (n c : ℕ) (ix : Index) → DumpOf n c ix → Dumps n c ix
   -- only a dump is taken

@@ -1,3 +1,4 @@
 pub mod Dump
 pub mod Sentence
+pub mod Rescue
 pub mod Claims

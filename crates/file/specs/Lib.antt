@@ -1,0 +1,4 @@
+pub mod Links
+pub mod Room
+pub mod Saved
+pub mod Claims

@@ -1,0 +1,9 @@
+pub mod File
+pub mod Saving
+pub mod Sample
+pub mod Layout
+pub mod Loader
+pub mod Loading
+pub mod Faults
+pub mod Left
+pub mod Claims
