@@ -1,4 +1,5 @@
 pub mod Sentences
+pub mod Rowing
 pub mod Measuring
 pub mod Dumping
 pub mod Printing

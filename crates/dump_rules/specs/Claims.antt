@@ -1,11 +1,11 @@
 -- What crate `dump_rules` proves, in one record. Every statement of the crate stands here.
 use mathlib.Core.Path.{_≡_}
-use mathlib.Core.Logic.{_↔_}
+use mathlib.Core.Logic.{_≢_, _↔_}
 use mathlib.Core.List.{List, [], _++_}
 use Prim.Native.Nat.{ℕ, _+_, _<_, _≤_}
 use lib.ListN.{length, getD}
 use Rattle.endian.specs.Bytes.{Bytes}
-use Rattle.slots.specs.Words.{null, state, cell}
+use Rattle.slots.specs.Words.{null, state, cell, code, red}
 use Rattle.tree_rules.specs.Chain.{tally}
 use Rattle.index_rules.specs.Sound.{Sound, used}
 use Rattle.index_rules.specs.Index.{Index, index, lengthOf}
@@ -20,7 +20,8 @@ use Rattle.night_rules.specs.Breach.{rootCount, firstCount, rootUnder, orphan, 
 use Rattle.night_rules.specs.Breach.{redRoot}
 use Rattle.night_rules.specs.Breach.{redUnder, uneven, firstBehind, prevAstray, nextAstray, offFirst, wrongSize, freeSize}
 use Rattle.dump_rules.specs.Dump.{dumpBytes, DumpOf, whole, measured, loaded}
-use Rattle.dump_rules.specs.Sentence.{sentence, brokenText, whyText}
+use Rattle.dump_rules.specs.Sentence.{sentence, stepText, downTo, onward, brokenText, whyText}
+use Rattle.dump_rules.specs.Rows.{RowDown, RowOn, behindText, rowText}
 use Rattle.dump_rules.specs.Rescue.{zeros, rescued, lossText, lossTexts, keptOf, rescueBytes, rescueWords}
 
 -- The sentence of each way of breaking a rule, in its own letters.
@@ -95,6 +96,13 @@ pub record Dumps (n c : ℕ) (ix : Index) : Type 0 where
       ≡ letters "unfit: the journal's length "
       ++ (decimal (lengthOf (ix .lines)) ++ (letters " passes its " ++ (decimal c ++ letters " lines\n")))
 
+-- A way of T6 is printed slot by slot from the root, each slot "with its colour".
+pub record Rows (cells : List ℕ) (n i : ℕ) : Type 0 where
+  pub down : (row : List ℕ) → RowDown cells i row → length row ≤ n + 1 → downTo n cells i ≡ rowText cells row
+  pub on : (row : List ℕ) → RowOn cells i row → length row ≤ n → onward n cells i ≡ behindText cells row
+  pub reds : cell cells i state ≡ code red → stepText cells i ≡ decimal i ++ letters " red"
+  pub blacks : cell cells i state ≢ code red → stepText cells i ≡ decimal i ++ letters " black"
+
 -- The line of slot i on standard error, by its word of the report.
 pub record Losses (cells report : List ℕ) (i : ℕ) : Type 0 where
   pub unknown : getD report i null ≡ 2
@@ -115,6 +123,7 @@ pub record Rescues (n c : ℕ) (ix : Index) : Type 0 where
       ++ (letters " of " ++ (decimal (tally n (used (ix .live .cells))) ++ letters "\n"))))
 
 pub record Claims : Type 0 where
+  pub rows : (cells : List ℕ) (n i : ℕ) → Rows cells n i
   pub losses : (cells report : List ℕ) (i : ℕ) → Losses cells report i
   pub rescues : (n c : ℕ) (ix : Index) → DumpOf n c ix → Rescues n c ix
   pub sentences : Sentences

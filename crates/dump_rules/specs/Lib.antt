@@ -1,4 +1,5 @@
 pub mod Dump
 pub mod Sentence
+pub mod Rows
 pub mod Rescue
 pub mod Claims
