@@ -27,22 +27,41 @@
  *                         to come in it, in the header the bytes of the count; the bytes of the entry's hash, and of its
  *                         key; the mark of the start; the entries taken; and the note, 0 while nothing is noted, else 1 +
  *                         the answer. docs/RULES.md, section 12, has their ranges
- *   chunk    u8           of an upload: bytes of it, any number
+ *   chunk    u8           of an upload or of a set's file: bytes of it, any number
  *   lengths  u32, 1 to 8  of a frozen set: the tables' lengths
  *   bins     u32          of a frozen set: all tables' bins in a row: 0 empty, 1 Moved, 2 + slot a list,
  *                         4098 + header a tree
  *   heads    u32, 3h      of a frozen set, per tree header: root, first, count
  *   cursor   u32, 11      base table, depth, eight indexes, last slot
+ *   out      u8, as many  of oz_save: the bytes of the file, OZ_FILE_BYTES of them
+ *            or more
+ *   loader   u64, 8       of a file that is loaded: the caller keeps them between the calls and writes none. Sections that are
+ *                         whole; 8 * the words of the next one that have come, its count the first of them, + the bytes of the
+ *                         next word; the number of those bytes; the four counts, tables, bin words, headers and slots, each 0
+ *                         until it has come; and the note, 0 while nothing is noted, else 1 + the answer. docs/RULES.md,
+ *                         section 16, has their ranges
  *
  * n is 1 to 4,096 (0 to 4,096 in a set), c is 0 to 1,024, h is 0 to 4,096. A link that leads nowhere is OZ_NULL.
  *
  * An empty index: names all 0; each slot's seven cells 0, 0, OZ_NULL, OZ_NULL, OZ_NULL, OZ_NULL, OZ_NULL; head OZ_NULL,
  * OZ_NULL, 0; sizes all 0; lines all 0. oz_fresh writes it.
  *
+ * A set's file. Four sections, each a count of four bytes and then so many items; every number has its lowest byte first.
+ *
+ *   section  an item                                                                             bytes   most
+ *   0        a table's length                                                                        4      8
+ *   1        a bin word                                                                              4  8,160
+ *   2        a tree header: root, first, count, four bytes each                                     12  4,096
+ *   3        a slot: hash and key, eight bytes each; place, four; state, one; parent, left,         41  4,096
+ *            right, prev and next, four each
+ *
+ * Counts are of items: of a header's three words and a slot's nine one each. A file has OZ_FILE_BYTES(tables, words, headers,
+ * slots) bytes, at most OZ_FILE_MOST.
+ *
  * Answers. An answer is value + 2^32 * number + 2^48 * looks; oz_value, oz_number and oz_looks take it apart. Number 0
- * is no refusal. 1 to 13, 15 and 18 are refusals: the value is 0, with 3 a slot, and nothing was written; what a refused
- * chunk or end call of an upload leaves stands with oz_read_chunk. Where several hold, the one that stands first in a
- * routine's list below is given. A number above 100 is a failing test of oz_check.
+ * is no refusal. 1 to 15 and 18 are refusals: the value is 0, with 3 a slot, and nothing was written; what a refused
+ * chunk or end call of an upload leaves stands with oz_read_chunk, and of a file with oz_load_chunk and oz_load_end. Where
+ * several hold, the one that stands first in a routine's list below is given. A number above 100 is a failing test of oz_check.
  * Looks are how many slots oz_find or oz_lookup read the hash of, on a hit, on OZ_NULL and on 9; every other answer has
  * 0.
  *
@@ -60,7 +79,7 @@
 
 enum {
     OZ_UNFIT = 1,          /* the lengths of the slices do not fit, or the journal's length passes its capacity */
-    OZ_DAMAGED = 2,        /* the tree is not sound */
+    OZ_DAMAGED = 2,        /* the tree is not sound; of oz_save and oz_load_end: the set is not accepted */
     OZ_PRESENT = 3,        /* the pair is there; the value is its slot */
     OZ_ABSENT = 4,         /* the pair is not there */
     OZ_FULL = 5,           /* no free slot */
@@ -70,12 +89,27 @@ enum {
     OZ_LOST = 9,           /* a read came to a word that leads nowhere, or to more slots than there are */
     OZ_UNKNOWN_TABLE = 10, /* no such table */
     OZ_BAD_CURSOR = 11,    /* no cursor of this set */
-    OZ_SHORT = 12,         /* an upload ends before its section 4 is whole */
-    OZ_LONG = 13,          /* a byte of an upload comes after section 4 */
+    OZ_SHORT = 12,         /* an upload ends before its section 4 is whole, or a file before its last section is */
+    OZ_LONG = 13,          /* a byte of an upload comes after section 4, or of a file after its last section */
+    OZ_OVER_LIMIT = 14,    /* a count of a file passes its limit, or its lent slice */
     OZ_OUT_OF_RANGE = 15,  /* there is no such position: it is not below the count */
     OZ_WRONG_KIND = 18,    /* a section of an upload begins with another byte than its kind */
     OZ_TEST = 100          /* 100 + t: test t of 1 to 8 of oz_check fails; the value is the slot */
 };
+
+/* The bytes of a set's file; its loader's words; and the most of each slice that a set has, with which every file that is
+ * allowed can be loaded: 8, 8,160, 12,288, 8,192 and 28,672 words, and 249,776 bytes. */
+#define OZ_FILE_BYTES(tables, words, headers, slots) \
+    (16 + 4 * (size_t)(tables) + 4 * (size_t)(words) + 12 * (size_t)(headers) + 41 * (size_t)(slots))
+enum {
+    OZ_LOADER = 8,
+    OZ_LENGTHS_MOST = 8,
+    OZ_BINS_MOST = 8160,
+    OZ_HEADS_MOST = 3 * 4096,
+    OZ_NAMES_MOST = 2 * 4096,
+    OZ_CELLS_MOST = 7 * 4096
+};
+#define OZ_FILE_MOST OZ_FILE_BYTES(8, 8160, 4096, 4096)
 
 static inline uint32_t oz_value(uint64_t answer) { return (uint32_t)answer; }
 static inline uint32_t oz_number(uint64_t answer) { return (uint16_t)(answer >> 32); }
@@ -213,6 +247,38 @@ uint64_t oz_start(const uint32_t *lengths, size_t lengths_len, const uint32_t *b
 uint64_t oz_walk(const uint32_t *lengths, size_t lengths_len, const uint32_t *bins, size_t bins_len,
                  const uint32_t *heads, size_t heads_len, const uint64_t *names, size_t names_len,
                  const uint32_t *cells, size_t cells_len, uint32_t *cursor, size_t cursor_len);
+
+/* Writes the set's file at the front of out, and answers the number of its bytes; those behind it stay, and the set is only
+ * read. Refusals 1 (for an out with fewer bytes than the file, too), 2 where the set is not accepted; nothing was written. */
+uint64_t oz_save(const uint32_t *lengths, size_t lengths_len, const uint32_t *bins, size_t bins_len,
+                 const uint32_t *heads, size_t heads_len, const uint64_t *names, size_t names_len,
+                 const uint32_t *cells, size_t cells_len, uint8_t *out, size_t out_len);
+
+/* Begins a file: writes the loader, whatever its words were, and answers 1. Refusal 1 for a loader that is not 8 words, with
+ * the loader as it was. */
+uint64_t oz_load_start(uint64_t *loader, size_t loader_len);
+
+/* Takes the bytes of a chunk one after the other, and writes each word into its slice when its last byte has come; answers the
+ * bytes taken since the start. Wherever a file is cut, the answers and all words are the same, where nobody else writes them
+ * between the calls. The slices may hold anything, and may be longer than the set's. Refusals 14 at the last byte of a count that
+ * passes its limit or its slice (of slots names or cells), 13 at a byte after the last section: every word of the five slices
+ * becomes 0, the answer is noted in the loader, whose other words stay as they were before that byte, and every later chunk and
+ * end call give it again and change nothing, whatever is lent. 1 where the loader is not 8 words or one is out of its range, or,
+ * nothing being noted, where a slice is too short for a count that was taken: not noted, and nothing changes. */
+uint64_t oz_load_chunk(uint32_t *lengths, size_t lengths_len, uint32_t *bins, size_t bins_len, uint32_t *heads,
+                       size_t heads_len, uint64_t *names, size_t names_len, uint32_t *cells, size_t cells_len,
+                       uint64_t *loader, size_t loader_len, const uint8_t *chunk, size_t chunk_len);
+
+/* The file has ended: answers its bytes exactly if it is the file of an accepted set. The set stands at the front of the slices,
+ * as many words of each as the counts say: loader[3] of lengths, loader[4] of bins, 3 * loader[5] of heads, 2 * loader[6] of
+ * names and 7 * loader[6] of cells. Lend so many to oz_lookup, oz_start, oz_walk and oz_save. The rest of each slice is 0, and the
+ * answer is noted, so that a later chunk gives it again. Refusals 12 where the last section is not whole, then 1 where the set
+ * does not fit and 2 where it is not accepted, each noted and with every word of the five slices 0, as of a chunk. There is a
+ * second 1, that of a chunk, which is not noted and changes nothing; the number is the same, but after the first loader[7] has
+ * become 1 + 2^32, and after the second it is what it was. */
+uint64_t oz_load_end(uint32_t *lengths, size_t lengths_len, uint32_t *bins, size_t bins_len, uint32_t *heads,
+                     size_t heads_len, uint64_t *names, size_t names_len, uint32_t *cells, size_t cells_len,
+                     uint64_t *loader, size_t loader_len);
 
 #ifdef __cplusplus
 }

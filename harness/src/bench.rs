@@ -1,4 +1,5 @@
 //! Times in one run and on the same inputs: the exports, the source's own routines, and BTreeMap. Each figure is the best of the rounds.
+use harness::files;
 use harness::oz::{self, Index, Set, NULL};
 use harness::rng::Rng;
 use harness::sets;
@@ -208,6 +209,104 @@ fn salvage_rows(rng: &mut Rng) {
     }
 }
 
+/// Rust that writes the words of a set's file by to_le_bytes, and nothing else. Like read_words it is called as the exports are: inlined
+/// into the rounds it is compiled otherwise from program to program, and a read took 1.6 times as long in one of them.
+#[inline(never)]
+fn write_words(s: &Set, out: &mut [u8]) -> usize {
+    let mut at = 0;
+    let mut put = |bytes: &[u8]| {
+        out[at..at + bytes.len()].copy_from_slice(bytes);
+        at += bytes.len();
+    };
+    for (count, words) in [(s.lengths.len(), &s.lengths), (s.bins.len(), &s.bins), (s.heads.len() / 3, &s.heads)] {
+        put(&(count as u32).to_le_bytes());
+        words.iter().for_each(|w| put(&w.to_le_bytes()));
+    }
+    put(&(s.names.len() as u32 / 2).to_le_bytes());
+    for (name, cell) in s.names.chunks_exact(2).zip(s.cells.chunks_exact(7)) {
+        name.iter().for_each(|w| put(&w.to_le_bytes()));
+        put(&cell[oz::PLACE].to_le_bytes());
+        put(&[cell[oz::STATE] as u8]);
+        cell[oz::PARENT..].iter().for_each(|w| put(&w.to_le_bytes()));
+    }
+    at
+}
+
+/// Rust that reads the words of a set's file by from_le_bytes into slices of their number, and nothing else.
+#[inline(never)]
+fn read_words(bytes: &[u8], s: &mut Set) {
+    let four = |b: &[u8]| u32::from_le_bytes(b.try_into().unwrap());
+    let eight = |b: &[u8]| u64::from_le_bytes(b.try_into().unwrap());
+    let mut rest = bytes;
+    for (words, each) in [(&mut s.lengths, 1), (&mut s.bins, 1), (&mut s.heads, 3)] {
+        let count = four(&rest[..4]) as usize * each;
+        let (section, more) = rest[4..].split_at(4 * count);
+        words[..count].iter_mut().zip(section.chunks_exact(4)).for_each(|(w, b)| *w = four(b));
+        rest = more;
+    }
+    let slots = rest[4..].chunks_exact(41).take(four(&rest[..4]) as usize);
+    for ((name, cell), b) in s.names.chunks_exact_mut(2).zip(s.cells.chunks_exact_mut(7)).zip(slots) {
+        name[0] = eight(&b[..8]);
+        name[1] = eight(&b[8..16]);
+        cell[oz::PLACE] = four(&b[16..20]);
+        cell[oz::STATE] = b[20] as u32;
+        cell[oz::PARENT..].iter_mut().zip(b[21..].chunks_exact(4)).for_each(|(w, b)| *w = four(b));
+    }
+}
+
+/// Save and load, in chunks of 64 KiB, of a set: with acceptance, beside acceptance alone; and without it, beside Rust that writes and
+/// reads the same words. Of a load that is all but the end call; of a save the difference of two figures, most of which are acceptance.
+fn file_rows(name: &str, times: usize, set: &Set) {
+    let bytes = files::written(set);
+    let (mut out, mut copy) = (vec![0; bytes.len()], vec![0; bytes.len()]);
+    let mut into = Set {
+        lengths: vec![7; set.lengths.len()],
+        bins: vec![7; set.bins.len()],
+        heads: vec![7; set.heads.len()],
+        names: vec![7; set.names.len()],
+        cells: vec![7; set.cells.len()],
+    };
+    let mut other = into.clone();
+    let again = |f: &mut dyn FnMut()| {
+        let from = Instant::now();
+        (0..times).for_each(|_| f());
+        from.elapsed().as_nanos() as f64 / times as f64
+    };
+    let mut figures = [f64::INFINITY; 6];
+    for _ in 0..ROUNDS {
+        let round = [
+            again(&mut || assert_eq!(black_box(set.accept()).value, 1)),
+            again(&mut || assert_eq!(black_box(set.save(&mut out)).value as usize, bytes.len())),
+            again(&mut || assert_eq!(write_words(black_box(set), black_box(&mut copy)), bytes.len())),
+            again(&mut || {
+                let mut loader = [0; 8];
+                oz::load_start(&mut loader);
+                for chunk in bytes.chunks(65536) {
+                    black_box(into.load_chunk(&mut loader, chunk));
+                }
+                assert_eq!(black_box(into.load_end(&mut loader)).value as usize, bytes.len());
+            }),
+            again(&mut || {
+                let mut loader = [0; 8];
+                oz::load_start(&mut loader);
+                for chunk in bytes.chunks(65536) {
+                    black_box(into.load_chunk(&mut loader, chunk));
+                }
+            }),
+            again(&mut || read_words(black_box(&bytes), black_box(&mut other))),
+        ];
+        figures.iter_mut().zip(round).for_each(|(best, time)| *best = best.min(time));
+    }
+    assert!(out == bytes && copy == bytes && into == *set && other == *set);
+    let [accept, save, writes, load, chunks, reads] = figures;
+    let size = bytes.len();
+    row(&format!("acceptance of {name}"), accept, None, None);
+    row(&format!("save of {name}, {size} bytes, with its acceptance (source: acceptance alone)"), save, Some(accept), None);
+    row("the same after the acceptance (source: Rust by to_le_bytes)", save - accept, Some(writes), None);
+    row(&format!("load of {name} in chunks of 64 KiB, with its acceptance (source: acceptance alone)"), load, Some(accept), None);
+    row("the same without the end call, which has the acceptance (source: Rust by from_le_bytes)", chunks, Some(reads), None);
+}
+
 fn main() {
     println!("| what | ours, ns | source, ns | BTreeMap, ns | ours / source | ours / BTreeMap |");
     println!("|---|---|---|---|---|---|");
@@ -341,6 +440,10 @@ fn main() {
     batch_rows(&mut rng);
     upload_rows(&mut rng);
     salvage_rows(&mut Rng::new(11));
+    let mut file_rng = Rng::new(12);
+    file_rows("the largest set", 4, &sets::largest(&mut file_rng));
+    let small = (0..).map(|_| sets::draw(&mut file_rng, 3, 64, 512, 0)).find(|s| s.names.len() == 1024).unwrap();
+    file_rows("a set of 512 slots", 40, &small);
     let set = sets::draw(&mut rng, 3, 64, 4096, 0);
     let n = set.names.len() / 2;
     let tables = Tables::of_words(&set).expect("an accepted set");

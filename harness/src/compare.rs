@@ -1,9 +1,10 @@
 //! The comparisons with the source's own routines, after every operation every link, colour, root, first, count and size.
 use harness::oz::{self, Index, NULL};
+use harness::reads::{self, same_search, whole_walk};
 use harness::rng::Rng;
 use harness::sets;
 use harness::uploads;
-use harness::source::{By, Removal, Tables, Tree, Walk};
+use harness::source::{By, Removal, Tables, Tree};
 use harness::MESSAGES;
 use seize::trace;
 use std::collections::{BTreeMap, HashSet};
@@ -144,15 +145,6 @@ impl Pair {
             counts.positions += 1;
         }
         Ok(())
-    }
-}
-
-/// Whether a find or lookup of ours in so many slots has the slot and the looks of the source's; where the source would not end, 9 and as
-/// many looks as there are slots.
-fn same_search(ours: oz::Answer, (found, looks): (Option<u32>, usize), slots: usize) -> bool {
-    match found {
-        Some(at) => ours == (oz::Answer { number: 0, value: at, looks: looks as u32 }),
-        None => looks > slots && ours == (oz::Answer { number: 9, value: 0, looks: slots as u32 }),
     }
 }
 
@@ -585,73 +577,13 @@ struct Frozen {
     given: u64,
 }
 
-/// One to three words of a set changed, so that the source's types can still hold it.
-fn damage_set(rng: &mut Rng, s: &mut oz::Set) {
-    let n = s.names.len() as u64 / 2;
-    if n == 0 {
-        return;
-    }
-    let link = |rng: &mut Rng| if rng.below(3) == 0 { NULL } else { rng.below(n) as u32 };
-    for _ in 0..1 + rng.below(3) {
-        let i = rng.below(n) as usize;
-        match rng.below(11) {
-            0 => s.names[2 * i] = rng.below(20),
-            1 => s.names[2 * i + 1] = rng.below(20),
-            2 => s.cells[7 * i + oz::STATE] = rng.below(3) as u32,
-            3 if !s.heads.is_empty() => {
-                let h = rng.below(s.heads.len() as u64) as usize;
-                s.heads[h] = link(rng);
-            }
-            4 => {
-                let b = rng.below(s.bins.len() as u64) as usize;
-                s.bins[b] = [0, 1, 2 + i as u32, 4098][rng.below(4) as usize];
-            }
-            f => s.cells[7 * i + 2 + f as usize % 5] = link(rng),
-        }
-    }
-}
-
-/// A whole walk of an accepted set by the exports alone, from start at table t until Done: how many slots it gives, or what is wrong with
-/// them. A slot is to be given once exactly if it is in use and lookup from t of its pair answers it, and else not at all; from table 0
-/// every slot in use is.
-fn whole_walk(s: &oz::Set, t: usize) -> Result<u64, String> {
-    let n = s.names.len() / 2;
-    let mut times = vec![0u32; n];
-    let mut cursor = [0u32; 11];
-    let start = s.start(t as u32, &mut cursor);
-    if start != oz::Answer::plain(0, 1) {
-        return Err(format!("start {start:?}"));
-    }
-    let mut given = 0;
-    loop {
-        let step = s.walk(&mut cursor);
-        if step == oz::Answer::plain(0, NULL) {
-            break;
-        }
-        if step.number != 0 || step.value as usize >= n || given > n as u64 {
-            return Err(format!("step {given}: {step:?}"));
-        }
-        times[step.value as usize] += 1;
-        given += 1;
-    }
-    for (x, times) in times.iter().enumerate() {
-        let used = s.cells[7 * x + oz::STATE] != 0;
-        let looked = s.lookup(t as u32, s.names[2 * x], s.names[2 * x + 1]);
-        let answered = used && (looked.number, looked.value) == (0, x as u32);
-        if *times != answered as u32 || (t == 0 && used != answered) {
-            return Err(format!("slot {x}, used {used}, answered by lookup {answered}, is given {times} times"));
-        }
-    }
-    Ok(given)
-}
-
 /// Lookup and the walk, entry by entry with the cursor's indexes.
 fn frozen(rng: &mut Rng, count: usize, damage: bool, report: &mut Report) -> Frozen {
     let mut f = Frozen::default();
     while (f.sets as usize) < count {
         let mut s = sets::small(rng);
         if damage {
-            damage_set(rng, &mut s);
+            sets::damage(rng, &mut s);
         }
         let accepted = s.accept();
         let Some(tables) = Tables::of_words(&s) else {
@@ -715,29 +647,11 @@ fn frozen(rng: &mut Rng, count: usize, damage: bool, report: &mut Report) -> Fro
                 continue;
             }
             f.walks += 1;
-            let mut cursor = [7u32; 11];
-            let start = s.start(t as u32, &mut cursor);
-            let mut walk = Walk::new(&tables, t);
-            let mut what = (start != oz::Answer::plain(0, 1)).then(|| format!("start {start:?}"));
-            let mut past = 0;
-            for step in 0..2 * n + 4 {
-                if cursor[0] != t as u32 || cursor[1..] != walk.state() {
-                    what = Some(format!("step {step}: cursor {cursor:?}, source {:?}", walk.state()));
-                }
-                if what.is_some() || past == 2 {
-                    break;
-                }
-                let ours = s.walk(&mut cursor);
-                let theirs = walk.next();
-                f.steps += 1;
-                f.entries += (theirs != NULL) as u64;
-                past += (theirs == NULL) as u64;
-                if (ours.number, ours.value) != (0, theirs) {
-                    what = Some(format!("step {step}: ours {ours:?}, source {theirs}"));
-                }
-            }
-            f.dones += (past != 0) as u64;
-            if let Some(what) = what {
+            let walked = reads::walk_beside(&s, &tables, t);
+            f.steps += walked.steps;
+            f.entries += walked.entries;
+            f.dones += walked.done as u64;
+            if let Some(what) = walked.wrong {
                 report.differs("walk", size, format!("{s:?} from {t}: {what}"));
             }
         }

@@ -1,9 +1,10 @@
 //! Slices between guard words, so that a write outside of what was lent shows.
 pub const GUARD: usize = 8;
 
-/// The guard words of slices of 64 and of 32 bits.
+/// The guard words of slices of 64, of 32 and of 8 bits.
 pub const G64: u64 = 0xA5A5_5A5A_C3C3_3C3C;
 pub const G32: u32 = 0x5AA5_3CC3;
+pub const G8: u8 = 0xC5;
 
 /// A slice with guard words on both sides.
 #[derive(Clone, PartialEq)]

@@ -1,8 +1,11 @@
 //! The source's own files, with drivers appended, and the exports behind a safe wrapper.
 #![allow(dead_code, unused_imports, clippy::all)]
 
+pub mod accepted;
+pub mod files;
 pub mod lent;
 pub mod oz;
+pub mod reads;
 pub mod reasons;
 pub mod rng;
 pub mod saved;

@@ -80,6 +80,14 @@ export!(oz_accept accept lengths: &[u32], bins: &[u32], heads: &[u32], names: &[
 export!(oz_lookup lookup lengths: &[u32], bins: &[u32], heads: &[u32], names: &[u64], cells: &[u32], table: u32, hash: u64, key: u64,);
 export!(oz_start start lengths: &[u32], bins: &[u32], heads: &[u32], names: &[u64], cells: &[u32], table: u32, cursor: &mut [u32],);
 export!(oz_walk walk lengths: &[u32], bins: &[u32], heads: &[u32], names: &[u64], cells: &[u32], cursor: &mut [u32],);
+export!(oz_save save lengths: &[u32], bins: &[u32], heads: &[u32], names: &[u64], cells: &[u32], out: &mut [u8],);
+export!(oz_load_start load_start loader: &mut [u64],);
+export!(oz_load_chunk load_chunk
+    lengths: &mut [u32], bins: &mut [u32], heads: &mut [u32], names: &mut [u64], cells: &mut [u32], loader: &mut [u64], chunk: &[u8],
+);
+export!(oz_load_end load_end
+    lengths: &mut [u32], bins: &mut [u32], heads: &mut [u32], names: &mut [u64], cells: &mut [u32], loader: &mut [u64],
+);
 
 pub const PLACE: usize = 0;
 pub const STATE: usize = 1;
@@ -353,5 +361,18 @@ impl Set {
 
     pub fn walk(&self, cursor: &mut [u32]) -> Answer {
         walk(&self.lengths, &self.bins, &self.heads, &self.names, &self.cells, cursor)
+    }
+
+    /// The set's file at the front of `out`.
+    pub fn save(&self, out: &mut [u8]) -> Answer {
+        save(&self.lengths, &self.bins, &self.heads, &self.names, &self.cells, out)
+    }
+
+    pub fn load_chunk(&mut self, loader: &mut [u64], chunk: &[u8]) -> Answer {
+        load_chunk(&mut self.lengths, &mut self.bins, &mut self.heads, &mut self.names, &mut self.cells, loader, chunk)
+    }
+
+    pub fn load_end(&mut self, loader: &mut [u64]) -> Answer {
+        load_end(&mut self.lengths, &mut self.bins, &mut self.heads, &mut self.names, &mut self.cells, loader)
     }
 }

@@ -1,5 +1,6 @@
 //! Calls on random and damaged words, lengths and cursors, with guard words around each slice, and random runs of demand 3.
-use harness::lent::{Lent, G32, G64, GUARD};
+use harness::files::{self, Loads, Model};
+use harness::lent::{Lent, G32, G64, G8, GUARD};
 use harness::oz::{self, Index, LINE_WORDS, NOTED, NULL};
 use harness::rng::Rng;
 use harness::saved::Salvage;
@@ -670,6 +671,10 @@ fn calls_on(rng: &mut Rng, tally: &mut Tally, lengths: &[u32], bins: &[u32], hea
     let before = set.clone();
     let answer = oz::accept(set.0.get(), set.1.get(), set.2.get(), set.3.get(), set.4.get());
     tally.note(if answer.value == 1 { "accept, yes," } else { "accept" }, answer, slots, set == before);
+    let as_set =
+        oz::Set { lengths: lengths.to_vec(), bins: bins.to_vec(), heads: heads.to_vec(), names: names.to_vec(), cells: cells.to_vec() };
+    let (answer, fine) = save_any(rng, &as_set);
+    tally.note("save", answer, slots, fine);
     let table = |rng: &mut Rng| if rng.below(8) == 0 { word32(rng, 9) } else { rng.below(tables + 1) as u32 };
     for _ in 0..4 {
         let i = rng.below(slots as u64 + 1) as usize;
@@ -696,6 +701,113 @@ fn calls_on(rng: &mut Rng, tally: &mut Tally, lengths: &[u32], bins: &[u32], hea
         let name = if answer.number == 0 && answer.value != NULL { "walk, an entry," } else { "walk" };
         tally.note(name, answer, slots, fine && set == before);
     }
+}
+
+/// A loader of drawn words over few items, most often in range, and the slices that its counts ask for, of any words.
+fn drawn_loader(rng: &mut Rng) -> (Vec<u64>, oz::Set) {
+    let section = rng.below(5);
+    let mut words = vec![section, 0, 0, 0, 0, 0, 0, 0];
+    (0..section as usize).for_each(|k| words[3 + k] = rng.below(4));
+    if section < 4 {
+        let k = section as usize;
+        let mut come = 0;
+        if rng.below(3) != 0 {
+            words[3 + k] = 1 + rng.below(3);
+            come = 1 + rng.below(words[3 + k] * [1, 1, 3, 9][k]);
+        }
+        let most = if rng.below(4) == 0 { 8 } else { 4 };
+        let bytes = rng.below(most);
+        let part = if rng.below(2) == 0 { rng.next() } else { rng.below(3) };
+        words[1] = 8 * come + bytes;
+        words[2] = part & ((1 << (8 * bytes)) - 1);
+    }
+    let [tables, bins, headers, slots] = [3, 4, 5, 6].map(|k| words[k] as usize + rng.below(3) as usize);
+    let mut narrow = |wanted: usize| (0..length(rng, wanted)).map(|_| word32(rng, 4)).collect::<Vec<u32>>();
+    let (lengths, bins, heads, cells) = (narrow(tables), narrow(bins), narrow(3 * headers), narrow(7 * slots));
+    let names = (0..length(rng, 2 * slots)).map(|_| word64(rng, 4)).collect();
+    (words, oz::Set { lengths, bins, heads, names, cells })
+}
+
+/// A loader amid the file of a small set, with the slices as its bytes left them, and the rest of the file; now and then a word of the
+/// slices is another then.
+fn loader_amid(rng: &mut Rng) -> (Vec<u64>, oz::Set, Vec<u8>) {
+    let mut s = sets::small(rng);
+    let bytes = files::written(&s);
+    let spoilt = rng.below(4) == 0;
+    if spoilt {
+        sets::damage(rng, &mut s);
+    }
+    let longer = s.bins.len() + rng.below(3) as usize;
+    resize(&mut s.bins, longer, 7);
+    let at = if rng.below(2) == 0 { bytes.len() } else { rng.below(bytes.len() as u64 + 1) as usize };
+    let mut model = Model::new(&s);
+    model.chunk(&bytes[..at]);
+    if spoilt {
+        model.set = s;
+    }
+    (model.loader.to_vec(), model.set, bytes[at..].to_vec())
+}
+
+/// The loader's calls with any words of the loader, any slices and any chunks: answer, loader and slices are those of the model, a chunk
+/// cut in two comes to the same, and where the model has no such loader the answer is 1 and nothing is written.
+fn loader_calls(rng: &mut Rng, tally: &mut Tally) {
+    let (mut words, set, mut bytes) = if rng.below(2) == 0 {
+        let (words, set) = drawn_loader(rng);
+        let zeros = rng.below(8);
+        let byte = |rng: &mut Rng| if rng.below(8) < zeros { 0 } else if rng.below(9) == 0 { rng.next() as u8 } else { rng.below(4) as u8 };
+        (words, set, (0..rng.below(60)).map(|_| byte(rng)).collect())
+    } else {
+        loader_amid(rng)
+    };
+    match rng.below(12) {
+        0 => words[rng.below(8) as usize] = word64(rng, 20),
+        1 => words[7] = 1 + (rng.below(16) << 32) + if rng.below(3) == 0 { word64(rng, 300) } else { 0 },
+        2 => resize(&mut words, rng.below(17) as usize, 0),
+        3 => bytes.extend((0..rng.below(4)).map(|_| rng.next() as u8)),
+        4 => bytes.truncate(rng.below(bytes.len() as u64 + 1) as usize),
+        _ => (),
+    }
+    let slots = set.names.len() / 2;
+    let mut lent = Loads::new(&set, &words);
+    let before = lent.clone();
+    if rng.below(8) == 0 {
+        let answer = lent.start();
+        let made = lent.is(&Model::new(&set)) && answer == oz::Answer::plain(0, 1);
+        let left = lent == before && answer == oz::Answer::plain(1, 0);
+        return tally.note("load_start", answer, slots, if words.len() == 8 { made } else { left });
+    }
+    let told = Model::of_words(&words, &set);
+    let held = |lent: &Loads, answer: oz::Answer, model: Option<(oz::Answer, &Model)>| match model {
+        Some((wanted, model)) => answer == wanted && lent.is(model),
+        None => answer == oz::Answer::plain(1, 0) && *lent == before,
+    };
+    if rng.below(4) == 0 {
+        let answer = lent.end();
+        let mut model = told;
+        let wanted = model.as_mut().map(|model| model.end());
+        let fine = held(&lent, answer, wanted.zip(model.as_ref()));
+        return tally.note("load_end", answer, slots, fine && lent.clone().end() == answer);
+    }
+    let at = rng.below(bytes.len() as u64 + 1) as usize;
+    let mut other = lent.clone();
+    let answer = lent.chunk(&bytes);
+    other.chunk(&bytes[..at]);
+    let cut = other.chunk(&bytes[at..]);
+    let mut model = told;
+    let wanted = model.as_mut().map(|model| model.chunk(&bytes));
+    let fine = held(&lent, answer, wanted.zip(model.as_ref()));
+    tally.note("load_chunk", answer, slots, fine && cut == answer && lent == other);
+}
+
+/// Save of any words into any room: answer and bytes are the model's.
+fn save_any(rng: &mut Rng, s: &oz::Set) -> (oz::Answer, bool) {
+    let size = files::written(s).len();
+    let room = if rng.below(6) == 0 { rng.below(2 * size as u64) as usize } else { size + rng.below(3) as usize };
+    let out: Vec<u8> = (0..room).map(|_| rng.next() as u8).collect();
+    let mut lent = Lent::new(&out, G8);
+    let answer = s.save(lent.lend());
+    let (wanted, left) = files::saved_as(s, &out);
+    (answer, answer == wanted && lent.get() == left && lent.guarded(G8))
 }
 
 /// The entries in order.
@@ -791,6 +903,7 @@ fn main() {
         near_calls(&mut rng, &mut tally);
         drawn_calls(&mut rng, &mut tally);
         reason_calls(&mut rng, &mut tally);
+        (0..3).for_each(|_| loader_calls(&mut rng, &mut tally));
     }
     println!("calls {} on random and damaged words, each slice between guard words", tally.calls);
     for ((name, number), count) in &tally.by {

@@ -90,6 +90,32 @@ pub fn small(rng: &mut Rng) -> Set {
     draw(rng, tables, first, entries, spare)
 }
 
+/// One to three words of a set changed, so that the source's types can still hold it.
+pub fn damage(rng: &mut Rng, s: &mut Set) {
+    let n = s.names.len() as u64 / 2;
+    if n == 0 {
+        return;
+    }
+    let link = |rng: &mut Rng| if rng.below(3) == 0 { NULL } else { rng.below(n) as u32 };
+    for _ in 0..1 + rng.below(3) {
+        let i = rng.below(n) as usize;
+        match rng.below(11) {
+            0 => s.names[2 * i] = rng.below(20),
+            1 => s.names[2 * i + 1] = rng.below(20),
+            2 => s.cells[7 * i + oz::STATE] = rng.below(3) as u32,
+            3 if !s.heads.is_empty() => {
+                let h = rng.below(s.heads.len() as u64) as usize;
+                s.heads[h] = link(rng);
+            }
+            4 => {
+                let b = rng.below(s.bins.len() as u64) as usize;
+                s.bins[b] = [0, 1, 2 + i as u32, 4098][rng.below(4) as usize];
+            }
+            f => s.cells[7 * i + 2 + f as usize % 5] = link(rng),
+        }
+    }
+}
+
 /// One bin, whose list has n slots of one hash, in a drawn order.
 pub fn one_list(rng: &mut Rng, n: usize) -> Set {
     let mut order: Vec<u32> = (0..n as u32).collect();
@@ -118,5 +144,13 @@ pub fn lone_trees(rng: &mut Rng, n: usize) -> Set {
         s.names[2 * at as usize + 1] = rng.next();
         s.cells[7 * at as usize + oz::STATE] = 1;
     }
+    s
+}
+
+/// The largest set that fits: eight tables, of which the last has 4,096 bins, each a tree of one slot; the bins of the others are Moved.
+pub fn largest(rng: &mut Rng) -> Set {
+    let mut s = lone_trees(rng, 4096);
+    s.lengths = (0..8).map(|k| 32 << k).collect();
+    s.bins.splice(0..0, std::iter::repeat(1).take(4064));
     s
 }

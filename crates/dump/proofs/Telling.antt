@@ -19,7 +19,8 @@ use Rattle.index_rules.specs.Index.{Index, lengthOf, lineWords}
 use Rattle.night_rules.specs.Account.{Account}
 use Rattle.night_rules.specs.Breach.{Breach}
 use Rattle.night_rules.specs.Finding.{Finding, examined}
-use Rattle.dump_rules.specs.Sentence.{says, sentence, opening, stepText, downTo, onward, wayText, bothWays, brokenText, findingText}
+use Rattle.script_rules.specs.Blanks.{says}
+use Rattle.dump_rules.specs.Sentence.{sentence, opening, stepText, downTo, onward, wayText, bothWays, brokenText, findingText}
 use Rattle.dump_rules.specs.Sentence.{treeText}
 use Rattle.dump_rules.specs.Sentence.{indexText, measureText, whyText}
 use Rattle.dump_rules.specs.Dump.{dumpSize, Measure, short, long, measured, loadedAs, loaded}

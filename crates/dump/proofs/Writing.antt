@@ -17,8 +17,9 @@ use Rattle.index_rules.specs.Sound.{used}
 use Rattle.index_rules.specs.Index.{Index, index, lent, lineWords}
 use Rattle.index_rules.specs.Fresh.{freshes}
 use Rattle.night_rules.specs.Salvage.{Salvaged, salvages}
+use Rattle.script_rules.specs.Blanks.{says}
 use Rattle.dump_rules.specs.Dump.{bodyBytes, dumpBytes, Measure, whole, stub, slotsOut, linesOut, short, long, measured, loadedAs, loaded}
-use Rattle.dump_rules.specs.Sentence.{says, measureText, whyText}
+use Rattle.dump_rules.specs.Sentence.{measureText, whyText}
 use Rattle.dump_rules.specs.Rescue.{savedInto, lossText, lossTexts, keptOf, rescueText, savedBytes, savedText}
 use Rattle.dump_rules.specs.Rescue.{loadedBytes, loadedText, zeros, measureBytes, measureWords, rescueBytes, rescueWords, papers, rescues}
 use Rattle.dump.proofs.Telling.{then, nothing-more, loaded-fronts}

@@ -17,7 +17,7 @@ use Rattle.index_rules.specs.Index.{Index, lengthOf}
 use Rattle.index_rules.proofs.Fit.{half}
 use Rattle.script_rules.specs.Text.{decimal}
 use Rattle.script_rules.specs.Letters.{letters}
-use Rattle.script_rules.specs.Blanks.{blanksFilled, piece, isBlank}
+use Rattle.script_rules.specs.Blanks.{blanksFilled, piece, isBlank, says}
 use Rattle.night_rules.specs.Account.{Account}
 use Rattle.night_rules.specs.Reason.{Reason}
 use Rattle.night_rules.specs.Breach.{Breach, BreaksAt, breach}
@@ -25,7 +25,7 @@ use Rattle.night_rules.specs.Finding.{Finding, sound, broken, unfit, examined}
 use Rattle.night_rules.specs.Why.{why}
 use Rattle.night_rules.proofs.Claims as night-rules
 use Rattle.dump_rules.specs.Dump.{dumpBytes, DumpOf, whole, measured, loaded}
-use Rattle.dump_rules.specs.Sentence.{says, sentence, opening, brokenText, findingText, treeText, indexText, measureText, whyText}
+use Rattle.dump_rules.specs.Sentence.{sentence, opening, brokenText, findingText, treeText, indexText, measureText, whyText}
 use Rattle.dump_rules.specs.Claims.{Dumps}
 use Rattle.dump_rules.proofs.Dumping.{taken, back}
 

@@ -14,7 +14,7 @@ use Rattle.index_rules.specs.Index.{Index, lengthOf}
 use Rattle.index_rules.proofs.Fit.{half}
 use Rattle.script_rules.specs.Text.{decimal}
 use Rattle.script_rules.specs.Letters.{letters}
-use Rattle.script_rules.specs.Blanks.{linkText, fieldText, piece, isBlank, leftAfter, blanksFilled}
+use Rattle.script_rules.specs.Blanks.{linkText, fieldText, piece, isBlank, leftAfter, blanksFilled, says}
 use Rattle.script_rules.proofs.Room.{digits-short}
 use Rattle.night_rules.specs.Account.{Account}
 use Rattle.night_rules.specs.Breach.{Breach}
@@ -24,7 +24,7 @@ use Rattle.night_rules.specs.Breach.{redUnder, uneven, firstBehind, prevAstray,
 use Rattle.night_rules.specs.Finding.{Finding, sound, broken, unfit, examined}
 use Rattle.night_rules.proofs.Claims as night-rules
 use Rattle.dump_rules.specs.Dump.{dumpSize, Measure, whole, stub, slotsOut, linesOut, short, long, measured, loaded}
-use Rattle.dump_rules.specs.Sentence.{says, sentence, opening, stepText, downTo, onward, wayText, bothWays, brokenText, findingText}
+use Rattle.dump_rules.specs.Sentence.{sentence, opening, stepText, downTo, onward, wayText, bothWays, brokenText, findingText}
 use Rattle.dump_rules.specs.Sentence.{treeText, indexText, measureText, whyText}
 
 piece-short : (b v : ℕ) → length (piece b v) ≤ 20

@@ -11,8 +11,9 @@ use Rattle.index_rules.specs.Index.{Index, index, lent, lineWords}
 use Rattle.index_rules.specs.Fresh.{freshes}
 use Rattle.night_rules.specs.Salvage.{Salvaged, salvages}
 use Rattle.script_rules.specs.Feeding.{Paper, typed}
+use Rattle.script_rules.specs.Blanks.{says}
 use Rattle.dump_rules.specs.Dump.{dumpBytes, Measure, whole, stub, slotsOut, linesOut, short, long, measured, loaded}
-use Rattle.dump_rules.specs.Sentence.{says, measureText}
+use Rattle.dump_rules.specs.Sentence.{measureText}
 
 -- Salvage of these names and cells, into what an index is made by fresh.
 unfoldable pub savedInto : List ℕ → List ℕ → Index → List ℕ → Salvaged

@@ -1,7 +1,6 @@
 -- What is printed of a dump: that its tree is sound, or how the first broken rule is broken, or what does not fit.
 use mathlib.Core.List.{List, [], _∷_, _++_}
 use Prim.Native.Nat.{ℕ, zero, suc}
-use Prim.Native.String.{String}
 use lib.ListN.{length}
 use lib.Dec.{eqb, leb}
 use Rattle.slots.specs.Words.{null, pick, parent, left, right, cell}
@@ -10,7 +9,7 @@ use Rattle.tree_rules.specs.Check.{redSlot}
 use Rattle.index_rules.specs.Live.{Live}
 use Rattle.index_rules.specs.Index.{Index, lengthOf}
 use Rattle.script_rules.specs.Letters.{letters}
-use Rattle.script_rules.specs.Blanks.{blanksFilled}
+use Rattle.script_rules.specs.Blanks.{says}
 use Rattle.night_rules.specs.Account.{Account}
 use Rattle.night_rules.specs.Breach.{Breach, strayLink, strayState, leftHash, leftKey, leftField, strayRoot, strayFirst, miscount}
 use Rattle.night_rules.specs.Breach.{rootCount}
@@ -18,10 +17,6 @@ use Rattle.night_rules.specs.Breach.{firstCount, rootUnder, orphan, disowned, c
 use Rattle.night_rules.specs.Breach.{uneven, firstBehind, prevAstray, nextAstray, offFirst, wrongSize, freeSize}
 use Rattle.night_rules.specs.Finding.{Finding, sound, broken, unfit, examined}
 use Rattle.dump_rules.specs.Dump.{dumpSize, Measure, whole, stub, slotsOut, linesOut, short, long, measured, loaded}
-
--- A sentence with its numbers.
-abbrev pub says : String → List ℕ → List ℕ
-says sentence numbers = blanksFilled (letters sentence) numbers
 
 -- For each way of breaking a rule a sentence.
 unfoldable pub sentence : Breach → List ℕ

@@ -29,14 +29,14 @@ use Rattle.upload_rules.proofs.Ranges.{no-test, in-range, range-in, byte-range}
 use Rattle.upload_rules.proofs.Cutting.{chunk-in, end-in}
 use Rattle.upload_rules.proofs.Claims.{claims}
 use Rattle.reader.proofs.Ranging.{few-taken}
-use Rattle.exports.specs.Told.{gives, WordTells}
+use Rattle.exports.specs.Told.{WordTells}
 use Rattle.exports.specs.Lent as L
 use Rattle.exports.specs.Lent.{ReaderAnswer, NoteTold, ReaderWords}
 use Rattle.exports.specs.Readers.{sayingNone, readerIn, readerWritten, ReadWorded, readWorded, readInto, startedReader}
 use Rattle.exports.specs.Readers.{chunkRead, endedReader}
 use Rattle.exports.specs.Leaving.{RefusedBy, UnknownReader, StartTold, ReadTold, Continued, chunkAfterStart, endAfterChunk}
 use Rattle.exports.specs.Leaving.{UploadTold}
-use Rattle.exports.proofs.Telling.{answers-apart, one-word}
+use Rattle.exports.proofs.Telling.{answers-apart, one-word, taken-word}
 use Rattle.exports.proofs.Giving as G
 use Rattle.exports.proofs.Saying.{Sayable, silent, spoken, reader-tells, reader-written, written-again, SaidIn, says, none, said-in}
 use Rattle.exports.proofs.Saying.{reader-words, reader-one}
@@ -73,7 +73,7 @@ pub record SayableReader (r : Reader) : Type 0 where
 words-fine : {w : List ℕ} {r : Reader} → ReaderWords w r → SayableReader r
 words-fine h = record { narrow = h .narrow; note = told (h .note) }
   where
-    told : {n : Note} {x : ℕ} → NoteTold n x → Sayable n
+    told : {n : Note} {x : ℕ} → NoteTold ReaderAnswer n x → Sayable n
     told L.nothing = silent
     told (L.noted a t) = spoken a
 
@@ -409,9 +409,6 @@ module _ (ix : Index) (fit : FitIndex ix) (h : Sound (ix .live)) (places : Place
       (came-told .left)
       (end-told (chunkAfterStart ix w l .left) (chunkAfterStart ix w l .reader) (readChunk (newSession ix) l .left .reader)
       (came-told .reader))
-
-  taken-word : (n : ℕ) → n < 4294967296 → WordTells 4294967296 (given n) n
-  taken-word n b = record { beside = n; valued = gives b; number = omega arith; value = omega arith }
 
   pub uploaded : UploadTold ix h w l
   uploaded =

@@ -9,6 +9,9 @@ use Rattle.exports.proofs.Giving.{kths-valued, positions-valued, accept
 use Rattle.exports.proofs.Holding.{cursor-words, start-tells, walk-tells, walk-lists, walk-whole, walk-done}
 use Rattle.exports.proofs.Saying.{reader-words, reader-one}
 use Rattle.exports.proofs.Calling.{started, chunk-told, end-told, read-none, continued, uploaded}
+use Rattle.exports.proofs.LoadSaying.{loader-words, loader-one}
+use Rattle.exports.proofs.LoadCalling as F
+use Rattle.exports.proofs.Storing.{save-tells}
 use Rattle.exports.proofs.Explaining.{why-tells}
 use Rattle.exports.proofs.Rescuing.{salvage-tells, report-one}
 
@@ -53,6 +56,19 @@ claims =
       check-one = λ t a b p q. p ∙ sym q;
       sound-one = λ t a b p q. p ∙ sym q;
       why-one = λ t shown a b p q. p ∙ sym q;
+      save-tells = save-tells;
+      loader-words = loader-words;
+      loader-one = loader-one;
+      load-start = F.load-started;
+      load-chunk = λ t w l k r h. F.chunk-told t w r h k;
+      load-end = F.end-told;
+      load-none = F.load-none;
+      load-going = F.load-continued;
+      load-file = λ t w e l k. F.filed w e t k;
+      save-one = λ s out a b p q. p ∙ sym q;
+      load-start-one = λ w a b p q. p ∙ sym q;
+      load-chunk-one = λ t w chunk a b p q. p ∙ sym q;
+      load-end-one = λ t w a b p q. p ∙ sym q;
       salvage-one = λ names cells u report a b p q. p ∙ sym q;
       kth-one = λ t k a b p q. p ∙ sym q;
       position-one = λ t hash key a b p q. p ∙ sym q;

@@ -6,6 +6,10 @@ pub mod Saying
 pub mod Calling
 pub mod Keeping
 pub mod Reading
+pub mod Filing
+pub mod Storing
+pub mod LoadSaying
+pub mod LoadCalling
 pub mod Explaining
 pub mod Rescuing
 pub mod Claims

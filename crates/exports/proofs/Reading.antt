@@ -10,7 +10,8 @@ use Rattle.slots.specs.Answers.{Answer, answerWord}
 use Rattle.index_rules.specs.Index.{Index}
 use Rattle.upload_rules.specs.Reader.{Note, Reader, readerOf, newReader}
 use Rattle.upload_rules.specs.Reading.{session, ReadOutcome, readOutcome, readStart, readChunk, readEnd}
-use Rattle.reader.specs.Notes.{NoteSaid, known, unknown, noteWord, noteAt}
+use Rattle.reader.specs.Notes.{noteAt}
+use Rattle.upload_rules.specs.Notes.{NoteSaid, known, unknown, noteWord}
 use Rattle.exports.specs.Readers.{ReaderSaid, saying, sayingNone, withNote, readerIn, readerWritten, readWorded}
 use Rattle.exports.specs.Readers.{startedReader, readInto, chunkRead, endedReader}
 

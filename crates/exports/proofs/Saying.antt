@@ -15,7 +15,8 @@ use Rattle.slots.specs.Words.{null, pick}
 use Rattle.slots.specs.Answers.{Answer, some, given, refused, answerWord}
 use Rattle.slots.proofs.Laws.{number, value}
 use Rattle.upload_rules.specs.Reader.{Note, unsaid, said, Reader, readerOf}
-use Rattle.reader.specs.Notes.{NoteSaid, known, unknown, noteWord, plainAt, noteWith, noteAt}
+use Rattle.reader.specs.Notes.{plainAt, noteWith, noteAt}
+use Rattle.upload_rules.specs.Notes.{NoteSaid, known, unknown, noteWord}
 use Rattle.reader.proofs.Noting.{at-unsaid, at-given, at-present, at-plain}
 use Rattle.exports.specs.Told as T
 use Rattle.exports.specs.Told.{gives, WordTells}
@@ -37,7 +38,7 @@ plain-said k {word} p z d t =
     sym (at-plain (1 + word) (λ e. omega arith) (λ e. omega arith) (λ e. omega arith) (omega (arith, t .value))
     (sym p ∙ sym (ap plainAt q)))
 
-pub note-said : {n : Note} {word : ℕ} → NoteTold n word → noteAt word ≡ known n
+pub note-said : {n : Note} {word : ℕ} → NoteTold ReaderAnswer n word → noteAt word ≡ known n
 unfolding plainAt
 note-said unnoted = sym (at-unsaid 0 refl)
 note-said (noted {word = word} (takes {n} l) t) =
@@ -58,12 +59,12 @@ note-said (noted misfit t) = plain-said 8 refl (λ e. omega arith) (λ e. omega 
 
 -- What a word says is told by it.
 abbrev SaidBy : ℕ → NoteSaid → Type 0
-SaidBy w (known n) = NoteTold n w
+SaidBy w (known n) = NoteTold ReaderAnswer n w
 SaidBy w unknown = Unit
 
 module _ (w : ℕ) (s : w ≢ 0) where
-  up : {n : Note} → NoteTold n (1 + (w - 1)) → NoteTold n w
-  up {n} t = let e : 1 + (w - 1) ≡ w = omega arith in subst (NoteTold n) e t
+  up : {n : Note} → NoteTold ReaderAnswer n (1 + (w - 1)) → NoteTold ReaderAnswer n w
+  up {n} t = let e : 1 + (w - 1) ≡ w = omega arith in subst (NoteTold ReaderAnswer n) e t
 
   plain-by : (k : ℕ) (rest : NoteSaid) → ReaderAnswer (refused k) → plainNumber k ≡ true → (w - 1) % 4294967296 ≡ 0 → SaidBy w rest
       → SaidBy w (pick (eqb ((w - 1) / 4294967296) k) (known (said (refused k))) rest)
@@ -102,7 +103,7 @@ said-by : (w : ℕ) → SaidBy w (noteAt w)
 unfolding noteAt
 said-by w = picked (SaidBy w) (eqb w 0) (λ e. rw (eqb-true w 0 e) unnoted) (λ e. with-by w (eqb-false w 0 e))
 
-pub said-note : {w : ℕ} {n : Note} → noteAt w ≡ known n → NoteTold n w
+pub said-note : {w : ℕ} {n : Note} → noteAt w ≡ known n → NoteTold ReaderAnswer n w
 said-note {w} e = subst (SaidBy w) e (said-by w)
 
 -- A reader of such a mark and note, and the words of it.
@@ -127,13 +128,13 @@ pub reader-tells : {a : Answer} → ReaderAnswer a → WordTells 4294967296 a (a
 unfolding answerWord
 reader-tells r = let v = answer-valued r .1 in word-tells null (λ e. absurd (never-bare v e)) (omega arith) v
 
-note-written : {n : Note} → Sayable n → NoteTold n (noteWord n)
+note-written : {n : Note} → Sayable n → NoteTold ReaderAnswer n (noteWord n)
 unfolding noteWord
 note-written silent = unnoted
 note-written (spoken r) = noted r (reader-tells r)
 
 -- The eight words written are those of the table.
-reader-write : {w : List ℕ} → OfLength 8 w → (r : Reader) → r .mark < 4294967296 → NoteTold (r .note) (noteWord (r .note))
+reader-write : {w : List ℕ} → OfLength 8 w → (r : Reader) → r .mark < 4294967296 → NoteTold ReaderAnswer (r .note) (noteWord (r .note))
     → ReaderWords (readerWritten w r) r
 unfolding readerWritten
 reader-write (one a (one b (one c (one d (one e (one f (one g (one h end)))))))) r l n =
@@ -176,7 +177,7 @@ one-reader {w} {r} {s} p q =
     λ i. readerOf (e0 i) (e1 i) (e2 i) (e3 i) (e4 i) (e5 i) (e6 i) (e7 i)
 
 -- And a reader is one list of words.
-one-note : {n : Note} {v w : ℕ} → NoteTold n v → NoteTold n w → v ≡ w
+pub one-note : {Says : Answer → Type 0} {n : Note} {v w : ℕ} → NoteTold Says n v → NoteTold Says n w → v ≡ w
 one-note unnoted unnoted = refl
 one-note (noted a t) (noted b u) = ap (λ (x : ℕ). 1 + x) (one-word t u)
 
@@ -202,7 +203,7 @@ pub data SaidIn (w : List ℕ) : Type 0 where
   none : readerIn w ≡ sayingNone → ((r : Reader) → ReaderWords w r → ⊥) → SaidIn w
 
 -- The eight words read are those of the table.
-reader-read : {w : List ℕ} → OfLength 8 w → (n : Note) → getD w 5 0 < 4294967296 → NoteTold n (getD w 7 0)
+reader-read : {w : List ℕ} → OfLength 8 w → (n : Note) → getD w 5 0 < 4294967296 → NoteTold ReaderAnswer n (getD w 7 0)
     → noteAt (getD w 7 0) ≡ known n → SaidIn w
 unfolding readerIn
 reader-read (one a (one b (one c (one d (one e (one f (one g (one h end)))))))) n l t k =

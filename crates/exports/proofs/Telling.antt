@@ -153,3 +153,7 @@ pub tells-batch : {w : ℕ} {a : Answer} {ix : Index} {answers : List ℕ} {o : 
     → record { word = w; left = ix; answers = answers } ≡ batchWorded o
 unfolding batchWorded
 tells-batch {w} {a} {ix} {answers} {o} e f = ap (λ (n : ℕ). record { word = n; left = ix; answers = answers }) e ∙ ap batchWorded f
+
+-- A count and no refusal is its own word.
+pub taken-word : (n : ℕ) → n < 4294967296 → WordTells 4294967296 (given n) n
+taken-word n b = record { beside = n; valued = gives b; number = omega arith; value = omega arith }

@@ -1,5 +1,5 @@
 -- What crate `exports` proves beside its contracts: a word has one number and one value, it tells which answer it is, the words of a
--- reader, of a cursor, of a reason and of a report are what the rules' tables say, and each exported routine has one outcome.
+-- reader, of a loader, of a cursor, of a reason and of a report are what the rules' tables say, and each exported routine has one outcome.
 use mathlib.Core.Path.{_≡_}
 use mathlib.Core.Logic.{_↔_}
 use mathlib.Core.List.{List}
@@ -34,12 +34,18 @@ use Rattle.set_rules.specs.Whole.{Listing}
 use Rattle.endian.specs.Bytes.{Bytes}
 use Rattle.upload_rules.specs.Reader.{Reader}
 use Rattle.upload_rules.specs.Reading.{session, readChunk, readEnd}
+use Rattle.file_rules.specs.Saving.{saves}
+use Rattle.file_rules.specs.Loader.{Loader}
+use Rattle.file_rules.specs.Loading.{loading, loadChunk, loadEnd}
 use Rattle.exports.specs.Words.{searchWord, checkWord, Worded, worded, BatchWorded, batchWorded, WhyWorded, whyWorded}
 use Rattle.exports.specs.Words.{SalvageWorded, salvageWorded}
 use Rattle.exports.specs.Readers.{saying, readerIn, ReadWorded, startedReader, chunkRead, endedReader}
+use Rattle.exports.specs.Loaders.{SaveWorded, saveWorded, sayingLoader, loaderIn, LoaderWorded, startedLoader, LoadWorded}
+use Rattle.exports.specs.Loaders.{chunkLoaded, endedLoader}
 use Rattle.exports.specs.Cursors.{cursorIn, Kept, startedInto, walkedInto}
 use Rattle.exports.specs.Told.{WordTells, LooksTold}
-use Rattle.exports.specs.Lent.{ReaderWords, CursorWords, ReportWord}
+use Rattle.exports.specs.Lent.{ReaderWords, LoaderWords, CursorWords, ReportWord}
+use Rattle.exports.specs.Filed.{SaveTold, LoadStartTold, LoadTold, UnknownLoader, LoadContinued, FileTold}
 use Rattle.exports.specs.Leaving.{WritesTold, BatchTold, UnknownReader, StartTold, ReadTold, Continued, UploadTold, CursorMade}
 use Rattle.exports.specs.Leaving.{WalkTold, WordsListing, WordsWalk, ReasonTold, SalvageTold}
 
@@ -83,6 +89,18 @@ pub record Claims : Type 0 where
   pub reading : (ix : Index) (w : List ℕ) → Continued ix w
   pub uploading : (ix : Index) → FitIndex ix → (h : Sound (ix .live)) → Places (contents h) → (w : List ℕ) → length w ≡ 8
       → (l : List ℕ) → Bytes l → UploadTold ix h w l
+  -- save, and the loader likewise
+  pub save-tells : (s : Set) (out : List ℕ) → SaveTold s out (saveWorded (saves s out))
+  pub loader-words : (w : List ℕ) (r : Loader) → (loaderIn w ≡ sayingLoader r) ↔ LoaderWords w r
+  pub loader-one : (v w : List ℕ) (r : Loader) → LoaderWords v r → LoaderWords w r → v ≡ w
+  pub load-start : (w : List ℕ) → LoadStartTold w
+  pub load-chunk : (t : Set) (w l : List ℕ) → Bytes l → (r : Loader) → LoaderWords w r
+      → LoadTold (loadChunk (loading r t) l) (chunkLoaded t w l)
+  pub load-end : (t : Set) (w : List ℕ) (r : Loader) → LoaderWords w r → LoadTold (loadEnd (loading r t)) (endedLoader t w)
+  pub load-none : (t : Set) (w l : List ℕ) → ((r : Loader) → LoaderWords w r → ⊥)
+      → UnknownLoader t w (chunkLoaded t w l) × UnknownLoader t w (endedLoader t w)
+  pub load-going : (t : Set) (w : List ℕ) → LoadContinued t w
+  pub load-file : (t : Set) (w : List ℕ) → length w ≡ 8 → (l : List ℕ) → Bytes l → FileTold t w l
   -- the cursor likewise
   pub cursor-words : (w : List ℕ) → length w ≡ 11 → (c : Cursor) → (cursorIn w ≡ c) ↔ CursorWords w c
   pub start-tells : (s : Set) (t : ℕ) (w : List ℕ) → CursorMade s t w
@@ -110,6 +128,10 @@ pub record Claims : Type 0 where
   pub read-start-one : (ix : Index) (reader : List ℕ) → OneAnswer (λ (r : ReadWorded). r ≡ startedReader ix reader)
   pub read-chunk-one : (ix : Index) (reader chunk : List ℕ) → OneAnswer (λ (r : ReadWorded). r ≡ chunkRead ix reader chunk)
   pub read-end-one : (ix : Index) (reader : List ℕ) → OneAnswer (λ (r : ReadWorded). r ≡ endedReader ix reader)
+  pub save-one : (s : Set) (out : List ℕ) → OneAnswer (λ (r : SaveWorded). r ≡ saveWorded (saves s out))
+  pub load-start-one : (w : List ℕ) → OneAnswer (λ (r : LoaderWorded). r ≡ startedLoader w)
+  pub load-chunk-one : (t : Set) (w chunk : List ℕ) → OneAnswer (λ (r : LoadWorded). r ≡ chunkLoaded t w chunk)
+  pub load-end-one : (t : Set) (w : List ℕ) → OneAnswer (λ (r : LoadWorded). r ≡ endedLoader t w)
   pub accept-one : (s : Set) → OneAnswer (λ (r : ℕ). r ≡ answerWord (accepts s))
   pub lookup-one : (s : Set) (table hash key : ℕ) → OneAnswer (λ (r : ℕ). r ≡ searchWord (counted (lookups s table hash key)))
   pub start-one : (s : Set) (table : ℕ) (cursor : List ℕ) → OneAnswer (λ (r : Kept). r ≡ startedInto s table cursor)

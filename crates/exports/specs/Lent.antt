@@ -1,5 +1,5 @@
--- The reader, the cursor, the reason and the report that words are, by the rules' tables: nothing here knows how they are read and
--- written.
+-- The reader, the loader, the cursor, the reason and the report that words are, by the rules' tables: nothing here knows how they are
+-- read and written.
 use mathlib.Core.Path.{_≡_}
 use mathlib.Core.Logic.{_≢_}
 use mathlib.Core.List.{List}
@@ -10,6 +10,7 @@ use Rattle.slots.specs.Pairs.{pairOf}
 use Rattle.slots.specs.Answers.{Answer, some, given, refused}
 use Rattle.set_rules.specs.Cursor.{Cursor}
 use Rattle.upload_rules.specs.Reader.{Note, unsaid, said, Reader}
+use Rattle.file_rules.specs.Loader.{Loader}
 use Rattle.night_rules.specs.Account.{Account}
 use Rattle.night_rules.specs.Saved.{Usable}
 use Rattle.exports.specs.Told.{WordTells}
@@ -32,9 +33,9 @@ pub data ReaderAnswer : Answer → Type 0 where
   misfit : ReaderAnswer (refused 8)
 
 -- "0 while nothing is noted, else 1 + the answer word"
-pub data NoteTold : Note → ℕ → Type 0 where
-  nothing : NoteTold unsaid 0
-  noted : {a : Answer} {word : ℕ} → ReaderAnswer a → WordTells 4294967296 a word → NoteTold (said a) (1 + word)
+pub data NoteTold (Says : Answer → Type 0) : Note → ℕ → Type 0 where
+  nothing : NoteTold Says unsaid 0
+  noted : {a : Answer} {word : ℕ} → Says a → WordTells 4294967296 a word → NoteTold Says (said a) (1 + word)
 
 -- "The reader is eight words of 64 bits": "section", "got", "owed", "hash", "key", "mark", "taken", "note".
 pub record ReaderWords (w : List ℕ) (r : Reader) : Type 0 where
@@ -46,9 +47,29 @@ pub record ReaderWords (w : List ℕ) (r : Reader) : Type 0 where
   pub key : getD w 4 0 ≡ r .key
   pub mark : getD w 5 0 ≡ r .mark
   pub taken : getD w 6 0 ≡ r .taken
-  pub note : NoteTold (r .note) (getD w 7 0)
+  pub note : NoteTold ReaderAnswer (r .note) (getD w 7 0)
   -- the mark is "any of 32 bits"
   pub narrow : r .mark < 4294967296
+
+-- An answer of the loader: "the bytes taken since the start", or "14 Over limit", "13 Long", "12 Short", "1 where the set that the counts
+-- cut out of the slices does not fit, and 2 where it is not accepted".
+pub data LoaderAnswer : Answer → Type 0 where
+  loads : {n : ℕ} → n < 4294967296 → LoaderAnswer (given n)
+  overLimit : LoaderAnswer (refused 14)
+  longFile : LoaderAnswer (refused 13)
+  shortFile : LoaderAnswer (refused 12)
+  unfitSet : LoaderAnswer (refused 1)
+  damagedSet : LoaderAnswer (refused 2)
+
+-- "The loader is eight words of 64 bits": "section", "at", "part", the four counts "tables", "words", "headers", "slots", and "note".
+pub record LoaderWords (w : List ℕ) (r : Loader) : Type 0 where
+  pub eight : length w ≡ 8
+  pub section : getD w 0 0 ≡ r .section
+  pub at : getD w 1 0 ≡ r .at
+  pub part : getD w 2 0 ≡ r .part
+  pub four : length (r .counts) ≡ 4
+  pub counts : (s : ℕ) → s < 4 → getD w (3 + s) 0 ≡ getD (r .counts) s 0
+  pub note : NoteTold LoaderAnswer (r .note) (getD w 7 0)
 
 -- "A cursor is 11 words: base table, depth, eight indexes, last slot"
 pub record CursorWords (w : List ℕ) (c : Cursor) : Type 0 where

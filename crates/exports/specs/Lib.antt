@@ -1,8 +1,10 @@
 pub mod Words
 pub mod Cursors
 pub mod Readers
+pub mod Loaders
 pub mod Coded
 pub mod Told
 pub mod Lent
 pub mod Leaving
+pub mod Filed
 pub mod Claims

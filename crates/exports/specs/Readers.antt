@@ -8,7 +8,8 @@ use Rattle.slots.specs.Answers.{refused, answerWord}
 use Rattle.index_rules.specs.Index.{Index}
 use Rattle.upload_rules.specs.Reader.{Reader, readerOf, newReader}
 use Rattle.upload_rules.specs.Reading.{session, ReadOutcome, readStart, readChunk, readEnd}
-use Rattle.reader.specs.Notes.{NoteSaid, known, unknown, noteWord, noteAt}
+use Rattle.reader.specs.Notes.{noteAt}
+use Rattle.upload_rules.specs.Notes.{NoteSaid, known, unknown, noteWord}
 
 -- The words say a reader, or none: the mark is no 32-bit word, or the note no answer of the reader.
 pub data ReaderSaid : Type 0 where

@@ -1,3 +1,10 @@
 pub mod Laying
 pub mod Saving
+pub mod Tables
+pub mod Ranging
+pub mod Clearing
+pub mod Bytewise
+pub mod Running
+pub mod Stepping
+pub mod Noting
 pub mod Claims

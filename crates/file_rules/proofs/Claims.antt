@@ -16,12 +16,12 @@ use Rattle.set_rules.specs.Accepted.{Accepted}
 use Rattle.file_rules.specs.File.{Wide, setBytes, setSize, countsIn}
 use Rattle.file_rules.specs.Loader.{loaderOf, newLoader, FitLoader, RoomFor, takenOf, loaderAnswer}
 use Rattle.file_rules.specs.Loading.{Loading, loading, LoadOutcome, loadOutcome, byteStored, bytesLoaded, endJudged, mayGoOn}
-use Rattle.file_rules.specs.Loading.{loadStart, loadChunk, loadEnd}
+use Rattle.file_rules.specs.Loading.{loadStart, loadChunk, loadEnd, GoesOn}
 use Rattle.file_rules.specs.Faults.{Larger, OverLimit, LongFile, WholeFile}
 use Rattle.file_rules.specs.Left.{padded}
 use Rattle.file_rules.specs.Claims.{Saves, SavedLoads, LoadStarts, LoadCalls, Loads, Claims}
 use Rattle.file_rules.proofs.Sample.{sample-bytes}
-use Rattle.file_rules.proofs.Ranges.{not-unsaid, GoesOn, byte-open, end-open, bytes-go, end-goes}
+use Rattle.file_rules.proofs.Ranges.{not-unsaid, byte-open, end-open, bytes-go, end-goes}
 use Rattle.file_rules.proofs.Testing.{in-goes, start-goes, answeredBy, chunk-in, chunk-out, end-in, end-out}
 use Rattle.file_rules.proofs.CutOut.{NotedFault, on, off, bytes-noted, whole-is, came-taken}
 use Rattle.file_rules.proofs.Returning.{set-are-bytes, bins-most, accepted-loadable}
@@ -32,22 +32,6 @@ use Rattle.file_rules.proofs.Concluding.{verdicts, whole-plain}
 use Rattle.file_rules.proofs.Zeroing.{chunk-zeros, whole-zeros, end-notes, byte-turns}
 use Rattle.file_rules.proofs.Saving.{size-is, save-done, save-two, save-one}
 use Rattle.file_rules.proofs.Leaving.{reads-as, set-one, whole-comes, whole-cut, whole-accepts, own-saves}
-use Rattle.file_rules.specs.Claims.{Saves, SavedLoads, LoadStarts, LoadCalls, Loads, Claims}
-use Rattle.file_rules.specs.Claims.{Saves, SavedLoads, LoadStarts, LoadCalls, Loads, Claims}
-use Rattle.file_rules.specs.Claims.{Saves, SavedLoads, LoadStarts, LoadCalls, Loads, Claims}
-use Rattle.file_rules.specs.Claims.{Saves, SavedLoads, LoadStarts, LoadCalls, Loads, Claims}
-use Rattle.file_rules.specs.Claims.{Saves, SavedLoads, LoadStarts, LoadCalls, Loads, Claims}
-use Rattle.file_rules.specs.Claims.{Saves, SavedLoads, LoadStarts, LoadCalls, Loads, Claims}
-use Rattle.file_rules.specs.Claims.{Saves, SavedLoads, LoadStarts, LoadCalls, Loads, Claims}
-use Rattle.file_rules.specs.Claims.{Saves, SavedLoads, LoadStarts, LoadCalls, Loads, Claims}
-use Rattle.file_rules.specs.Claims.{Saves, SavedLoads, LoadStarts, LoadCalls, Loads, Claims}
-use Rattle.file_rules.specs.Claims.{Saves, SavedLoads, LoadStarts, LoadCalls, Loads, Claims}
-use Rattle.file_rules.specs.Claims.{Saves, SavedLoads, LoadStarts, LoadCalls, Loads, Claims}
-use Rattle.file_rules.specs.Claims.{Saves, SavedLoads, LoadStarts, LoadCalls, Loads, Claims}
-use Rattle.file_rules.specs.Claims.{Saves, SavedLoads, LoadStarts, LoadCalls, Loads, Claims}
-use Rattle.file_rules.specs.Claims.{Saves, SavedLoads, LoadStarts, LoadCalls, Loads, Claims}
-use Rattle.file_rules.specs.Claims.{Saves, SavedLoads, LoadStarts, LoadCalls, Loads, Claims}
-use Rattle.file_rules.specs.Claims.{Saves, SavedLoads, LoadStarts, LoadCalls, Loads, Claims}
 use Rattle.file_rules.proofs.Why as W
 
 fit-size : (s : Set) → Fit s → length (setBytes s) ≡ setSize s

@@ -18,9 +18,10 @@ use Rattle.set_rules.proofs.Fit.{fits-exactly}
 use Rattle.set_rules.proofs.Accepting.{yes-accepted, accepted-yes}
 use Rattle.file_rules.specs.File.{countsIn}
 use Rattle.file_rules.specs.Loader.{Loader, newLoader, takenOf, loaderAnswer}
-use Rattle.file_rules.specs.Loading.{Loading, loading, LoadOutcome, loadRefused, bytesLoaded, cutOut, endJudged, endLoaded, loadWhole}
+use Rattle.file_rules.specs.Loading.{Loading, loading, LoadOutcome, loadRefused, bytesLoaded, cutOut, endJudged, endLoaded}
+use Rattle.file_rules.specs.Loading.{loadWhole, GoesOn}
 use Rattle.file_rules.specs.Faults.{WholeFile, LoadVerdict}
-use Rattle.file_rules.proofs.Ranges.{GoesOn, end-open, end-said, bytes-go}
+use Rattle.file_rules.proofs.Ranges.{end-open, end-said, bytes-go}
 use Rattle.file_rules.proofs.Testing.{start-goes}
 use Rattle.file_rules.proofs.CutOut.{NotedFault, on, off}
 use Rattle.file_rules.proofs.Bringing.{betweenWords}

@@ -18,8 +18,8 @@ use Rattle.file_rules.specs.File.{setBytes, countsIn}
 use Rattle.file_rules.specs.Layout.{slotField, fieldOf, sectionWords, canHold, fieldIn}
 use Rattle.file_rules.specs.Loader.{Loader, countTaken, newLoader, nextWidth, FitLoader, RoomFor, takenOf}
 use Rattle.file_rules.specs.Loading.{Loading, loading, LoadOutcome, loadRefused, afterWords, mayCount, wordCame, withByte, byteStored}
-use Rattle.file_rules.specs.Loading.{byteLoaded, bytesLoaded, cutOut, endLoaded, loadEnd, loadWhole}
-use Rattle.file_rules.proofs.Ranges.{GoesOn, open-or, byte-open, byte-said, bytes-go}
+use Rattle.file_rules.specs.Loading.{byteLoaded, bytesLoaded, cutOut, endLoaded, loadEnd, loadWhole, GoesOn}
+use Rattle.file_rules.proofs.Ranges.{open-or, byte-open, byte-said, bytes-go}
 use Rattle.file_rules.proofs.Testing.{by-four, start-goes, answeredBy, chunk-in, end-in}
 use Rattle.file_rules.proofs.Written.{begunBytes, wholesBytes, cameBytesAt, cameBytes, wholes-same, bytes-add}
 use Rattle.file_rules.proofs.Taken.{came-length}

@@ -17,8 +17,8 @@ use Rattle.set_rules.specs.Words.{Set, fits}
 use Rattle.set_rules.specs.Accepting.{accepted}
 use Rattle.file_rules.specs.Loader.{Loader, takenOf, loaderAnswer}
 use Rattle.file_rules.specs.Loading.{Loading, LoadOutcome, loadOutcome, loadRefused, bytesLoaded, cutOut, endJudged, endLoaded}
-use Rattle.file_rules.specs.Loading.{mayGoOn, loadChunk, loadEnd, loadChunks}
-use Rattle.file_rules.proofs.Ranges.{GoesOn, end-open, end-said, bytes-go, end-goes}
+use Rattle.file_rules.specs.Loading.{mayGoOn, loadChunk, loadEnd, loadChunks, GoesOn}
+use Rattle.file_rules.proofs.Ranges.{end-open, end-said, bytes-go, end-goes}
 use Rattle.file_rules.proofs.Testing.{in-goes, answeredBy, chunk-in, chunk-out, end-in, end-out}
 use Rattle.file_rules.proofs.Written.{bytes-said}
 use Rattle.file_rules.proofs.Bringing.{bytes-loaded-append}

@@ -19,7 +19,7 @@ use Rattle.set_rules.specs.Accepting.{accepted}
 use Rattle.file_rules.specs.Layout.{fieldOf, sectionWords, mostOf, canHold, putField}
 use Rattle.file_rules.specs.Loader.{Loader, loaderOf, countTaken, noteIn, nextWidth, countsCome, FitLoader, RoomFor}
 use Rattle.file_rules.specs.Loading.{Loading, loading, loadRefused, loaderAt, afterWords, withCount, mayCount, wordCame, withByte}
-use Rattle.file_rules.specs.Loading.{byteStored, byteLoaded, bytesLoaded, cutOut, endJudged, endLoaded}
+use Rattle.file_rules.specs.Loading.{byteStored, byteLoaded, bytesLoaded, cutOut, endJudged, endLoaded, GoesOn}
 use Rattle.file_rules.proofs.Endian.{small-more}
 use Rattle.file_rules.proofs.Fields.{put-length, field-width, holds-alike}
 use Rattle.file_rules.proofs.Counting.{may-both}
@@ -36,11 +36,6 @@ next-width s (suc j) = field-width s j
 pub byte-small : (r : Loader) (b : ℕ) → r .part < 256 ^ (r .at % 8) → b < 256 → withByte r b < 256 ^ suc (r .at % 8)
 unfolding withByte
 byte-small r b h l = let a = small-more (r .at % 8) (r .part) b h l in omega arith
-
--- A loader in range, with slices that hold its counts while nothing is noted.
-pub record GoesOn (d : Loading) : Type 0 where
-  pub fit : FitLoader (d .loader)
-  pub room : d .loader .note ≡ unsaid → RoomFor (d .loader) (d .set)
 
 pub note-fit : {r : Loader} {n : Note} → FitLoader r → FitLoader (loaderOf (r .section) (r .at) (r .part) (r .counts) n)
 unfolding countsCome

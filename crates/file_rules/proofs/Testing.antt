@@ -16,8 +16,9 @@ use Rattle.set_rules.specs.Words.{Set}
 use Rattle.file_rules.specs.Layout.{sectionWords, mostOf, canHold}
 use Rattle.file_rules.specs.Loader.{Loader, countTaken, newLoader, nextWidth, countsCome, FitLoader, countFits, fitsLoader, RoomFor}
 use Rattle.file_rules.specs.Loader.{hasRoom, loaderAnswer}
-use Rattle.file_rules.specs.Loading.{Loading, loading, LoadOutcome, loadOutcome, bytesLoaded, endLoaded, mayGoOn, loadChunk, loadEnd}
-use Rattle.file_rules.proofs.Ranges.{GoesOn, open-or}
+use Rattle.file_rules.specs.Loading.{Loading, loading, LoadOutcome, loadOutcome, bytesLoaded, endLoaded, mayGoOn, loadChunk}
+use Rattle.file_rules.specs.Loading.{loadEnd, GoesOn}
+use Rattle.file_rules.proofs.Ranges.{open-or}
 
 -- What holds of the four sections.
 pub by-four : (P : ℕ → Type 0) → P 0 → P 1 → P 2 → P 3 → (s : ℕ) → s < 4 → P s
@@ -30,7 +31,7 @@ by-four P a b c d (suc (suc (suc (suc s)))) l = absurd (omega arith)
 ended-test : (r : Loader) → (r .section ≡ 4 → r .at ≡ 0) → pick (eqb (r .section) 4) (eqb (r .at) 0) true ≡ true
 ended-test r h = pick-by (λ (x : Bool). x ≡ true) (eqb (r .section) 4) _ _ (λ e. eq-eqb _ _ (h (eqb-true _ _ e))) (λ e. refl)
 
-count-test : (r : Loader) (s : ℕ) → s < 4 → FitLoader r → countFits r s ≡ true
+pub count-test : (r : Loader) (s : ℕ) → s < 4 → FitLoader r → countFits r s ≡ true
 unfolding countFits
 count-test r s l h =
     pick-by (λ (k : ℕ). leb (countTaken r s) k ≡ true) (ltb s (countsCome r)) _ _ (λ e. le-leb _ _ (h .limits s l))
@@ -44,11 +45,11 @@ in-range r h =
     (and (count-test r 1 (omega arith) h) (and (count-test r 2 (omega arith) h) (count-test r 3 (omega arith) h)))))))))
 
 -- A count in its range.
-record CountIn (r : Loader) (s : ℕ) : Type 0 where
-  most : countTaken r s ≤ mostOf s
-  none : countsCome r ≤ s → countTaken r s ≡ 0
+pub record CountIn (r : Loader) (s : ℕ) : Type 0 where
+  pub most : countTaken r s ≤ mostOf s
+  pub none : countsCome r ≤ s → countTaken r s ≡ 0
 
-count-in : (r : Loader) (s : ℕ) → countFits r s ≡ true → CountIn r s
+pub count-in : (r : Loader) (s : ℕ) → countFits r s ≡ true → CountIn r s
 unfolding countFits
 count-in r s e =
     pick-by (λ (k : ℕ). countTaken r s ≤ k → CountIn r s) (ltb s (countsCome r)) _ _

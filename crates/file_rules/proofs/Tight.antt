@@ -14,9 +14,9 @@ use Rattle.set_rules.specs.Words.{Set}
 use Rattle.file_rules.specs.Layout.{fieldOf, sectionWords, fieldIn, putField}
 use Rattle.file_rules.specs.Loader.{Loader, countTaken, newLoader, nextWidth, FitLoader, RoomFor}
 use Rattle.file_rules.specs.Loading.{Loading, loading, loadRefused, afterWords, withCount, mayCount, wordCame, withByte, byteStored}
-use Rattle.file_rules.specs.Loading.{byteLoaded, bytesLoaded}
+use Rattle.file_rules.specs.Loading.{byteLoaded, bytesLoaded, GoesOn}
 use Rattle.file_rules.proofs.Fields.{field-apart, field-same}
-use Rattle.file_rules.proofs.Ranges.{not-unsaid, next-width, byte-small, GoesOn, count-other, open-or, byte-open, byte-said}
+use Rattle.file_rules.proofs.Ranges.{not-unsaid, next-width, byte-small, count-other, open-or, byte-open, byte-said}
 use Rattle.file_rules.proofs.Ranges.{byte-goes}
 use Rattle.file_rules.proofs.Bringing.{Small}
 

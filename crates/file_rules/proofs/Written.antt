@@ -15,10 +15,10 @@ use Rattle.set_rules.specs.Words.{Set}
 use Rattle.file_rules.specs.Layout.{fieldOf, sectionWords, fieldIn, putField}
 use Rattle.file_rules.specs.Loader.{Loader, countTaken, nextWidth, FitLoader, RoomFor}
 use Rattle.file_rules.specs.Loading.{Loading, loading, loadRefused, loaderAt, afterWords, withCount, mayCount, wordCame, withByte}
-use Rattle.file_rules.specs.Loading.{byteStored, byteLoaded, bytesLoaded}
+use Rattle.file_rules.specs.Loading.{byteStored, byteLoaded, bytesLoaded, GoesOn}
 use Rattle.file_rules.proofs.Endian.{little-snoc}
 use Rattle.file_rules.proofs.Fields.{field-apart, field-same}
-use Rattle.file_rules.proofs.Ranges.{not-unsaid, next-width, GoesOn, count-own, count-other, open-or, byte-open, byte-said}
+use Rattle.file_rules.proofs.Ranges.{not-unsaid, next-width, count-own, count-other, open-or, byte-open, byte-said}
 use Rattle.file_rules.proofs.Ranges.{byte-goes}
 
 -- The bytes of the first j words of section s in the slices.

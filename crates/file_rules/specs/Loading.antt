@@ -1,5 +1,6 @@
 -- What start, chunk and end of the loader do: bytes are taken one after the other, a word is written at its last byte, and on a refusal
 -- the slices are zeroed.
+use mathlib.Core.Path.{_≡_}
 use mathlib.Core.Bool.{Bool, true}
 use mathlib.Core.List.{List, [], _∷_, _++_}
 use Prim.Native.Nat.{ℕ, zero, suc, _+_, _-_, _*_, _/_, _%_, _^_}
@@ -12,6 +13,7 @@ use Rattle.set_rules.specs.Words.{Set, lentSet, fits}
 use Rattle.set_rules.specs.Accepting.{accepted}
 use Rattle.file_rules.specs.Layout.{fieldOf, sectionWords, mostOf, canHold, putField}
 use Rattle.file_rules.specs.Loader.{Loader, loaderOf, newLoader, countTaken, noteIn, nextWidth, fitsLoader, hasRoom, takenOf}
+use Rattle.file_rules.specs.Loader.{FitLoader, RoomFor}
 use Rattle.file_rules.specs.Loader.{loaderAnswer}
 
 -- All that the loader's calls work on.
@@ -115,6 +117,11 @@ endJudged r t =
 
 unfoldable pub endLoaded : Loading → Loading
 endLoaded d = pick (isOpen (d .loader .note)) (endJudged (d .loader) (d .set)) d
+
+-- A loader in range, with slices that hold its counts while nothing is noted.
+pub record GoesOn (d : Loading) : Type 0 where
+  pub fit : FitLoader (d .loader)
+  pub room : d .loader .note ≡ unsaid → RoomFor (d .loader) (d .set)
 
 -- "the loader's length and its ranges, out of which both are 1; the note, given again whatever is lent; the slices, where one too short for
 -- a count that was taken is 1"

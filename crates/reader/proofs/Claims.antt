@@ -11,7 +11,8 @@ use Rattle.upload_rules.specs.Reader.{Note as Noting, unsaid, said, Reader as W
 use Rattle.upload_rules.specs.Reading.{ReadOutcome}
 use Rattle.reader.specs.Meanings.{replyOf, noteOf, wordsOf, readingOf}
 use Rattle.reader.specs.Claims.{ReadReturned, returnedBy, Claims}
-use Rattle.reader.specs.Notes.{NoteSaid, known, unknown, noteAtOf}
+use Rattle.reader.specs.Notes.{noteAtOf}
+use Rattle.upload_rules.specs.Notes.{NoteSaid, known, unknown}
 use Rattle.reader.proofs.Noting.{word-back, said-back}
 use Rattle.reader.specs.declared.notes.NoteAt.{NoteAt}
 use Rattle.reader.specs.declared.notes.NoteAt.the-variants.{Known, Unknown}

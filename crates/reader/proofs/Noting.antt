@@ -11,7 +11,8 @@ use Rattle.slots.specs.Answers.{some, given, refused, answerWord, valueBeside}
 use Rattle.upload_rules.specs.Reader.{Note as Noting, unsaid, said}
 use Rattle.upload_rules.proofs.Ranges.{pick-by}
 use Rattle.reader.specs.Meanings.{replyOf}
-use Rattle.reader.specs.Notes.{NoteSaid, known, unknown, noteWord, plainAt, noteWith, noteAt}
+use Rattle.reader.specs.Notes.{plainAt, noteWith, noteAt}
+use Rattle.upload_rules.specs.Notes.{NoteSaid, known, unknown, noteWord}
 use Rattle.reader.specs.declared.reply.Reply.{Reply}
 use Rattle.reader.specs.declared.reply.Reply.the-variants.{Given, Unfit, Damaged, Present, Full, JournalFull, BadMark, Misfit, Short}
 use Rattle.reader.specs.declared.reply.Reply.the-variants.{Long, WrongKind}

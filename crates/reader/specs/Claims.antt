@@ -9,7 +9,8 @@ use Rattle.index_rules.specs.Index.{Index, lent}
 use Rattle.upload_rules.specs.Reader.{Note as Noting, said, newReader}
 use Rattle.upload_rules.specs.Reading.{Session, session, ReadOutcome, readStart, readChunk, readEnd}
 use Rattle.reader.specs.Meanings.{replyOf, wordsOf, readingOf}
-use Rattle.reader.specs.Notes.{noteAtOf, known, noteWord, noteAt}
+use Rattle.reader.specs.Notes.{noteAtOf, noteAt}
+use Rattle.upload_rules.specs.Notes.{known, noteWord}
 use Rattle.reader.specs.declared.notes.NoteAt.{NoteAt}
 use Rattle.reader.specs.declared.reply.Reply.{Reply}
 use Rattle.reader.specs.declared.words.Reader.{Reader}

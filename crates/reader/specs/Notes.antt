@@ -1,22 +1,13 @@
--- The word of a note, and the note of a word.
-use Prim.Native.Nat.{ℕ, _+_, _-_, _/_, _%_}
+-- The note of a word.
+use Prim.Native.Nat.{ℕ, _-_, _/_, _%_}
 use lib.Dec.{eqb}
 use Rattle.slots.specs.Words.{pick}
-use Rattle.slots.specs.Answers.{some, given, refused, answerWord}
-use Rattle.upload_rules.specs.Reader.{Note as Noting, unsaid, said}
+use Rattle.slots.specs.Answers.{some, given, refused}
+use Rattle.upload_rules.specs.Reader.{unsaid, said}
+use Rattle.upload_rules.specs.Notes.{NoteSaid, known, unknown}
 use Rattle.reader.specs.Meanings.{noteOf}
 use Rattle.reader.specs.declared.notes.NoteAt.{NoteAt}
 use Rattle.reader.specs.declared.notes.NoteAt.the-variants.{Known, Unknown}
-
--- "0 while nothing is noted, else 1 + the answer word"
-unfoldable pub noteWord : Noting → ℕ
-noteWord unsaid = 0
-noteWord (said a) = 1 + answerWord a
-
--- A word says a note, or it is no answer of the reader.
-pub data NoteSaid : Type 0 where
-  known : Noting → NoteSaid
-  unknown : NoteSaid
 
 abbrev pub noteAtOf : NoteAt → NoteSaid
 noteAtOf (Known note) = known (noteOf note)

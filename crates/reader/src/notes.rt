@@ -7,7 +7,8 @@ ghost use Prim.Native.Nat.{_+_, _*_, _≤_};
 ghost use Rattle.slots.specs.Answers.{answerWord};
 ghost use Rattle.upload_rules.specs.Reader.{said as noting};
 ghost use Rattle.reader.specs.Meanings.{replyOf, noteOf};
-ghost use Rattle.reader.specs.Notes.{known, noteWord, plainAt, noteAt, noteAtOf};
+ghost use Rattle.reader.specs.Notes.{plainAt, noteAt, noteAtOf};
+ghost use Rattle.upload_rules.specs.Notes.{known, noteWord};
 
 // The note that a word says, unless that is no answer of the reader.
 pub enum NoteAt {

@@ -2,6 +2,7 @@
 use mathlib.Core.Bool.{Bool, true}
 use mathlib.Core.List.{List, [], _∷_, _++_}
 use Prim.Native.Nat.{ℕ}
+use Prim.Native.String.{String}
 use lib.ListN.{getD, drop}
 use lib.Dec.{eqb}
 use Rattle.slots.specs.Words.{null, pick, place, state, parent, left, right, prev}
@@ -37,3 +38,7 @@ leftAfter b numbers = pick (isBlank b) (drop 1 numbers) numbers
 unfoldable pub blanksFilled : List ℕ → List ℕ → List ℕ
 blanksFilled [] numbers = []
 blanksFilled (b ∷ sentence) numbers = piece b (getD numbers 0 0) ++ blanksFilled sentence (leftAfter b numbers)
+
+-- A sentence with its numbers.
+abbrev pub says : String → List ℕ → List ℕ
+says sentence numbers = blanksFilled (letters sentence) numbers

@@ -7,7 +7,7 @@ use mathlib.Core.List.{List}
 use Prim.Native.Nat.{ℕ, zero, suc, _-_, _<_, _≤_}
 use native.Mathlib.Decide.{decLt, ℕ-discrete}
 use native.Mathlib.Omega.{arith}
-use borrow.Author.Tests.{lt-ltb, le-ltb}
+use borrow.Author.Tests.{lt-ltb, le-ltb, le-leb}
 use Rattle.slots.specs.Words.{null}
 use Rattle.slots.specs.Answers.{Answer, none, given, nothing, refused}
 use Rattle.tree_rules.specs.Find.{Look, here, on, looked, Search, ends, lookedThen, slotsOf, searched, found}
@@ -16,7 +16,7 @@ use Rattle.tree_rules.proofs.Trail.{answers}
 use Rattle.tree_rules.proofs.Searching.{at-null, out-of-range, visits-spent, at-slot}
 use Rattle.set_rules.specs.Words.{Set, tablesOf, rootAt, Fit, fits, Bin, empty, moved, bad, list, tree}
 use Rattle.set_rules.proofs.Fit.{fits-fit, fit-fits}
-use Rattle.set_rules.specs.Lookup.{homeBin, asked, forwarded, lookups, Reaches, start, down, Astray, Hit, Miss}
+use Rattle.set_rules.specs.Lookup.{homeBin, asked, forwarded, lookups, lookupsFit, Reaches, start, down, Astray, Hit, Miss}
 use Rattle.set_rules.proofs.Forwarding.{turn, past-last}
 use Rattle.set_rules.proofs.Listing as listing
 
@@ -138,6 +138,10 @@ module _ (s : Set) (t hash key : ℕ) where
   pub known-loop : Fit s → t < tablesOf s → lookups s t hash key ≡ forwarded (tablesOf s - t) s t hash key
   unfolding lookups
   known-loop fit l = simp (fit-fits fit, lt-ltb _ _ l)
+
+  pub fit-loop : Fit s → t < tablesOf s → lookupsFit s t hash key ≡ lookups s t hash key
+  unfolding lookupsFit
+  fit-loop fit l = simp (le-leb (tablesOf s) 8 (fit .most)) (sym (known-loop fit l))
 
   -- Whether the words are fit is decided.
   pub fitted : Dec (Fit s)

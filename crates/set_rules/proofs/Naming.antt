@@ -17,7 +17,7 @@ use Rattle.tree_rules.proofs.Counting.{times-head, times-else, times-rest, time
 use Rattle.index_rules.proofs.Fit.{both}
 use Rattle.set_rules.specs.Words.{Set, Fit, tablesOf, headersIn, binsBefore, rootAt, firstAt, countAt, Bin, empty, moved, bad, list}
 use Rattle.set_rules.specs.Words.{tree}
-use Rattle.set_rules.specs.Words.{binOf, binAt}
+use Rattle.set_rules.specs.Words.{binOf, binAt, wordBin}
 use Rattle.set_rules.specs.Accepted.{BinPlace, HeadsOnce}
 use Rattle.set_rules.specs.Accepting.{isBlank, filled, namesHeader, naming, headersFine}
 use Rattle.set_rules.specs.Judged.{Ranges}
@@ -132,7 +132,7 @@ begins-more l (suc t) k b = go (ℕ-discrete k t) (λ d. begins-more l t k (omeg
     go (yes e) rest = rw e (omega arith)
     go (no d) rest = omega (arith, rest d)
 
-begins-place : (l : List ℕ) (t p : ℕ) → p < binsBefore l t → (k : ℕ) × (i : ℕ) × (k < t) × (i < getD l k 0) × (binsBefore l k + i ≡ p)
+pub begins-place : (l : List ℕ) (t p : ℕ) → p < binsBefore l t → (k : ℕ) × (i : ℕ) × (k < t) × (i < getD l k 0) × (binsBefore l k + i ≡ p)
 unfolding binsBefore
 begins-place l zero p b = absurd (omega arith)
 begins-place l (suc t) p b = go (decLe (binsBefore l t) p) (λ c. begins-place l t p c)
@@ -141,10 +141,6 @@ begins-place l (suc t) p b = go (decLe (binsBefore l t) p) (λ c. begins-place l
         → (k : ℕ) × (i : ℕ) × (k < suc t) × (i < getD l k 0) × (binsBefore l k + i ≡ p)
     go (yes c) again = (t, p - binsBefore l t, omega arith, omega arith, omega arith)
     go (no d) again = let r = again (omega arith) in (r .0, r .1, omega (arith, r .2), r .3, r .4)
-
--- The bin that the word p of the row is.
-abbrev wordBin : Set → ℕ → Bin
-wordBin s p = binOf (slotsOf (s .names)) (headersIn s) (getD (s .bins) p 0)
 
 -- The headers that the first q words of the row name.
 abbrev put : Bin → List ℕ → List ℕ

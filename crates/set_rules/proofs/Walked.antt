@@ -3,6 +3,7 @@ use Rattle.set_rules.specs.Walk.{turnsIn}
 use Rattle.set_rules.specs.Walked.{Walked}
 use Rattle.set_rules.proofs.Gates.{lookups-claims, starts-claims}
 use Rattle.set_rules.proofs.Looks.{lookup-looks}
+use Rattle.set_rules.proofs.Looking.{fit-loop}
 use Rattle.set_rules.proofs.RawTable.{looks-as-source}
 use Rattle.set_rules.proofs.Nexting.{nexts-claims}
 use Rattle.set_rules.proofs.Holding.{looks-up}
@@ -17,6 +18,7 @@ walked =
     record {
       looking = lookups-claims;
       looks = lookup-looks;
+      looking-fit = λ s fit t hash key l. fit-loop s t hash key fit l;
       looks-as-source = λ w lost s fit t hash key l. looks-as-source w lost s fit t hash key l;
       starting = starts-claims;
       stepping = nexts-claims;

@@ -50,6 +50,10 @@ unfoldable pub lookups : Set → ℕ → ℕ → ℕ → Search
 lookups s t hash key =
     pick (fits s) (pick (ltb t (tablesOf s)) (forwarded (tablesOf s - t) s t hash key) (ends (refused 10))) (ends (refused 1))
 
+-- The loop alone, for words that are known to fit. On any others more than eight tables, or no such table, is 9.
+unfoldable pub lookupsFit : Set → ℕ → ℕ → ℕ → Search
+lookupsFit s t hash key = pick (leb (tablesOf s) 8) (forwarded (tablesOf s - t) s t hash key) (ends (refused 9))
+
 -- A list from first is read up to the link p once k slots are visited, none of which has the pair.
 pub data ListFollows (names cells : List ℕ) (first hash key : ℕ) : ℕ → ℕ → Type 0 where
   start : ListFollows names cells first hash key 0 first

@@ -14,7 +14,7 @@ use Rattle.tree_rules.specs.Chain.{tally}
 use Rattle.index_rules.specs.Sound.{used}
 use Rattle.set_rules.specs.Words.{Set, tablesOf, lengthAt, rootAt, countAt, Fit, empty, moved, bad, list, tree}
 use Rattle.set_rules.specs.Accepted.{Accepted, Listed}
-use Rattle.set_rules.specs.Lookup.{homeBin, lookups, ListFollows, Reaches, Astray, Hit, Miss}
+use Rattle.set_rules.specs.Lookup.{homeBin, lookups, lookupsFit, ListFollows, Reaches, Astray, Hit, Miss}
 use Rattle.set_rules.specs.Cursor.{Cursor, Step, indexAt, lone, blankCursor, starts, BadCursor}
 use Rattle.set_rules.specs.Walk.{nexts}
 use Rattle.set_rules.specs.Ways.{Strays, Steps}
@@ -125,6 +125,8 @@ pub record WholeWalk (s : Set) (t : ℕ) : Type 0 where
 pub record Walked : Type 0 where
   pub looking : (s : Set) (t hash key : ℕ) → Lookups s t hash key
   pub looks : (s : Set) → Fit s → (t hash key : ℕ) → t < tablesOf s → LookupLooks s t hash key
+  -- on words that fit the loop alone is lookup
+  pub looking-fit : (s : Set) → Fit s → (t hash key : ℕ) → t < tablesOf s → lookupsFit s t hash key ≡ lookups s t hash key
   pub looks-as-source : (wild : Wild) (lost : FindRun) (s : Set) → Fit s → (t hash key : ℕ) → t < tablesOf s
       → LooksAsSource wild lost s t hash key
   pub starting : (s : Set) (t : ℕ) → Starts s t

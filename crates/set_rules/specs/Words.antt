@@ -116,6 +116,10 @@ binOf n h w =
     (pick (leb w 4097) (pick (ltb (w - 2) n) (list (w - 2)) bad)
     (pick (leb w 8193) (pick (ltb (w - firstTree) h) (tree (w - firstTree)) bad) bad)))
 
+-- The bin that word p of the row of all bins is, and bin i of table k.
+abbrev pub wordBin : Set → ℕ → Bin
+wordBin s p = binOf (slotsOf (s .names)) (headersIn s) (getD (s .bins) p 0)
+
 abbrev pub binAt : Set → ℕ → ℕ → Bin
 binAt s k i = binOf (slotsOf (s .names)) (headersIn s) (binWord s k i)
 

@@ -78,6 +78,7 @@ binning =
       bin-of-one = λ n h w a b p q. bin-one-to-one a b (p ∙ sym q);
       bini-one = λ len hash a b p q. home-one-to-one a b (p ∙ sym q);
       index-one = λ len hash a b p q. p ∙ sym q;
+      is-home-one = λ names length i x a b p q. p ∙ sym q;
       bin-word-one = λ lengths bins k i a b p q. p ∙ sym q;
       length-at-one = λ lengths k a b p q. p ∙ sym q;
       bins-before-one = λ lengths k a b p q. p ∙ sym q;

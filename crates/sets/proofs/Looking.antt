@@ -6,13 +6,13 @@ use Prim.Native.Nat.{ℕ, suc, _+_, _-_, _*_, _<_, _≤_}
 use native.Mathlib.Numerals.{add-one}
 use native.Mathlib.Nat.{add-zero}
 use native.Mathlib.Omega.{arith}
-use borrow.Author.Tests.{lt-ltb, le-ltb}
+use borrow.Author.Tests.{lt-ltb, le-ltb, le-leb, lt-leb}
 use lib.ListN.{getD}
 use Rattle.slots.specs.Words.{null, next, cell}
 use Rattle.slots.specs.Answers.{nothing, refused}
 use Rattle.tree_rules.specs.Find.{here, on, Counted, withLooks, counted, slotsOf, found}
 use Rattle.set_rules.specs.Words.{Set, tablesOf, fits, empty, moved, bad, list, tree}
-use Rattle.set_rules.specs.Lookup.{hasPair, listLook, soughtInList, homeBin, forwarded, lookups}
+use Rattle.set_rules.specs.Lookup.{hasPair, listLook, soughtInList, homeBin, forwarded, lookups, lookupsFit}
 use Rattle.set_rules.proofs.Fit.{fits-fit, slots-are}
 use Rattle.set_rules.proofs.Forwarding.{turn, past-last}
 use Rattle.set_rules.proofs.Claims.{claims}
@@ -46,6 +46,21 @@ module _ (s : Set) (hash key k : ℕ) {r : Counted} (i : counted (forwarded (tab
 
   pub at-moved : moved ≡ homeBin s k hash → counted (forwarded (tablesOf s - (k + 1)) s (k + 1) hash key) ≡ r
   at-moved e = rw add-one (ap counted (sym (turn s hash key k l e)) ∙ i)
+
+-- The gate of the loop alone.
+module _ (s : Set) (t hash key : ℕ) where
+  pub many-tables : 8 < tablesOf s → withLooks 0 (refused 9) ≡ counted (lookupsFit s t hash key)
+  unfolding lookupsFit
+  many-tables l = simp (lt-leb (tablesOf s) 8 l)
+
+  pub no-table : tablesOf s ≤ 8 → tablesOf s ≤ t → withLooks 0 (refused 9) ≡ counted (lookupsFit s t hash key)
+  unfolding lookupsFit
+  no-table l m = simp (le-leb (tablesOf s) 8 l, past-last s hash key t m)
+
+  pub looped : tablesOf s ≤ 8 → {a : Counted} → a ≡ counted (forwarded (tablesOf s - t) s t hash key)
+      → a ≡ counted (lookupsFit s t hash key)
+  unfolding lookupsFit
+  looped l i = rw (le-leb (tablesOf s) 8 l) i
 
 -- The gates of lookup.
 module _ (s : Set) (t hash key : ℕ) {b : Bool} (e : b ≡ fits s) where

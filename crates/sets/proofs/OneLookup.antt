@@ -5,7 +5,7 @@ use lib.Dec.{eqb}
 use Rattle.slots.specs.Words.{pick}
 use Rattle.slots.specs.Answers.{Value, some, none}
 use Rattle.slots.proofs.Laws.{told-apart}
-use Rattle.tree.proofs.Claims.{counted-one-to-one}
+use Rattle.tree.proofs.Claims.{counted-one-to-one, claims as tree-claims}
 use Rattle.sets.specs.Lookups.{lookedOf}
 use Rattle.sets.specs.Looking.{Looking}
 use Rattle.sets.specs.declared.lookup.Looked.{Looked}
@@ -30,5 +30,6 @@ looking =
     record {
       looked-one-to-one = looked-one-to-one;
       counted-one = λ _ a b p q. counted-one-to-one a b (p ∙ sym q);
+      lookup-fit-one = λ s t hash key a b p q. tree-claims .found-one-to-one a b (p ∙ sym q);
       lookup-one = λ s t hash key a b p q. looked-one-to-one a b (p ∙ sym q);
     }

@@ -7,6 +7,7 @@ use Prim.Native.Nat.{ℕ, _+_}
 use lib.ListN.{getD}
 use Rattle.slots.specs.Answers.{OneAnswer, given, refused}
 use Rattle.set_rules.specs.Words.{Set, binsBefore, fits, binOf, bini}
+use Rattle.set_rules.specs.Accepting.{isHome}
 use Rattle.sets.specs.Bins.{binAs, homeOf, binis}
 use Rattle.sets.specs.declared.bin.Bin.{Bin}
 use Rattle.sets.specs.declared.bin.Home.{Home}
@@ -23,6 +24,7 @@ pub record Binning : Type 0 where
   pub bin-of-one : (n h w : ℕ) → OneAnswer (λ r. binAs r ≡ binOf n h w)
   pub bini-one : (len hash : ℕ) → OneAnswer (λ r. homeOf r ≡ binis len hash)
   pub index-one : (len hash : ℕ) → OneAnswer (λ r. r ≡ bini len hash)
+  pub is-home-one : (names : List ℕ) (length i x : ℕ) → OneAnswer (λ r. r ≡ isHome names length i x)
   pub bin-word-one : (lengths bins : List ℕ) (k i : ℕ) → OneAnswer (λ r. r ≡ getD bins (binsBefore lengths k + i) 0)
   pub length-at-one : (lengths : List ℕ) (k : ℕ) → OneAnswer (λ r. r ≡ getD lengths k 0)
   pub bins-before-one : (lengths : List ℕ) (k : ℕ) → OneAnswer (λ r. r ≡ binsBefore lengths k)

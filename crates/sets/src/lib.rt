@@ -6,7 +6,7 @@ pub mod fit;
 pub mod accept;
 mod below;
 mod headers;
-mod lists;
+pub mod lists;
 mod trees;
 // lookup: the slot that has a pair.
 pub mod lookup;

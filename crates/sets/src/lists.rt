@@ -19,7 +19,7 @@ ghost use Rattle.set_rules.specs.Accepting.{isHome, isListSlot, samePair, listS
 ghost use Rattle.set_rules.specs.Accepting.{unlike as differs};
 
 // The hash of slot x names bin i of a table of so many bins.
-pub(crate) fn is_home(names: &[u64], length: u32, i: u32, x: u32) -> bool
+pub fn is_home(names: &[u64], length: u32, i: u32, x: u32) -> bool
     ensures { λ r. ⌜ r ≡ isHome (now (names .entry)) length i x ⌝ }
 {
     let hash = name(names, x, HASH);

@@ -28,7 +28,7 @@ ghost use Rattle.set_rules.specs.Words.{binsBefore, binOf, lentSet};
 ghost use Rattle.set_rules.specs.Words.{bini as home};
 ghost use Rattle.sets.specs.Bins.{binAs};
 ghost use Rattle.tree.specs.Find.{searchedOf, countedOf};
-ghost use Rattle.set_rules.specs.Lookup.{hasPair, soughtInList, forwarded, lookups};
+ghost use Rattle.set_rules.specs.Lookup.{hasPair, soughtInList, forwarded, lookups, lookupsFit};
 ghost use Rattle.sets.specs.Lookups.{lookedOf};
 
 // Slot p has the pair (hash, key).
@@ -115,6 +115,31 @@ fn search(
             Bin::Bad => break Found::Lost(0),
         }
     }
+}
+
+// The loop alone, for slices that are known to fit: nothing is asked of their lengths but that there are at most eight tables, and
+// the one to begin with.
+pub fn lookup_fit(
+    lengths: &[u32],
+    bins: &[u32],
+    heads: &[u32],
+    names: &[u64],
+    cells: &[u32],
+    table: u32,
+    hash: u64,
+    key: u64,
+) -> Found
+    ensures { λ r. ⌜ searchedOf r
+        ≡ countedLooks (lookupsFit (lentSet (now (lengths .entry)) (now (bins .entry)) (now (heads .entry)) (now (names .entry))
+        (now (cells .entry))) table hash key) ⌝ }
+{
+    if 8 < lengths.len() {
+        return Found::Lost(0);
+    }
+    if lengths.len() <= table as usize {
+        return Found::Lost(0);
+    }
+    search(lengths, bins, heads, names, cells, table, hash, key)
 }
 
 // What lookup answers, with the number of each refusal, and last how many slots it looked at.

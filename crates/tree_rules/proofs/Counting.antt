@@ -56,12 +56,12 @@ times-around {A} k a i b h before at after = go (decLe 1 (times k a))
     go (no d) = times-cases k i b (omega (arith, times-append k a (i ∷ b))) at after
 
 -- What the first n slots add up to goes by each of them.
-tally-zero : (n : ℕ) (f : ℕ → ℕ) → ((k : ℕ) → k < n → f k ≡ 0) → tally n f ≡ 0
+pub tally-zero : (n : ℕ) (f : ℕ → ℕ) → ((k : ℕ) → k < n → f k ≡ 0) → tally n f ≡ 0
 unfolding tally
 tally-zero zero f h = refl
 tally-zero (suc n) f h = omega (arith, h n (omega arith), tally-zero n f (λ k l. h k (omega arith)))
 
-tally-add : (n : ℕ) (f g : ℕ → ℕ) → tally n (λ k. f k + g k) ≡ tally n f + tally n g
+pub tally-add : (n : ℕ) (f g : ℕ → ℕ) → tally n (λ k. f k + g k) ≡ tally n f + tally n g
 unfolding tally
 tally-add zero f g = omega arith
 tally-add (suc n) f g = omega (arith, tally-add n f g)
@@ -80,7 +80,7 @@ unfolding tally
 tally-same zero f g h = refl
 tally-same (suc n) f g h = omega (arith, h n (omega arith), tally-same n f g (λ k l. h k (omega arith)))
 
-tally-most : (n : ℕ) (f g : ℕ → ℕ) → ((k : ℕ) → k < n → f k ≤ g k) → tally n f ≤ tally n g
+pub tally-most : (n : ℕ) (f g : ℕ → ℕ) → ((k : ℕ) → k < n → f k ≤ g k) → tally n f ≤ tally n g
 unfolding tally
 tally-most zero f g h = omega arith
 tally-most (suc n) f g h = omega (arith, h n (omega arith), tally-most n f g (λ k l. h k (omega arith)))

@@ -1,5 +1,6 @@
 pub mod Upload
 pub mod Reader
+pub mod Notes
 pub mod Reading
 pub mod Steps
 pub mod Parts

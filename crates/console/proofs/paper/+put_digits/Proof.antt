@@ -2,7 +2,6 @@
 use denote.Ref.{now}
 use Rattle.script_rules.proofs.Typing.{digits-none, digits-last, digits-more}
 use borrow.Author.Needs.{needs}
-use borrow.Author.Needs.{needs}
 use Prim.Native.Nat.{ℕ, _<_}
 use borrow.Fn.Kinds.{In}
 use borrow.Fn.PlainCycle.{Measures, is, falls, and}

@@ -1,7 +1,7 @@
 -- Each case has its word.
 use mathlib.Core.Path.{ap, sym, _∙_}
 use Rattle.reader.specs.Meanings.{noteOf}
-use Rattle.reader.specs.Notes.{noteWord}
+use Rattle.upload_rules.specs.Notes.{noteWord}
 use Rattle.reader.specs.declared.words.Note.{Note}
 use borrow.Author.Needs.{needs}
 use Rattle.reader.proofs.words.Note.word.Statement.{statement}

@@ -1,0 +1,17 @@
+pub mod Sums
+pub mod Adding
+pub mod Finding
+pub mod Heads
+pub mod Sharing
+pub mod Tallying
+pub mod Ordering
+pub mod Within
+pub mod Filing
+pub mod Streaming
+pub mod Parsing
+pub mod Figuring
+pub mod Sending
+pub mod Chunking
+pub mod Printing
+pub mod Sample
+pub mod Claims

@@ -1,0 +1,20 @@
+-- The measure is the turns that are left; the chunk keeps its length.
+use mathlib.Core.Path.{_≡_}
+use lib.ListN.{length}
+use borrow.Author.Needs.{needs}
+use Rattle.frozen.proofs.serve.Statement.{statement}
+use Rattle.frozen.proofs.serve.Tie as tie
+
+abbrev Inv-loop : tie.InvT-loop
+Inv-loop chunk₀ lengths₀ bins₀ heads₀ names₀ cells₀ kept₀ turns₀ chunk lengths bins heads names cells kept turns =
+    length chunk ≡ length chunk₀
+
+abbrev μ-loop : tie.MeasureT-loop
+μ-loop chunk₀ lengths₀ bins₀ heads₀ names₀ cells₀ kept₀ turns₀ chunk lengths bins heads names cells kept turns = turns
+
+pub serve-spec : {M : Type 1} → statement M
+serve-spec =
+    tie.close
+    (tie.spec Inv-loop μ-loop (λ c. search needs) (λ c κs. search needs) (λ c κs. search needs) (λ c. search needs) (λ c. search needs)
+    (λ c. search needs) (λ c. search needs) (λ c κs. search needs) (λ c. search needs) (λ c. search needs) (λ c. search needs)
+    (λ c. search needs) (λ c. search needs))

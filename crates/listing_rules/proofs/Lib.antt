@@ -1,0 +1,4 @@
+pub mod Homing
+pub mod Showing
+pub mod Room
+pub mod Claims

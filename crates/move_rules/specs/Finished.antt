@@ -1,0 +1,29 @@
+-- What comes of moving all bins, in the rules' words.
+use mathlib.Core.Path.{_≡_}
+use mathlib.Core.Logic.{_↔_}
+use Prim.Native.Nat.{ℕ, suc, _<_}
+use Rattle.slots.specs.Words.{place, cell}
+use Rattle.set_rules.specs.Words.{Set, Fit, tablesOf, lengthAt, moved, binAt}
+use Rattle.set_rules.specs.Accepted.{BinPlace, EntryOf, Accepted}
+use Rattle.set_rules.specs.Lookup.{lookups}
+use Rattle.set_rules.specs.Held.{EntryFrom}
+
+-- The set t has what s has: it is accepted, its slots have their pairs and places, and from table 0 it has the same entries.
+pub record SameEntries (s t : Set) : Type 0 where
+  pub fit : Fit t
+  pub accepted : Accepted t
+  pub lengths : t .lengths ≡ s .lengths
+  pub names : t .names ≡ s .names
+  pub places : (x : ℕ) → cell (t .cells) x place ≡ cell (s .cells) x place
+  pub entries : (x : ℕ) → EntryFrom t 0 x ↔ EntryFrom s 0 x
+  pub lookup : (hash key : ℕ) → lookups t 0 hash key .answer ≡ lookups s 0 hash key .answer
+
+-- Every bin that comes before bin i of table k, table 0 first and bin 0 first, is Moved.
+pub record MovedBefore (t : Set) (k i : ℕ) : Type 0 where
+  pub tables : (m j : ℕ) → m < k → j < lengthAt t m → binAt t m j ≡ moved
+  pub bins : (j : ℕ) → j < i → binAt t k j ≡ moved
+
+-- "only the last table has entries"
+pub record OnlyLast (t : Set) : Type 0 where
+  pub moves : (k i : ℕ) → BinPlace t k i → suc k < tablesOf t → binAt t k i ≡ moved
+  pub entries : (k i x : ℕ) → EntryOf t k i x → suc k ≡ tablesOf t

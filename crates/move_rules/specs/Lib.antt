@@ -1,0 +1,7 @@
+pub mod Passes
+pub mod Moving
+pub mod Moved
+pub mod Finishing
+pub mod Finished
+pub mod Worked
+pub mod Claims

@@ -1,0 +1,4 @@
+pub mod Counting
+pub mod Looping
+pub mod Tallied
+pub mod Claims
