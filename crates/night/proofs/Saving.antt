@@ -4,14 +4,16 @@ use mathlib.Core.Logic.{_≢_, inl, inr}
 use mathlib.Core.Bool.{Bool, true, false}
 use mathlib.Core.List.{List, [], _∷_}
 use Prim.Native.Nat.{ℕ, zero, suc, _+_, _-_, _<_, _≤_}
+use native.Mathlib.Decide.{ℕ-discrete, decLt}
 use native.Mathlib.Numerals.{add-one}
 use native.Mathlib.Omega.{arith}
-use lib.ListN.{length, getD, set}
+use lib.ListN.{length, getD, set, length-set}
+use lib.Seq.{getD-set-same, getD-set-other}
 use lib.Dec.{eqb}
 use types.Run.{OneOf}
 use denote.Enum.Declared.{tagOf}
 use borrow.Author.Tests.{eq-eqb, ne-eqb, lt-ltb, le-ltb, le-leb, lt-leb}
-use Rattle.slots.specs.Words.{null, pick, place, state, cell, nameOf, hashPart, keyPart}
+use Rattle.slots.specs.Words.{null, place, state, cell, nameOf, hashPart, keyPart}
 use Rattle.slots.specs.Answers.{some, none, given, refused}
 use Rattle.slots.proofs.Laws.{number, given-is}
 use Rattle.tree_rules.specs.Find.{slotsOf}
@@ -24,46 +26,67 @@ use Rattle.index.specs.declared.sound.Soundness.the-variants.{Yes, No, Unfit}
 use Rattle.index.proofs.sound.Soundness.{the-type}
 use Rattle.night_rules.specs.Salvage.{Salvage, salvaging, cameFrom, unknownState, salvagedPair, salvagedSlot, salvagedFrom, salvagedAll}
 use Rattle.night_rules.specs.Salvage.{isClearedTree, fitsSalvage, salvaged, salvages}
-use Rattle.night_rules.specs.Saved.{FitSalvage}
+use Rattle.night_rules.specs.Saved.{FitSalvage, keptBelow}
 use Rattle.index_rules.proofs.Fit.{fit-fits}
 use Rattle.index_rules.proofs.Sounding.{sound-yes, sound-claims}
-use Rattle.night_rules.proofs.Keeping.{came-most}
-use Rattle.night_rules.proofs.Salvaging.{DoneBelow, counts, kept-most, slot-done}
+use Rattle.night_rules.proofs.Keeping.{below-most, rank-rises, came, came-most, below-same, set-below}
+use Rattle.night_rules.proofs.Salvaging.{DoneBelow, counts, kept-most, found-below, slot-done}
 use Rattle.night_rules.proofs.Salvaged.{starts, fit-tests}
+use Rattle.night.specs.Sources.{SourceOf, Sources, SlotReady}
 
--- The search for the slot that came to x: slot k is it, is another kept one, is none; there is none left.
-came-step : (m : ℕ) → 0 < m → (r : List ℕ) (k x : ℕ)
-    → cameFrom m r k x
-    ≡ pick (eqb (getD r k null) 0) (pick (eqb x 0) k (cameFrom (m - 1) r (k + 1) (x - 1))) (cameFrom (m - 1) r (k + 1) x)
-unfolding cameFrom
-came-step zero h r k x = absurd (omega arith)
-came-step (suc m) h r k x = let z : suc m - 1 ≡ m = omega arith in rw (z, add-one)
+-- A source is one: of two kept slots the lower has fewer kept ones before it.
+source-one : (r : List ℕ) (i x a b : ℕ) → SourceOf r i x a → SourceOf r i x b → a ≡ b
+source-one r i x a b p q = go (decLt a b) (decLt b a)
+  where
+    go : Dec (a < b) → Dec (b < a) → a ≡ b
+    go (yes l) d = absurd (omega (arith, rank-rises r a b l (p .kept), p .rank, q .rank))
+    go (no l) (yes d) = absurd (omega (arith, rank-rises r b a d (q .kept), p .rank, q .rank))
+    go (no l) (no d) = omega arith
 
-came-none : (m : ℕ) → m ≤ 0 → (r : List ℕ) (k x : ℕ) → cameFrom m r k x ≡ k
-unfolding cameFrom
-came-none zero h r k x = refl
-came-none (suc m) h r k x = absurd (omega arith)
+-- The word kept for a slot of the second tree is the slot that the model counts to.
+pub source-is : (r : List ℕ) (i kept : ℕ) (from : List ℕ) → Sources r i kept from → kept ≡ keptBelow r i → (x : ℕ) → x < kept
+    → getD from x null ≡ cameFrom i r 0 x
+source-is r i kept from h m x l =
+    let c = came r i x (omega (arith, m)) in
+    source-one r i x (getD from x null) (cameFrom i r 0 x) (h .each x l)
+    (record { inside = c .inside; kept = c .kept; rank = c .rank })
 
-pub came-start : (r : List ℕ) (i x : ℕ) → cameFrom (i - 0) r 0 x ≡ cameFrom i r 0 x
-came-start r i x = let z : i - 0 ≡ i = omega arith in rw z
+-- A word written at i leaves the sources of the slots below.
+module _ (r : List ℕ) (i kept : ℕ) (from : List ℕ) (w : ℕ) where
+  source-stays : (x s : ℕ) → SourceOf r i x s → SourceOf (set r i w) (i + 1) x s
+  source-stays x s h =
+      let l = h .inside in
+      record {
+        inside = omega arith;
+        kept = set-below r i w s l ∙ h .kept;
+        rank = below-same r (set r i w) s (λ k m. set-below r i w k (omega arith)) ∙ h .rank;
+      }
 
-module _ (r : List ℕ) (i k x : ℕ) {y : ℕ} (same : cameFrom (i - k) r k x ≡ y) where
-  pub came-end : i ≤ k → k ≡ y
-  came-end l = sym (came-none (i - k) (omega arith) r k x) ∙ same
+  pub sources-stay : {q : List ℕ} → q ≡ set r i w → Sources r i kept from → Sources q (i + 1) kept from
+  sources-stay e h = rw e (record { long = h .long; each = λ x l. source-stays x (getD from x null) (h .each x l) })
 
-  module _ {w : ℕ} (l : k < i) (e : w ≡ getD r k null) where
-    pub came-here : w ≡ 0 → x ≡ 0 → k ≡ y
-    came-here f z = sym (sym same ∙ rw (came-step (i - k) (omega arith), ← e, eq-eqb w 0 f, eq-eqb x 0 z))
+-- A kept slot is the source of the next one.
+pub sources-more : (r : List ℕ) (i kept : ℕ) (from : List ℕ) {q f : List ℕ} → Sources r i kept from → kept ≡ keptBelow r i → i < length r
+    → i < 4096
+    → q ≡ set r i 0
+    → f ≡ set from kept i
+    → Sources q (i + 1) (kept + 1) f
+sources-more r i kept from h m l b eq ef =
+    rw (eq, ef) (record { long = length-set from kept i ∙ h .long; each = λ x n. go x n (ℕ-discrete x kept) })
+  where
+    few : kept ≤ i
+    few = omega (arith, m, below-most r i)
 
-    pub came-past : w ≡ 0 → x ≢ 0 → cameFrom (i - (k + 1)) r (k + 1) (x - 1) ≡ y
-    came-past f d =
-        let z : i - k - 1 ≡ i - (k + 1) = omega arith in
-        sym (sym same ∙ rw (came-step (i - k) (omega arith), ← e, eq-eqb w 0 f, ne-eqb x 0 d, z))
-
-    pub came-on : w ≢ 0 → cameFrom (i - (k + 1)) r (k + 1) x ≡ y
-    came-on d =
-        let z : i - k - 1 ≡ i - (k + 1) = omega arith in
-        sym (sym same ∙ rw (came-step (i - k) (omega arith), ← e, ne-eqb w 0 d, z))
+    go : (x : ℕ) → x < kept + 1 → Dec (x ≡ kept) → SourceOf (set r i 0) (i + 1) x (getD (set from kept i) x null)
+    go x n (yes e) =
+        rw (e, getD-set-same from kept i null (omega (arith, h .long, few)))
+        (record {
+          inside = omega arith;
+          kept = getD-set-same r i 0 null l;
+          rank = below-same r (set r i 0) i (set-below r i 0) ∙ sym m;
+        })
+    go x n (no d) =
+        rw (getD-set-other from kept x i null d) (source-stays r i kept from 0 x (getD from x null) (h .each x (omega arith)))
 
 -- Its number and 3 are a word of 32 bits.
 pub repeat-most : (r : List ℕ) (i x : ℕ) {c : ℕ} → c ≡ cameFrom i r 0 x → i < 4096 → 3 + c ≤ 4294967295
@@ -178,7 +201,7 @@ unfolding salvagedFrom
 from-none zero h names cells i s = refl
 from-none (suc m) h names cells i s = absurd (omega arith)
 
-pub record SlotTurn (names cells : List ℕ) (u : Live) (report : List ℕ) (n i : ℕ) (s : Salvage) : Type 0 where
+pub record SlotTurn (names cells : List ℕ) (u : Live) (report : List ℕ) (n i : ℕ) (s : Salvage) (from : List ℕ) : Type 0 where
   pub fit : FitSalvage names cells u report
   pub all : n ≡ slotsOf names
   pub same : salvagedFrom (n - i) names cells i s ≡ salvagedAll names cells u report
@@ -188,11 +211,12 @@ pub record SlotTurn (names cells : List ℕ) (u : Live) (report : List ℕ) (n i
   pub head2 : length (s .into .head) ≡ length (u .head)
   pub sizes2 : length (s .into .sizes) ≡ length (u .sizes)
   pub words : length (s .report) ≡ length report
+  pub sources : Sources (s .report) i (s .kept) from
 
 pub turn-start : {names cells : List ℕ} {u : Live} {report : List ℕ} → FitSalvage names cells u report → {n : ℕ} → n ≡ slotsOf names
-    → SlotTurn names cells u report n 0 (salvaging u 0 report)
+    → {from : List ℕ} → length from ≡ 4096 → SlotTurn names cells u report n 0 (salvaging u 0 report) from
 unfolding salvagedAll
-turn-start {names} {cells} {u} {report} f {n} e =
+turn-start {names} {cells} {u} {report} f {n} e {from} long =
     let z : n - 0 ≡ slotsOf names = omega arith in
     record {
       fit = f;
@@ -204,21 +228,32 @@ turn-start {names} {cells} {u} {report} f {n} e =
       head2 = refl;
       sizes2 = refl;
       words = refl;
+      sources = record { long = long; each = λ x l. absurd (omega arith) };
     }
 
-module _ {names cells : List ℕ} {u : Live} {report : List ℕ} {n i : ℕ} {s : Salvage} (t : SlotTurn names cells u report n i s) where
-  pub turn-ready : i < n → (length (s .into .names) ≤ 8192) × ((countOf (s .into) < null) × ((i < 4096) × (s .kept ≤ i)))
+module _ {names cells : List ℕ} {u : Live} {report : List ℕ} {n i : ℕ} {s : Salvage} {from : List ℕ}
+    (t : SlotTurn names cells u report n i s from) where
+  pub turn-ready : i < n
+      → (length (s .into .names) ≤ 8192)
+      × ((countOf (s .into) < null) × ((i < 4096) × ((s .kept ≤ i) × SlotReady names (s .into) (s .report) i (s .kept) from)))
   turn-ready l =
-      let m : n ≤ 4096 = omega (arith, t .all, t .fit .two, t .fit .most) in (
+      let m : n ≤ 4096 = omega (arith, t .all, t .fit .two, t .fit .most) in
+      let ready : SlotReady names (s .into) (s .report) i (s .kept) from =
+      record {
+        sources = t .sources;
+        many = t .done .many;
+        told = omega (arith, t .all, t .words, t .fit .room);
+        below = λ x e. found-below (t .done) _ _ x e;
+      } in (
         omega (arith, t .done .fit .two, t .done .fit .most),
-        (omega (arith, counts (t .done), kept-most (t .done)), (omega arith, kept-most (t .done))),
+        (omega (arith, counts (t .done), kept-most (t .done)), (omega arith, (kept-most (t .done), ready))),
       )
 
   pub turn-on : {q : Salvage} → i < n → q ≡ salvagedSlot names cells i s → length (q .into .names) ≡ length (s .into .names)
       → length (q .into .cells) ≡ length (s .into .cells) → length (q .into .head) ≡ length (s .into .head)
       → length (q .into .sizes) ≡ length (s .into .sizes) → length (q .report) ≡ length (s .report)
-      → SlotTurn names cells u report n (i + 1) q
-  turn-on l e a b c d f =
+      → {left : List ℕ} → Sources (q .report) (i + 1) (q .kept) left → SlotTurn names cells u report n (i + 1) q left
+  turn-on l e a b c d f o =
       let z : n - i - 1 ≡ n - (i + 1) = omega arith in
       record {
         fit = t .fit;
@@ -230,7 +265,19 @@ module _ {names cells : List ℕ} {u : Live} {report : List ℕ} {n i : ℕ} {s 
         head2 = c ∙ t .head2;
         sizes2 = d ∙ t .sizes2;
         words = f ∙ t .words;
+        sources = o;
       }
 
   pub turn-end : n ≤ i → s ≡ salvagedAll names cells u report
   turn-end l = sym (from-none (n - i) (omega arith) names cells i s) ∙ t .same
+
+-- The slot that a pair came from, as the code reads it.
+pub came-source : (names : List ℕ) (u : Live) (r : List ℕ) (i kept : ℕ) (from : List ℕ) {hash key x w : ℕ}
+    → SlotReady names u r i kept from
+    → hash ≡ nameOf names i hashPart
+    → key ≡ nameOf names i keyPart
+    → soughtIn u hash key ≡ some x
+    → w ≡ getD from x null
+    → w ≡ cameFrom i r 0 x
+came-source names u r i kept from {x = x} h eh ek s e =
+    e ∙ source-is r i kept from (h .sources) (h .many) x (h .below x (rw (← eh, ← ek) s))

@@ -4,4 +4,5 @@ pub mod Breaches
 pub mod Found
 pub mod Whys
 pub mod Salvages
+pub mod Sources
 pub mod Claims

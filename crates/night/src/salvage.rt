@@ -21,15 +21,16 @@ use slots::word;
 use tree::find::Found;
 use tree::find::find_tree_node;
 ghost use mathlib.Core.Path.{_≡_};
-ghost use Prim.Native.Nat.{_<_, _≤_};
+ghost use Prim.Native.Nat.{_+_, _<_, _≤_};
 ghost use lib.ListN.{length, getD};
 ghost use Rattle.slots.specs.Words.{null, mostSlots, mostNames};
 ghost use Rattle.slots.specs.Coded.{answerOf};
 ghost use Rattle.index_rules.specs.Live.{lentTree};
-ghost use Rattle.night_rules.specs.Salvage.{salvaging, cameFrom, salvagedPair, salvagedSlot, salvagedAll, isClearedTree, fitsSalvage};
+ghost use Rattle.night_rules.specs.Salvage.{salvaging, salvagedPair, salvagedSlot, salvagedAll, isClearedTree, fitsSalvage};
 ghost use Rattle.night_rules.specs.Salvage.{salvaged, salvages};
 ghost use Rattle.night_rules.specs.Saved.{FitSalvage};
 ghost use Rattle.night.specs.Salvages.{salvageOf};
+ghost use Rattle.night.specs.Sources.{Sources, SlotReady};
 
 // The words of the report.
 const KEPT: u32 = 0;
@@ -40,27 +41,8 @@ const UNKNOWN: u32 = 2;
 
 const REPEATS: u32 = 3; // and the slot
 
-// The kept slot below i that has x kept ones before it: the slot that went to slot x of the second tree. i where there is none.
-fn came_from(report: &[u32], i: u32, x: u32) -> u32
-    ensures { λ r. ⌜ r ≡ cameFrom i (now (report .entry)) 0 x ⌝ }
-{
-    let mut k: u32 = 0;
-    let mut left = x;
-    while k < i {
-        let told = word(report, k as usize, NULL);
-        if told == KEPT {
-            if left == 0 {
-                return k;
-            }
-            left -= 1;
-        }
-        k += 1;
-    }
-    k
-}
-
-// Slot i, of state 1 or 2: it repeats the slot that its pair came from, or is kept in the slot that is the number kept so far. The number
-// kept then.
+// Slot i, of state 1 or 2: it repeats the slot that its pair came from, or is kept in the slot that is the number kept so far, and is then
+// the source of that one. The number kept then.
 fn save_pair(
     names: &[u64],
     cells: &[u32],
@@ -69,6 +51,7 @@ fn save_pair(
     head2: &mut [u32],
     sizes2: &mut [u32],
     report: &mut [u32],
+    from: &mut [u32],
     i: u32,
     kept: u32,
 ) -> u32
@@ -76,24 +59,27 @@ fn save_pair(
     requires { ⌜ getD (now head2) 2 null < null ⌝ }
     requires { ⌜ i < mostSlots ⌝ }
     requires { ⌜ kept ≤ i ⌝ }
-    ensures { λ r. ⌜ salvaging (lentTree (now (names2 .exit)) (now (cells2 .exit)) (now (head2 .exit)) (now (sizes2 .exit))) r
+    requires { ⌜ SlotReady (now names) (lentTree (now names2) (now cells2) (now head2) (now sizes2)) (now report) i kept (now from) ⌝ }
+    ensures { λ r. ⌜ (salvaging (lentTree (now (names2 .exit)) (now (cells2 .exit)) (now (head2 .exit)) (now (sizes2 .exit))) r
         (now (report .exit))
         ≡ salvagedPair (now (names .entry)) (now (cells .entry)) i
         (salvaging (lentTree (now (names2 .entry)) (now (cells2 .entry)) (now (head2 .entry)) (now (sizes2 .entry))) kept
-        (now (report .entry))) ⌝ }
+        (now (report .entry))))
+        × Sources (now (report .exit)) (i + 1) r (now (from .exit)) ⌝ }
 {
     let hash = name(names, i, HASH);
     let key = name(names, i, KEY);
     let root = word(head2, ROOT, NULL);
     let found = find_tree_node(names2, cells2, root, hash, key);
     if let Found::At(x, _) = found {
-        let s = came_from(report, i, x);
+        let s = word(from, x as usize, NULL);
         put_word(report, i as usize, REPEATS + s);
         return kept;
     }
     let place = get(cells, i, PLACE);
     grow(names2, cells2, head2, sizes2, kept, NULL, hash, key, place);
     put_word(report, i as usize, KEPT);
+    put_word(from, kept as usize, i);
     kept + 1
 }
 
@@ -106,6 +92,7 @@ fn save_slot(
     head2: &mut [u32],
     sizes2: &mut [u32],
     report: &mut [u32],
+    from: &mut [u32],
     i: u32,
     kept: u32,
 ) -> u32
@@ -113,11 +100,13 @@ fn save_slot(
     requires { ⌜ getD (now head2) 2 null < null ⌝ }
     requires { ⌜ i < mostSlots ⌝ }
     requires { ⌜ kept ≤ i ⌝ }
-    ensures { λ r. ⌜ salvaging (lentTree (now (names2 .exit)) (now (cells2 .exit)) (now (head2 .exit)) (now (sizes2 .exit))) r
+    requires { ⌜ SlotReady (now names) (lentTree (now names2) (now cells2) (now head2) (now sizes2)) (now report) i kept (now from) ⌝ }
+    ensures { λ r. ⌜ (salvaging (lentTree (now (names2 .exit)) (now (cells2 .exit)) (now (head2 .exit)) (now (sizes2 .exit))) r
         (now (report .exit))
         ≡ salvagedSlot (now (names .entry)) (now (cells .entry)) i
         (salvaging (lentTree (now (names2 .entry)) (now (cells2 .entry)) (now (head2 .entry)) (now (sizes2 .entry))) kept
-        (now (report .entry))) ⌝ }
+        (now (report .entry))))
+        × Sources (now (report .exit)) (i + 1) r (now (from .exit)) ⌝ }
 {
     let state = get(cells, i, STATE);
     if state == FREE {
@@ -128,7 +117,18 @@ fn save_slot(
         put_word(report, i as usize, UNKNOWN);
         return kept;
     }
-    save_pair(names, cells, names2, cells2, head2, sizes2, report, i, kept)
+    save_pair(
+        names,
+        cells,
+        names2,
+        cells2,
+        head2,
+        sizes2,
+        report,
+        from,
+        i,
+        kept,
+    )
 }
 
 // All slots one after the other, into a cleared tree; how many are kept.
@@ -148,10 +148,22 @@ fn save_all(
         (lentTree (now (names2 .entry)) (now (cells2 .entry)) (now (head2 .entry)) (now (sizes2 .entry))) (now (report .entry)) ⌝ }
 {
     let n = (names.len() / 2) as u32;
+    let mut from = [0u32; 4096];
     let mut kept: u32 = 0;
     let mut i: u32 = 0;
     while i < n {
-        kept = save_slot(names, cells, names2, cells2, head2, sizes2, report, i, kept);
+        kept = save_slot(
+            names,
+            cells,
+            names2,
+            cells2,
+            head2,
+            sizes2,
+            report,
+            &mut from,
+            i,
+            kept,
+        );
         i += 1;
     }
     kept

@@ -12,14 +12,14 @@ use lib.Seq.{getD-set-same, getD-set-other}
 use borrow.Author.Tests.{eqb-true, eqb-false, ne-eqb, lt-ltb, ltb-true}
 use Rattle.slots.specs.Words.{null, pick, state, free, cell, nameOf, hashPart, keyPart}
 use Rattle.slots.specs.Pairs.{pair, pairOf}
-use Rattle.slots.specs.Answers.{given}
+use Rattle.slots.specs.Answers.{some, none, given}
 use Rattle.tree_rules.specs.Find.{slotsOf}
 use Rattle.tree_rules.specs.Tree.{slots, times}
 use Rattle.redblack.specs.Holding.{Has, Stands}
 use Rattle.index_rules.specs.Live.{Live, Fit, countOf}
 use Rattle.index_rules.specs.Sound.{Sound}
 use Rattle.index_rules.specs.Index.{index, FitIndex}
-use Rattle.index_rules.specs.Insert.{inserts}
+use Rattle.index_rules.specs.Insert.{soughtIn, inserts}
 use Rattle.index_rules.specs.Calls.{Lowest}
 use Rattle.index_rules.specs.Contents.{Entry, entry, entryOf, listing}
 use Rattle.index_rules.proofs.Growing.{Grown, joins-front, grown-fit, grown-sound}
@@ -108,6 +108,14 @@ module _ {names cells : List ℕ} {u : Live} {report : List ℕ} {i : ℕ} {s : 
 
   pub rank-less : (j : ℕ) → j < i → KeptSlot (s .report) j → keptBelow (s .report) j < s .kept
   rank-less j l k = omega (arith, rank-rises (s .report) j i l k, h .many)
+
+  -- What a search finds in the second tree is one of its slots.
+  pub found-below : (hash key x : ℕ) → soughtIn (s .into) hash key ≡ some x → x < s .kept
+  found-below hash key x e = go (seen (h .fit) (h .sound) hash key)
+    where
+      go : Seen (h .sound) hash key → x < s .kept
+      go (there y z p f) = let q : some y ≡ some x = sym f ∙ e in let w : y ≡ x = cc in rw (← w) (stood y z)
+      go (absent m f) = let q : none ≡ some x = sym f ∙ e in let w : _≡_ {A = ℕ} 0 1 = cc in absurd (omega arith)
 
   module _ (inside : i < slotsOf names) (room : slotsOf names ≤ length report) where
     abbrev r : List ℕ
