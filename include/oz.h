@@ -40,6 +40,8 @@
  *                         next word; the number of those bytes; the four counts, tables, bin words, headers and slots, each 0
  *                         until it has come; and the note, 0 while nothing is noted, else 1 + the answer. docs/RULES.md,
  *                         section 16, has their ranges
+ *   totals   u64, 39      of oz_tally: sets, refused, entries, lists, trees, looks, then the rows of 1 to 32 looks, and of more;
+ *                         zeros before the first set. docs/RULES.md, section 18, has their ranges
  *
  * n is 1 to 4,096 (0 to 4,096 in a set), c is 0 to 1,024, h is 0 to 4,096. A link that leads nowhere is OZ_NULL.
  *
@@ -59,7 +61,7 @@
  * slots) bytes, at most OZ_FILE_MOST.
  *
  * Answers. An answer is value + 2^32 * number + 2^48 * looks; oz_value, oz_number and oz_looks take it apart. Number 0
- * is no refusal. 1 to 15 and 18 are refusals: the value is 0, with 3 a slot, and nothing was written; what a refused
+ * is no refusal. 1 to 18 are refusals: the value is 0, with 3 a slot, and nothing was written; what a refused
  * chunk or end call of an upload leaves stands with oz_read_chunk, and of a file with oz_load_chunk and oz_load_end. Where
  * several hold, the one that stands first in a routine's list below is given. A number above 100 is a failing test of oz_check.
  * Looks are how many slots oz_find or oz_lookup read the hash of, on a hit, on OZ_NULL and on 9; every other answer has
@@ -79,10 +81,10 @@
 
 enum {
     OZ_UNFIT = 1,          /* the lengths of the slices do not fit, or the journal's length passes its capacity */
-    OZ_DAMAGED = 2,        /* the tree is not sound; of oz_save and oz_load_end: the set is not accepted */
+    OZ_DAMAGED = 2,        /* the tree is not sound; of oz_save, oz_load_end and oz_move: the set is not accepted */
     OZ_PRESENT = 3,        /* the pair is there; the value is its slot */
     OZ_ABSENT = 4,         /* the pair is not there */
-    OZ_FULL = 5,           /* no free slot */
+    OZ_FULL = 5,           /* no free slot; of oz_move: headers run out */
     OZ_JOURNAL_FULL = 6,   /* no line left */
     OZ_BAD_MARK = 7,       /* the mark is above the journal's length */
     OZ_MISFIT = 8,         /* the journal's lines do not fit the tree */
@@ -93,6 +95,8 @@ enum {
     OZ_LONG = 13,          /* a byte of an upload comes after section 4, or of a file after its last section */
     OZ_OVER_LIMIT = 14,    /* a count of a file passes its limit, or its lent slice */
     OZ_OUT_OF_RANGE = 15,  /* there is no such position: it is not below the count */
+    OZ_CANNOT_MOVE = 16,   /* no next table, no such bin, already Moved, or its parent bin not Moved */
+    OZ_TOO_MANY = 17,      /* a million sets are counted */
     OZ_WRONG_KIND = 18,    /* a section of an upload begins with another byte than its kind */
     OZ_TEST = 100          /* 100 + t: test t of 1 to 8 of oz_check fails; the value is the slot */
 };
@@ -271,14 +275,31 @@ uint64_t oz_load_chunk(uint32_t *lengths, size_t lengths_len, uint32_t *bins, si
 
 /* The file has ended: answers its bytes exactly if it is the file of an accepted set. The set stands at the front of the slices,
  * as many words of each as the counts say: loader[3] of lengths, loader[4] of bins, 3 * loader[5] of heads, 2 * loader[6] of
- * names and 7 * loader[6] of cells. Lend so many to oz_lookup, oz_start, oz_walk and oz_save. The rest of each slice is 0, and the
- * answer is noted, so that a later chunk gives it again. Refusals 12 where the last section is not whole, then 1 where the set
- * does not fit and 2 where it is not accepted, each noted and with every word of the five slices 0, as of a chunk. There is a
- * second 1, that of a chunk, which is not noted and changes nothing; the number is the same, but after the first loader[7] has
- * become 1 + 2^32, and after the second it is what it was. */
+ * names and 7 * loader[6] of cells. Lend so many to the other calls. The rest of each slice is 0, and the answer is noted, so that
+ * a later chunk gives it again. Refusals 12 where the last section is not whole, then 1 where the set does not fit and 2 where it
+ * is not accepted, each noted and with every word of the five slices 0, as of a chunk. There is a second 1, that of a chunk, which
+ * is not noted and changes nothing; the number is the same, but after the first loader[7] has become 1 + 2^32, and after the
+ * second it is what it was. */
 uint64_t oz_load_end(uint32_t *lengths, size_t lengths_len, uint32_t *bins, size_t bins_len, uint32_t *heads,
                      size_t heads_len, uint64_t *names, size_t names_len, uint32_t *cells, size_t cells_len,
                      uint64_t *loader, size_t loader_len);
+
+/* Moves one bin of a table to the next table, and answers the entries moved: those whose hash names the same index below go there,
+ * the others to that plus the table's length, each half in the order of the bin, and the bin's word becomes 1, Moved. A half of one
+ * to six is a list, a larger one a tree, which takes a header: the lowest that no bin names, the bin's own among them, the low half
+ * first. The set stays accepted; slots keep their numbers, pairs and places, and lookups from table 0 give the same slots. Only
+ * bins, heads and cells are written. A cursor from before the move is only safe to use: what it gives may repeat or leave out
+ * entries. Refusals 1, 10, 2 where the set is not accepted, 16, 5 where there are too few headers. */
+uint64_t oz_move(const uint32_t *lengths, size_t lengths_len, uint32_t *bins, size_t bins_len, uint32_t *heads,
+                 size_t heads_len, const uint64_t *names, size_t names_len, uint32_t *cells, size_t cells_len,
+                 uint32_t table, uint32_t bin);
+
+/* Adds a set to the totals, and answers 1 where it is counted as accepted, 0 where as refused: a set that does not fit or is not
+ * accepted adds one to totals[1] and nothing else. Refusals 1 where the totals are not 39 words or one is out of its range, 17
+ * where a million sets are counted; the totals stay then. */
+uint64_t oz_tally(const uint32_t *lengths, size_t lengths_len, const uint32_t *bins, size_t bins_len,
+                  const uint32_t *heads, size_t heads_len, const uint64_t *names, size_t names_len,
+                  const uint32_t *cells, size_t cells_len, uint64_t *totals, size_t totals_len);
 
 #ifdef __cplusplus
 }

@@ -535,5 +535,29 @@ pub mod timed {
         pub fn check(&self) {
             TreeNode::check_invariants(self.root(), guard());
         }
+
+        /// The two halves of this bin by a bit of the hash, as the source's map makes them for the next table: a new node for each along
+        /// the chain, which its half's chain ends with, and a tree of each chain. The values are this bin's own, so no half is dropped.
+        #[inline(never)]
+        pub fn halves(&self, bit: u64) -> [std::mem::ManuallyDrop<Bin>; 2] {
+            const O: Ordering = Ordering::Relaxed;
+            let mut ends = [(Shared::null(), Shared::null()); 2];
+            let mut at = self.0.first.load(O, guard());
+            while !at.is_null() {
+                let old = unsafe { TreeNode::get_tree_node(at) };
+                let (first, last) = &mut ends[(old.node.hash & bit != 0) as usize];
+                let new = TreeNode::new(old.node.hash, old.node.key, old.node.value.clone(), Atomic::null(), Atomic::null());
+                new.prev.store(*last, O);
+                let new = Shared::boxed(BinEntry::TreeNode(new), &COLLECTOR);
+                if last.is_null() {
+                    *first = new;
+                } else {
+                    unsafe { TreeNode::get_tree_node(*last) }.node.next.store(new, O);
+                }
+                *last = new;
+                at = old.node.next.load(O, guard());
+            }
+            ends.map(|(first, _)| std::mem::ManuallyDrop::new(Bin(unsafe { TreeBin::new(first, guard()) })))
+        }
     }
 }

@@ -5,7 +5,7 @@ use harness::rng::Rng;
 use harness::sets;
 use harness::uploads;
 use harness::source::{Bin, Tables, Walk};
-use std::collections::BTreeMap;
+use std::collections::{BTreeMap, HashMap};
 use std::hint::black_box;
 use std::time::Instant;
 
@@ -307,6 +307,70 @@ fn file_rows(name: &str, times: usize, set: &Set) {
     row("the same without the end call, which has the acceptance (source: Rust by from_le_bytes)", chunks, Some(reads), None);
 }
 
+/// A move of a bin of 4,096 entries, with its acceptance beside acceptance alone, and without it beside the source's nodes: a difference of
+/// two figures.
+fn move_rows(rng: &mut Rng) {
+    for (name, tree) in [("a tree", true), ("a list", false)] {
+        // One list of 4,096 slots has an acceptance of its own kind, so of lists there are 64 entries.
+        let half = if tree { 2048 } else { 32 };
+        let set = sets::halves(rng, half, half, tree, 2, false);
+        let bin = Bin::new();
+        let slots = |s: &Set| (0..2 * half).map(|x| (s.names[2 * x], s.names[2 * x + 1])).collect::<Vec<(u64, u64)>>();
+        slots(&set).iter().for_each(|(h, k)| bin.insert(*h, *k, 1));
+        let (mut accept, mut moves, mut source) = (f64::INFINITY, f64::INFINITY, f64::INFINITY);
+        for _ in 0..ROUNDS {
+            let from = Instant::now();
+            assert_eq!(black_box(set.accept()).value, 1);
+            accept = accept.min(from.elapsed().as_nanos() as f64);
+            let mut copy = set.clone();
+            let from = Instant::now();
+            assert_eq!(black_box(copy.move_bin(0, 0)).value as usize, 2 * half);
+            moves = moves.min(from.elapsed().as_nanos() as f64);
+            let from = Instant::now();
+            black_box(bin.halves(1));
+            source = source.min(from.elapsed().as_nanos() as f64);
+        }
+        let title = format!("a move of {name} of {} entries, with its acceptance (source: acceptance alone)", 2 * half);
+        row(&title, moves, Some(accept), None);
+        row("the same after the acceptance (source: its nodes, in two new trees)", moves - accept, Some(source), None);
+    }
+}
+
+/// Sets of 512 slots, a file each: loaded and tallied, beside Rust that reads the same words, makes a HashMap of them and looks every entry
+/// up.
+fn tally_rows(rng: &mut Rng) {
+    let all: Vec<Set> = (0..16).map(|_| (0..).map(|_| sets::draw(rng, 3, 64, 512, 0)).find(|s| s.names.len() == 1024).unwrap()).collect();
+    let files: Vec<Vec<u8>> = all.iter().map(files::written).collect();
+    let mut into = Set { lengths: vec![7; 8], bins: vec![7; 1024], heads: vec![7; 768], names: vec![7; 1024], cells: vec![7; 3584] };
+    let (mut other, mut totals) = (into.clone(), vec![0; 39]);
+    let (mut ours, mut theirs) = (f64::INFINITY, f64::INFINITY);
+    for _ in 0..ROUNDS {
+        let from = Instant::now();
+        for bytes in &files {
+            let mut loader = [0; 8];
+            oz::load_start(&mut loader);
+            into.load_chunk(&mut loader, bytes);
+            assert_eq!(into.load_end(&mut loader).value as usize, bytes.len());
+            let [tables, words, headers, slots] = [3, 4, 5, 6].map(|k| loader[k] as usize);
+            let (lengths, bins, heads) = (&into.lengths[..tables], &into.bins[..words], &into.heads[..3 * headers]);
+            let counted = oz::tally(lengths, bins, heads, &into.names[..2 * slots], &into.cells[..7 * slots], &mut totals);
+            assert_eq!(black_box(counted).value, 1);
+        }
+        ours = ours.min(from.elapsed().as_nanos() as f64 / files.len() as f64);
+        let from = Instant::now();
+        for bytes in &files {
+            read_words(black_box(bytes), black_box(&mut other));
+            let pairs = other.names.chunks_exact(2).enumerate();
+            let map: HashMap<(u64, u64), u32> = pairs.map(|(x, name)| ((name[0], name[1]), x as u32)).collect();
+            let found = other.names.chunks_exact(2).filter(|name| black_box(map.get(&(name[0], name[1]))).is_some()).count();
+            assert_eq!(found, 512);
+        }
+        theirs = theirs.min(from.elapsed().as_nanos() as f64 / files.len() as f64);
+    }
+    row("a set of 512 slots loaded and tallied (source: Rust with a HashMap)", ours, Some(theirs), None);
+    println!("sets a second: ours {:.0}, Rust with a HashMap {:.0}", 1e9 / ours, 1e9 / theirs);
+}
+
 fn main() {
     println!("| what | ours, ns | source, ns | BTreeMap, ns | ours / source | ours / BTreeMap |");
     println!("|---|---|---|---|---|---|");
@@ -444,6 +508,8 @@ fn main() {
     file_rows("the largest set", 4, &sets::largest(&mut file_rng));
     let small = (0..).map(|_| sets::draw(&mut file_rng, 3, 64, 512, 0)).find(|s| s.names.len() == 1024).unwrap();
     file_rows("a set of 512 slots", 40, &small);
+    move_rows(&mut Rng::new(17));
+    tally_rows(&mut Rng::new(39));
     let set = sets::draw(&mut rng, 3, 64, 4096, 0);
     let n = set.names.len() / 2;
     let tables = Tables::of_words(&set).expect("an accepted set");

@@ -4,12 +4,14 @@
 pub mod accepted;
 pub mod files;
 pub mod lent;
+pub mod moving;
 pub mod oz;
 pub mod reads;
 pub mod reasons;
 pub mod rng;
 pub mod saved;
 pub mod sets;
+pub mod totals;
 pub mod uploads;
 
 mod reclaim {

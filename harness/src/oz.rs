@@ -88,6 +88,10 @@ export!(oz_load_chunk load_chunk
 export!(oz_load_end load_end
     lengths: &mut [u32], bins: &mut [u32], heads: &mut [u32], names: &mut [u64], cells: &mut [u32], loader: &mut [u64],
 );
+export!(oz_move move_bin
+    lengths: &[u32], bins: &mut [u32], heads: &mut [u32], names: &[u64], cells: &mut [u32], table: u32, bin: u32,
+);
+export!(oz_tally tally lengths: &[u32], bins: &[u32], heads: &[u32], names: &[u64], cells: &[u32], totals: &mut [u64],);
 
 pub const PLACE: usize = 0;
 pub const STATE: usize = 1;
@@ -366,6 +370,14 @@ impl Set {
     /// The set's file at the front of `out`.
     pub fn save(&self, out: &mut [u8]) -> Answer {
         save(&self.lengths, &self.bins, &self.heads, &self.names, &self.cells, out)
+    }
+
+    pub fn move_bin(&mut self, table: u32, bin: u32) -> Answer {
+        move_bin(&self.lengths, &mut self.bins, &mut self.heads, &self.names, &mut self.cells, table, bin)
+    }
+
+    pub fn tally(&self, totals: &mut [u64]) -> Answer {
+        tally(&self.lengths, &self.bins, &self.heads, &self.names, &self.cells, totals)
     }
 
     pub fn load_chunk(&mut self, loader: &mut [u64], chunk: &[u8]) -> Answer {

@@ -1,10 +1,12 @@
 //! Calls on random and damaged words, lengths and cursors, with guard words around each slice, and random runs of demand 3.
 use harness::files::{self, Loads, Model};
 use harness::lent::{Lent, G32, G64, G8, GUARD};
+use harness::moving::move_beside;
 use harness::oz::{self, Index, LINE_WORDS, NOTED, NULL};
 use harness::rng::Rng;
 use harness::saved::Salvage;
 use harness::sets;
+use harness::totals::{tally_beside, MOST_SETS, WORDS};
 use std::collections::BTreeMap;
 
 #[derive(Clone, PartialEq)]
@@ -675,6 +677,10 @@ fn calls_on(rng: &mut Rng, tally: &mut Tally, lengths: &[u32], bins: &[u32], hea
         oz::Set { lengths: lengths.to_vec(), bins: bins.to_vec(), heads: heads.to_vec(), names: names.to_vec(), cells: cells.to_vec() };
     let (answer, fine) = save_any(rng, &as_set);
     tally.note("save", answer, slots, fine);
+    let (answer, left) = move_beside(&as_set, if rng.below(8) == 0 { word32(rng, 9) } else { rng.below(2) as u32 }, word32(rng, 3));
+    tally.note("move", answer, slots, left.is_ok());
+    let (answer, left) = tally_beside(&as_set, &drawn_totals(rng));
+    tally.note("tally", answer, slots, left.is_ok());
     let table = |rng: &mut Rng| if rng.below(8) == 0 { word32(rng, 9) } else { rng.below(tables + 1) as u32 };
     for _ in 0..4 {
         let i = rng.below(slots as u64 + 1) as usize;
@@ -701,6 +707,20 @@ fn calls_on(rng: &mut Rng, tally: &mut Tally, lengths: &[u32], bins: &[u32], hea
         let name = if answer.number == 0 && answer.value != NULL { "walk, an entry," } else { "walk" };
         tally.note(name, answer, slots, fine && set == before);
     }
+}
+
+/// Totals of any words, most often in their ranges.
+fn drawn_totals(rng: &mut Rng) -> Vec<u64> {
+    let sets = if rng.below(6) == 0 { word64(rng, 2_000_000) } else { rng.below(MOST_SETS + 1) };
+    let most = MOST_SETS.saturating_sub(sets);
+    let refused = if rng.below(6) == 0 { word64(rng, 2_000_000) } else { most.saturating_sub(rng.below(2)) };
+    let mut totals = vec![sets, refused];
+    totals.extend((2..WORDS).map(|_| rng.below(4096u64.saturating_mul(sets).saturating_add(1))));
+    if rng.below(8) == 0 {
+        totals[2 + rng.below(37) as usize] = word64(rng, 9);
+    }
+    resize(&mut totals, length(rng, WORDS), 0);
+    totals
 }
 
 /// A loader of drawn words over few items, most often in range, and the slices that its counts ask for, of any words.

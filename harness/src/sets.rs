@@ -147,6 +147,47 @@ pub fn lone_trees(rng: &mut Rng, n: usize) -> Set {
     s
 }
 
+/// So many more headers that nothing names, at drawn places: the words of the trees' bins follow them.
+pub fn more_headers(rng: &mut Rng, s: &mut Set, many: u64) {
+    for _ in 0..many {
+        let at = rng.below(s.heads.len() as u64 / 3 + 1) as u32;
+        s.heads.splice(3 * at as usize..3 * at as usize, [NULL, NULL, 0]);
+        s.bins.iter_mut().filter(|w| **w >= 4098 + at).for_each(|w| *w += 1);
+    }
+}
+
+/// Two tables, all entries in the one bin of the first, a list or a tree: so many go low and so many high, in a drawn listing order; so
+/// many headers that nothing names. The hashes of a half are drawn, or all equal.
+pub fn halves(rng: &mut Rng, low: usize, high: usize, tree: bool, spare: u64, equal: bool) -> Set {
+    let n = low + high;
+    let mut bits: Vec<u64> = (0..n).map(|i| (i >= low) as u64).collect();
+    rng.shuffle(&mut bits);
+    let mut ix = Index::new(n.max(1), 1);
+    for bit in bits {
+        ix.forget();
+        ix.insert(bit + if equal { 0 } else { 2 * rng.below(1 << 20) }, rng.next(), rng.next() as u32);
+    }
+    let mut slots: Vec<u32> = (0..n as u32).collect();
+    rng.shuffle(&mut slots);
+    let mut s = Set { lengths: vec![1, 2], bins: vec![0; 3], heads: Vec::new(), names: vec![0; 2 * n], cells: vec![0; 7 * n] };
+    let to = |l: u32| if l == NULL { NULL } else { slots[l as usize] };
+    for (i, at) in slots.iter().enumerate() {
+        let (at, old) = (*at as usize, &ix.cells[7 * i..7 * i + 7]);
+        s.names[2 * at..2 * at + 2].copy_from_slice(&ix.names[2 * i..2 * i + 2]);
+        let link = |f: usize| if tree || f == oz::NEXT { to(old[f]) } else { NULL };
+        let cell = [old[0], if tree { old[oz::STATE] } else { 1 }, link(2), link(3), link(4), link(5), link(6)];
+        s.cells[7 * at..7 * at + 7].copy_from_slice(&cell);
+    }
+    if n > 0 && tree {
+        s.bins[0] = 4098;
+        s.heads.extend([to(ix.head[0]), to(ix.head[1]), ix.head[2]]);
+    } else if n > 0 {
+        s.bins[0] = 2 + to(ix.head[1]);
+    }
+    more_headers(rng, &mut s, spare);
+    s
+}
+
 /// The largest set that fits: eight tables, of which the last has 4,096 bins, each a tree of one slot; the bins of the others are Moved.
 pub fn largest(rng: &mut Rng) -> Set {
     let mut s = lone_trees(rng, 4096);

@@ -31,14 +31,15 @@ use Rattle.upload_rules.proofs.Claims.{claims}
 use Rattle.reader.proofs.Ranging.{few-taken}
 use Rattle.exports.specs.Told.{WordTells}
 use Rattle.exports.specs.Lent as L
-use Rattle.exports.specs.Lent.{ReaderAnswer, NoteTold, ReaderWords}
+use Rattle.exports.specs.Lent.{ReaderAnswer, ReaderWords}
 use Rattle.exports.specs.Readers.{sayingNone, readerIn, readerWritten, ReadWorded, readWorded, readInto, startedReader}
 use Rattle.exports.specs.Readers.{chunkRead, endedReader}
 use Rattle.exports.specs.Leaving.{RefusedBy, UnknownReader, StartTold, ReadTold, Continued, chunkAfterStart, endAfterChunk}
 use Rattle.exports.specs.Leaving.{UploadTold}
 use Rattle.exports.proofs.Telling.{answers-apart, one-word, taken-word}
 use Rattle.exports.proofs.Giving as G
-use Rattle.exports.proofs.Saying.{Sayable, silent, spoken, reader-tells, reader-written, written-again, SaidIn, says, none, said-in}
+use Rattle.exports.proofs.Noting.{Sayable, silent, spoken, told-sayable, spoken-answer}
+use Rattle.exports.proofs.Saying.{reader-tells, reader-written, written-again, SaidIn, says, none, said-in}
 use Rattle.exports.proofs.Saying.{reader-words, reader-one}
 
 -- What an insert refuses with is an answer of the reader.
@@ -68,17 +69,10 @@ foreign-answers misfit = L.misfit
 -- A reader that words can say.
 pub record SayableReader (r : Reader) : Type 0 where
   pub narrow : r .mark < 4294967296
-  pub note : Sayable (r .note)
+  pub note : Sayable ReaderAnswer (r .note)
 
 words-fine : {w : List ℕ} {r : Reader} → ReaderWords w r → SayableReader r
-words-fine h = record { narrow = h .narrow; note = told (h .note) }
-  where
-    told : {n : Note} {x : ℕ} → NoteTold ReaderAnswer n x → Sayable n
-    told L.nothing = silent
-    told (L.noted a t) = spoken a
-
-spoken-answer : {a : Answer} → Sayable (said a) → ReaderAnswer a
-spoken-answer (spoken r) = r
+words-fine h = record { narrow = h .narrow; note = told-sayable (h .note) }
 
 step-fine : {r : Reader} {ix : Index} {d : Session} → ByteStep r ix d → SayableReader r → SayableReader (d .reader)
 step-fine (moves e m t) f = record { narrow = rw m (f .narrow); note = rw e silent }
@@ -117,7 +111,7 @@ in-or-out {A} r f g = go (fitsReader r) refl
 fine-answer : (r : Reader) → FitReader r → SayableReader r → ReaderAnswer (readerAnswer r)
 fine-answer r h f = go (r .note) (f .note)
   where
-    go : (n : Note) → Sayable n → ReaderAnswer (noteAnswer n (r .taken))
+    go : (n : Note) → Sayable ReaderAnswer n → ReaderAnswer (noteAnswer n (r .taken))
     go unsaid s = let t = few-taken h in L.takes {n = r .taken} (omega arith)
     go (said a) (spoken w) = w
 

@@ -14,6 +14,8 @@ use Rattle.exports.proofs.LoadCalling as F
 use Rattle.exports.proofs.Storing.{save-tells}
 use Rattle.exports.proofs.Explaining.{why-tells}
 use Rattle.exports.proofs.Rescuing.{salvage-tells, report-one}
+use Rattle.exports.proofs.Moving.{move-tells}
+use Rattle.exports.proofs.Tallying.{tally-tells}
 
 pub claims : Claims
 claims =
@@ -65,6 +67,10 @@ claims =
       load-none = F.load-none;
       load-going = F.load-continued;
       load-file = λ t w e l k. F.filed w e t k;
+      move-tells = move-tells;
+      tally-tells = tally-tells;
+      move-one = λ s k i a b p q. p ∙ sym q;
+      tally-one = λ s t a b p q. p ∙ sym q;
       save-one = λ s out a b p q. p ∙ sym q;
       load-start-one = λ w a b p q. p ∙ sym q;
       load-chunk-one = λ t w chunk a b p q. p ∙ sym q;

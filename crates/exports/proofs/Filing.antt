@@ -11,7 +11,7 @@ use Rattle.upload_rules.specs.Notes.{NoteSaid, known, unknown, noteWord}
 use Rattle.set_rules.specs.Words.{Set}
 use Rattle.file_rules.specs.Saving.{Saved, saved}
 use Rattle.file_rules.specs.Loader.{Loader, loaderOf, newLoader, countTaken}
-use Rattle.file_rules.specs.Loading.{Loading, loading, LoadOutcome, loadOutcome, loadStart, loadChunk, loadEnd}
+use Rattle.file_rules.specs.Loading.{loading, LoadOutcome, loadOutcome, loadStart, loadChunk, loadEnd}
 use Rattle.file.specs.Notes.{loadNoteAt}
 use Rattle.exports.specs.Loaders.{SaveWorded, saveWorded, LoaderSaid, sayingLoader, sayingNoLoader, loaderNoted, loaderIn}
 use Rattle.exports.specs.Loaders.{loaderWritten, loaderWorded, startedLoader, loadWorded, loadInto, chunkLoaded, endedLoader}

@@ -2,6 +2,7 @@ pub mod Telling
 pub mod Answering
 pub mod Giving
 pub mod Holding
+pub mod Noting
 pub mod Saying
 pub mod Calling
 pub mod Keeping
@@ -12,4 +13,6 @@ pub mod LoadSaying
 pub mod LoadCalling
 pub mod Explaining
 pub mod Rescuing
+pub mod Moving
+pub mod Tallying
 pub mod Claims

@@ -1,54 +1,51 @@
 -- A call of the loader leaves a loader that its words can say, so the next call reads what this one left, and what the rules say of calls
 -- on a loader is said of calls on words.
 use mathlib.Core.Path.{_≡_, refl, ap, sym, _∙_, subst}
-use mathlib.Core.Logic.{_≢_, _↔_}
 use mathlib.Core.Bool.{Bool, true, false}
 use mathlib.Core.List.{List, [], _∷_, _++_}
-use Prim.Native.Nat.{ℕ, zero, suc, _+_, _*_, _/_, _%_, _<_, _≤_}
-use native.Mathlib.Omega.{arith}
-use lib.ListN.{length, drop}
-use lib.Dec.{eqb, ltb, leb}
-use borrow.Author.Tests.{eq-eqb, ne-eqb, le-leb, leb-false}
-use Rattle.slots.specs.Words.{pick}
-use Rattle.slots.specs.Answers.{Answer, given, refused, answerWord}
-use Rattle.slots.proofs.Laws.{number, given-is}
+use Prim.Native.Nat.{ℕ, zero, suc, _+_, _/_, _%_}
+use lib.ListN.{length}
+use lib.Dec.{eqb, ltb}
+use borrow.Author.Tests.{eq-eqb, ne-eqb}
+use Rattle.slots.specs.Answers.{Answer, refused, answerWord}
+use Rattle.slots.proofs.Laws.{number}
 use Rattle.endian.specs.Bytes as B
 use Rattle.endian.specs.Bytes.{Bytes}
 use Rattle.upload_rules.specs.Reader.{Note, unsaid, said, noteAnswer}
-use Rattle.upload_rules.proofs.Ranges.{pick-both, no-test}
-use Rattle.set_rules.specs.Words.{Set, Fit, fits}
-use Rattle.set_rules.specs.Accepted.{Accepted}
+use Rattle.upload_rules.proofs.Ranges.{pick-both}
+use Rattle.set_rules.specs.Words.{Set, fits}
 use Rattle.set_rules.specs.Accepting.{accepted}
-use Rattle.file_rules.specs.Layout.{fieldOf, sectionWords}
-use Rattle.file_rules.specs.Loader.{Loader, loaderOf, newLoader, countTaken, nextWidth, FitLoader, takenOf, loaderAnswer}
+use Rattle.file_rules.specs.Layout.{sectionWords}
+use Rattle.file_rules.specs.Loader.{Loader, newLoader, countTaken, nextWidth, FitLoader, takenOf, loaderAnswer}
 use Rattle.file_rules.specs.Loading.{Loading, loading, LoadOutcome, loadOutcome, loadRefused, afterWords, withCount, mayCount, wordCame}
 use Rattle.file_rules.specs.Loading.{withByte, byteStored, byteLoaded, bytesLoaded, cutOut, endJudged, endLoaded, GoesOn, mayGoOn}
 use Rattle.file_rules.specs.Loading.{loadChunk}
 use Rattle.file_rules.specs.Loading.{loadEnd, loadWhole}
 use Rattle.file_rules.proofs.Ranges.{open-or, byte-open, byte-said, bytes-go, end-open, end-said, end-goes}
-use Rattle.file_rules.proofs.Testing.{in-goes, start-goes, chunk-in, chunk-out, end-in, end-out}
+use Rattle.file_rules.proofs.Testing.{in-goes, chunk-in, chunk-out, end-in, end-out}
 use Rattle.file_rules.proofs.Claims.{claims}
 use Rattle.file.proofs.Ranging.{taken-small}
 use Rattle.exports.specs.Told.{WordTells}
 use Rattle.exports.specs.Lent as L
-use Rattle.exports.specs.Lent.{LoaderAnswer, NoteTold, LoaderWords}
+use Rattle.exports.specs.Lent.{LoaderAnswer, LoaderWords}
 use Rattle.exports.specs.Loaders.{sayingNoLoader, loaderIn, loaderWritten, startedLoader, LoadWorded, loadWorded, loadInto}
 use Rattle.exports.specs.Loaders.{chunkLoaded, endedLoader}
 use Rattle.exports.specs.Leaving.{RefusedBy}
 use Rattle.exports.specs.Filed.{LoadStartTold, LoadTold, UnknownLoader, LoadContinued, loadAfterStart, endAfterLoad, FileTold}
 use Rattle.exports.proofs.Telling.{answers-apart, one-word, taken-word}
-use Rattle.exports.proofs.LoadSaying.{Sayable, silent, spoken, loader-tells, loader-written, written-again, SaidIn, says, none}
-use Rattle.exports.proofs.LoadSaying.{said-in}
+use Rattle.exports.proofs.Noting.{Sayable, silent, spoken, told-sayable, spoken-answer}
+use Rattle.exports.proofs.LoadSaying.{loader-tells, loader-written, written-again, SaidIn, says, none, said-in}
 use Rattle.exports.proofs.LoadSaying.{loader-words, loader-one}
 
 -- The note that a byte leaves.
 abbrev Says : Loading → Type 0
-Says d = Sayable (d .loader .note)
+Says d = Sayable LoaderAnswer (d .loader .note)
 
-after-says : (r : Loader) (f : ℕ) → Sayable (afterWords r f .note)
+after-says : (r : Loader) (f : ℕ) → Sayable LoaderAnswer (afterWords r f .note)
 unfolding afterWords
 after-says r f =
-    pick-both (λ (x : Loader). Sayable (x .note)) (eqb f (sectionWords (r .section) (countTaken r (r .section)) + 1)) _ _ silent silent
+    let all = sectionWords (r .section) (countTaken r (r .section)) + 1 in
+    pick-both (λ (x : Loader). Sayable LoaderAnswer (x .note)) (eqb f all) _ _ silent silent
 
 came-says : (r : Loader) (t : Set) (f v : ℕ) → Says (wordCame r t f v)
 unfolding wordCame loadRefused
@@ -85,22 +82,15 @@ end-says d h s =
 -- A loader that words can say.
 pub record SayableLoader (r : Loader) : Type 0 where
   pub four : length (r .counts) ≡ 4
-  pub note : Sayable (r .note)
+  pub note : Sayable LoaderAnswer (r .note)
 
 words-fine : {w : List ℕ} {r : Loader} → LoaderWords w r → SayableLoader r
-words-fine h = record { four = h .four; note = told (h .note) }
-  where
-    told : {n : Note} {x : ℕ} → NoteTold LoaderAnswer n x → Sayable n
-    told L.nothing = silent
-    told (L.noted a t) = spoken a
+words-fine h = record { four = h .four; note = told-sayable (h .note) }
 
-spoken-answer : {a : Answer} → Sayable (said a) → LoaderAnswer a
-spoken-answer (spoken r) = r
-
-fine-answer : (r : Loader) → FitLoader r → Sayable (r .note) → LoaderAnswer (loaderAnswer r)
+fine-answer : (r : Loader) → FitLoader r → Sayable LoaderAnswer (r .note) → LoaderAnswer (loaderAnswer r)
 fine-answer r h s = go (r .note) s
   where
-    go : (n : Note) → Sayable n → LoaderAnswer (noteAnswer n (takenOf r))
+    go : (n : Note) → Sayable LoaderAnswer n → LoaderAnswer (noteAnswer n (takenOf r))
     go unsaid s = L.loads (taken-small r h)
     go (said a) (spoken w) = w
 

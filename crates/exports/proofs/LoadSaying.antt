@@ -1,20 +1,18 @@
 -- A note's word says that note and no other; so eight words are one loader or none, and a loader written with a note of the loader's own
 -- answers is read again.
-use Prim.{Unit, tt}
+use Prim.{tt}
 use mathlib.Core.Path.{_≡_, refl, ap, sym, _∙_, subst}
 use mathlib.Core.Logic.{_≢_, _↔_}
-use mathlib.Core.Bool.{true}
 use mathlib.Core.List.{List, [], _∷_}
-use Prim.Native.Nat.{ℕ, zero, suc, _+_, _-_, _/_, _%_, _<_}
+use Prim.Native.Nat.{ℕ, _+_, _-_, _/_, _%_, _<_}
 use native.Mathlib.Decide.{ℕ-discrete}
 use native.Mathlib.Omega.{arith}
 use lib.ListN.{length, getD}
 use lib.Seq.{ext-getD}
 use lib.Dec.{eqb}
 use borrow.Author.Tests.{eq-eqb, ne-eqb, eqb-true, eqb-false}
-use Rattle.slots.specs.Words.{null, pick}
 use Rattle.slots.specs.Answers.{Answer, given, refused, answerWord}
-use Rattle.upload_rules.specs.Reader.{Note, unsaid, said}
+use Rattle.upload_rules.specs.Reader.{Note, said}
 use Rattle.upload_rules.specs.Notes.{NoteSaid, known, unknown, noteWord}
 use Rattle.file_rules.specs.Loader.{Loader, loaderOf}
 use Rattle.file_rules.proofs.Testing.{by-four}
@@ -24,10 +22,10 @@ use Rattle.exports.specs.Told.{gives, WordTells}
 use Rattle.exports.specs.Lent.{LoaderAnswer, loads, overLimit, longFile, shortFile, unfitSet, damagedSet}
 use Rattle.exports.specs.Lent.{NoteTold, nothing as unnoted, noted, LoaderWords}
 use Rattle.exports.specs.Loaders.{sayingLoader, sayingNoLoader, loaderIn, loaderWritten}
-use Rattle.exports.proofs.Telling.{value-some, value-none, plainNumber, plainly, never-bare, word-tells}
+use Rattle.exports.proofs.Telling.{value-some, value-none, plainly, always-tells}
 use Rattle.exports.proofs.Answering.{picked}
 use Rattle.exports.proofs.Giving.{Tellable}
-use Rattle.exports.proofs.Saying.{one-note}
+use Rattle.exports.proofs.Noting.{SaidBy, up, plain-by, one-note, Sayable, note-written}
 use Rattle.exports.proofs.Holding as H
 use Rattle.exports.proofs.Holding.{OfLength, end, one}
 
@@ -52,50 +50,34 @@ note-said (noted unfitSet t) = plain-said 1 refl (λ e. omega arith) t
 note-said (noted damagedSet t) = plain-said 2 refl (λ e. omega arith) t
 
 -- What a word says is told by it.
-abbrev SaidBy : ℕ → NoteSaid → Type 0
-SaidBy w (known n) = NoteTold LoaderAnswer n w
-SaidBy w unknown = Unit
-
 module _ (w : ℕ) (s : w ≢ 0) where
-  up : {n : Note} → NoteTold LoaderAnswer n (1 + (w - 1)) → NoteTold LoaderAnswer n w
-  up {n} t = let e : 1 + (w - 1) ≡ w = omega arith in subst (NoteTold LoaderAnswer n) e t
-
-  plain-by : (k : ℕ) (rest : NoteSaid) → LoaderAnswer (refused k) → plainNumber k ≡ true → (w - 1) % 4294967296 ≡ 0 → SaidBy w rest
-      → SaidBy w (pick (eqb ((w - 1) / 4294967296) k) (known (said (refused k))) rest)
-  plain-by k rest a p v r =
-      picked (SaidBy w) (eqb ((w - 1) / 4294967296) k)
-      (λ e. up (noted a
-      (record { beside = 0; valued = plainly k p; number = eqb-true ((w - 1) / 4294967296) k e; value = v }))) (λ e. r)
-
-  with-by : SaidBy w (loadNoteWith ((w - 1) / 4294967296) ((w - 1) % 4294967296))
+  with-by : SaidBy LoaderAnswer w (loadNoteWith ((w - 1) / 4294967296) ((w - 1) % 4294967296))
   unfolding loadNoteWith
   with-by =
-      picked (SaidBy w) (eqb ((w - 1) / 4294967296) 0)
-      (λ e. up (noted (loads small)
+      picked (SaidBy LoaderAnswer w) (eqb ((w - 1) / 4294967296) 0)
+      (λ e. up w s (noted (loads small)
       (record { beside = (w - 1) % 4294967296; valued = gives small; number = eqb-true ((w - 1) / 4294967296) 0 e; value = refl })))
-      (λ n0. picked (SaidBy w) (eqb ((w - 1) % 4294967296) 0)
+      (λ n0. picked (SaidBy LoaderAnswer w) (eqb ((w - 1) % 4294967296) 0)
       (λ e.
       let v = eqb-true ((w - 1) % 4294967296) 0 e in
-      plain-by 1 _ unfitSet refl v
-      (plain-by 2 _ damagedSet refl v
-      (plain-by 12 _ shortFile refl v (plain-by 13 _ longFile refl v (plain-by 14 _ overLimit refl v tt)))))
+      plain-by LoaderAnswer w s 1 _ unfitSet refl v
+      (plain-by LoaderAnswer w s 2 _ damagedSet refl v
+      (plain-by LoaderAnswer w s 12 _ shortFile refl v
+      (plain-by LoaderAnswer w s 13 _ longFile refl v
+      (plain-by LoaderAnswer w s 14 _ overLimit refl v tt)))))
       (λ e. tt))
     where
       small : (w - 1) % 4294967296 < 4294967296
       small = omega arith
 
-said-by : (w : ℕ) → SaidBy w (loadNoteAt w)
+said-by : (w : ℕ) → SaidBy LoaderAnswer w (loadNoteAt w)
 unfolding loadNoteAt
-said-by w = picked (SaidBy w) (eqb w 0) (λ e. rw (eqb-true w 0 e) unnoted) (λ e. with-by w (eqb-false w 0 e))
+said-by w = picked (SaidBy LoaderAnswer w) (eqb w 0) (λ e. rw (eqb-true w 0 e) unnoted) (λ e. with-by w (eqb-false w 0 e))
 
 said-note : {w : ℕ} {n : Note} → loadNoteAt w ≡ known n → NoteTold LoaderAnswer n w
-said-note {w} e = subst (SaidBy w) e (said-by w)
+said-note {w} e = subst (SaidBy LoaderAnswer w) e (said-by w)
 
--- A note that a word can say, and the word of it.
-pub data Sayable : Note → Type 0 where
-  silent : Sayable unsaid
-  spoken : {a : Answer} → LoaderAnswer a → Sayable (said a)
-
+-- The answers with their values, and their words.
 answer-valued : {a : Answer} → LoaderAnswer a → Tellable 4294967296 a
 answer-valued (loads {n} l) = (n, gives l)
 answer-valued overLimit = (0, plainly 14 refl)
@@ -105,13 +87,7 @@ answer-valued unfitSet = (0, plainly 1 refl)
 answer-valued damagedSet = (0, plainly 2 refl)
 
 pub loader-tells : {a : Answer} → LoaderAnswer a → WordTells 4294967296 a (answerWord a)
-unfolding answerWord
-loader-tells r = let v = answer-valued r .1 in word-tells null (λ e. absurd (never-bare v e)) (omega arith) v
-
-note-written : {n : Note} → Sayable n → NoteTold LoaderAnswer n (noteWord n)
-unfolding noteWord
-note-written silent = unnoted
-note-written (spoken r) = noted r (loader-tells r)
+loader-tells r = always-tells (answer-valued r .1)
 
 -- The eight words written are those of the table.
 loader-write : {w : List ℕ} → OfLength 8 w → (r : Loader) → length (r .counts) ≡ 4 → NoteTold LoaderAnswer (r .note) (noteWord (r .note))
@@ -128,9 +104,9 @@ loader-write (one a (one b (one c (one d (one e (one f (one g (one h end))))))))
       note = n;
     }
 
-pub loader-written : (w : List ℕ) (r : Loader) → length w ≡ 8 → length (r .counts) ≡ 4 → Sayable (r .note) → LoaderWords
+pub loader-written : (w : List ℕ) (r : Loader) → length w ≡ 8 → length (r .counts) ≡ 4 → Sayable LoaderAnswer (r .note) → LoaderWords
     (loaderWritten w r) r
-loader-written w r e l s = loader-write (H.long w e) r l (note-written s)
+loader-written w r e l s = loader-write (H.long w e) r l (note-written (λ a. loader-tells) s)
 
 -- Written twice, the second stands.
 written-over : {w : List ℕ} → OfLength 8 w → (r s : Loader) → loaderWritten (loaderWritten w r) s ≡ loaderWritten w s

@@ -1,9 +1,8 @@
 -- A note's word says that note and no other; so eight words are one reader or none, and a reader written with a note of the reader's own
 -- answers is read again. Bytes and the end call leave only such readers: each refusal that they note is one that the rules name.
-use Prim.{Unit, tt}
+use Prim.{tt}
 use mathlib.Core.Path.{_≡_, refl, ap, sym, _∙_, subst}
 use mathlib.Core.Logic.{_≢_, _↔_}
-use mathlib.Core.Bool.{true}
 use mathlib.Core.List.{List, [], _∷_}
 use Prim.Native.Nat.{ℕ, _+_, _-_, _/_, _%_, _<_}
 use native.Mathlib.Decide.{ℕ-discrete, decLt}
@@ -11,10 +10,9 @@ use native.Mathlib.Omega.{arith}
 use lib.ListN.{length, getD}
 use lib.Dec.{eqb}
 use borrow.Author.Tests.{eq-eqb, ne-eqb, eqb-true, eqb-false, lt-ltb, le-ltb}
-use Rattle.slots.specs.Words.{null, pick}
 use Rattle.slots.specs.Answers.{Answer, some, given, refused, answerWord}
 use Rattle.slots.proofs.Laws.{number, value}
-use Rattle.upload_rules.specs.Reader.{Note, unsaid, said, Reader, readerOf}
+use Rattle.upload_rules.specs.Reader.{Note, said, Reader, readerOf}
 use Rattle.reader.specs.Notes.{plainAt, noteWith, noteAt}
 use Rattle.upload_rules.specs.Notes.{NoteSaid, known, unknown, noteWord}
 use Rattle.reader.proofs.Noting.{at-unsaid, at-given, at-present, at-plain}
@@ -23,9 +21,10 @@ use Rattle.exports.specs.Told.{gives, WordTells}
 use Rattle.exports.specs.Lent.{ReaderAnswer, takes, present, wrongKind, full, unlined, long, short, unfit, damaged, badMark, misfit}
 use Rattle.exports.specs.Lent.{NoteTold, nothing as unnoted, noted, ReaderWords}
 use Rattle.exports.specs.Readers.{saying, sayingNone, readerIn, readerWritten}
-use Rattle.exports.proofs.Telling.{one-word, value-some, value-none, plainNumber, plainly, never-bare, word-tells}
+use Rattle.exports.proofs.Telling.{value-some, value-none, plainly, always-tells}
 use Rattle.exports.proofs.Answering.{picked}
 use Rattle.exports.proofs.Giving.{Tellable}
+use Rattle.exports.proofs.Noting.{SaidBy, up, plain-by, one-note, Sayable, note-written}
 use Rattle.exports.proofs.Holding as H
 use Rattle.exports.proofs.Holding.{OfLength, end, one}
 
@@ -58,59 +57,41 @@ note-said (noted badMark t) = plain-said 7 refl (λ e. omega arith) (λ e. omega
 note-said (noted misfit t) = plain-said 8 refl (λ e. omega arith) (λ e. omega arith) t
 
 -- What a word says is told by it.
-abbrev SaidBy : ℕ → NoteSaid → Type 0
-SaidBy w (known n) = NoteTold ReaderAnswer n w
-SaidBy w unknown = Unit
-
 module _ (w : ℕ) (s : w ≢ 0) where
-  up : {n : Note} → NoteTold ReaderAnswer n (1 + (w - 1)) → NoteTold ReaderAnswer n w
-  up {n} t = let e : 1 + (w - 1) ≡ w = omega arith in subst (NoteTold ReaderAnswer n) e t
-
-  plain-by : (k : ℕ) (rest : NoteSaid) → ReaderAnswer (refused k) → plainNumber k ≡ true → (w - 1) % 4294967296 ≡ 0 → SaidBy w rest
-      → SaidBy w (pick (eqb ((w - 1) / 4294967296) k) (known (said (refused k))) rest)
-  plain-by k rest a p v r =
-      picked (SaidBy w) (eqb ((w - 1) / 4294967296) k)
-      (λ e. up (noted a
-      (record { beside = 0; valued = plainly k p; number = eqb-true ((w - 1) / 4294967296) k e; value = v }))) (λ e. r)
-
-  with-by : SaidBy w (noteWith ((w - 1) / 4294967296) ((w - 1) % 4294967296))
+  with-by : SaidBy ReaderAnswer w (noteWith ((w - 1) / 4294967296) ((w - 1) % 4294967296))
   unfolding noteWith plainAt
   with-by =
-      picked (SaidBy w) (eqb ((w - 1) / 4294967296) 0)
-      (λ e. up (noted (takes small)
+      picked (SaidBy ReaderAnswer w) (eqb ((w - 1) / 4294967296) 0)
+      (λ e. up w s (noted (takes small)
       (record { beside = (w - 1) % 4294967296; valued = gives small; number = eqb-true ((w - 1) / 4294967296) 0 e; value = refl })))
-      (λ n0. picked (SaidBy w) (eqb ((w - 1) / 4294967296) 3)
-      (λ e. up (noted (present small)
+      (λ n0. picked (SaidBy ReaderAnswer w) (eqb ((w - 1) / 4294967296) 3)
+      (λ e. up w s (noted (present small)
       (record { beside = (w - 1) % 4294967296; valued = T.present small; number = eqb-true ((w - 1) / 4294967296) 3 e; value = refl })))
-      (λ n3. picked (SaidBy w) (eqb ((w - 1) % 4294967296) 0) (λ e. plain (eqb-true ((w - 1) % 4294967296) 0 e)) (λ e. tt)))
+      (λ n3. picked (SaidBy ReaderAnswer w) (eqb ((w - 1) % 4294967296) 0) (λ e. plain (eqb-true ((w - 1) % 4294967296) 0 e)) (λ e. tt)))
     where
       small : (w - 1) % 4294967296 < 4294967296
       small = omega arith
 
-      plain : (w - 1) % 4294967296 ≡ 0 → SaidBy w (plainAt ((w - 1) / 4294967296))
+      plain : (w - 1) % 4294967296 ≡ 0 → SaidBy ReaderAnswer w (plainAt ((w - 1) / 4294967296))
       plain v =
-          plain-by 1 _ unfit refl v
-          (plain-by 2 _ damaged refl v
-          (plain-by 5 _ full refl v
-          (plain-by 6 _ unlined refl v
-          (plain-by 7 _ badMark refl v
-          (plain-by 8 _ misfit refl v
-          (plain-by 12 _ short refl v
-          (plain-by 13 _ long refl v
-          (plain-by 18 _ wrongKind refl v tt))))))))
+          plain-by ReaderAnswer w s 1 _ unfit refl v
+          (plain-by ReaderAnswer w s 2 _ damaged refl v
+          (plain-by ReaderAnswer w s 5 _ full refl v
+          (plain-by ReaderAnswer w s 6 _ unlined refl v
+          (plain-by ReaderAnswer w s 7 _ badMark refl v
+          (plain-by ReaderAnswer w s 8 _ misfit refl v
+          (plain-by ReaderAnswer w s 12 _ short refl v
+          (plain-by ReaderAnswer w s 13 _ long refl v
+          (plain-by ReaderAnswer w s 18 _ wrongKind refl v tt))))))))
 
-said-by : (w : ℕ) → SaidBy w (noteAt w)
+said-by : (w : ℕ) → SaidBy ReaderAnswer w (noteAt w)
 unfolding noteAt
-said-by w = picked (SaidBy w) (eqb w 0) (λ e. rw (eqb-true w 0 e) unnoted) (λ e. with-by w (eqb-false w 0 e))
+said-by w = picked (SaidBy ReaderAnswer w) (eqb w 0) (λ e. rw (eqb-true w 0 e) unnoted) (λ e. with-by w (eqb-false w 0 e))
 
 pub said-note : {w : ℕ} {n : Note} → noteAt w ≡ known n → NoteTold ReaderAnswer n w
-said-note {w} e = subst (SaidBy w) e (said-by w)
+said-note {w} e = subst (SaidBy ReaderAnswer w) e (said-by w)
 
--- A reader of such a mark and note, and the words of it.
-pub data Sayable : Note → Type 0 where
-  silent : Sayable unsaid
-  spoken : {a : Answer} → ReaderAnswer a → Sayable (said a)
-
+-- The answers with their values, and their words.
 pub answer-valued : {a : Answer} → ReaderAnswer a → Tellable 4294967296 a
 answer-valued (takes {n} l) = (n, gives l)
 answer-valued (present {x} l) = (x, T.present l)
@@ -125,13 +106,7 @@ answer-valued badMark = (0, plainly 7 refl)
 answer-valued misfit = (0, plainly 8 refl)
 
 pub reader-tells : {a : Answer} → ReaderAnswer a → WordTells 4294967296 a (answerWord a)
-unfolding answerWord
-reader-tells r = let v = answer-valued r .1 in word-tells null (λ e. absurd (never-bare v e)) (omega arith) v
-
-note-written : {n : Note} → Sayable n → NoteTold ReaderAnswer n (noteWord n)
-unfolding noteWord
-note-written silent = unnoted
-note-written (spoken r) = noted r (reader-tells r)
+reader-tells r = always-tells (answer-valued r .1)
 
 -- The eight words written are those of the table.
 reader-write : {w : List ℕ} → OfLength 8 w → (r : Reader) → r .mark < 4294967296 → NoteTold ReaderAnswer (r .note) (noteWord (r .note))
@@ -151,8 +126,9 @@ reader-write (one a (one b (one c (one d (one e (one f (one g (one h end))))))))
       narrow = l;
     }
 
-pub reader-written : (w : List ℕ) (r : Reader) → length w ≡ 8 → r .mark < 4294967296 → Sayable (r .note) → ReaderWords (readerWritten w r) r
-reader-written w r e l s = reader-write (H.long w e) r l (note-written s)
+pub reader-written : (w : List ℕ) (r : Reader) → length w ≡ 8 → r .mark < 4294967296 → Sayable ReaderAnswer (r .note)
+    → ReaderWords (readerWritten w r) r
+reader-written w r e l s = reader-write (H.long w e) r l (note-written (λ a. reader-tells) s)
 
 -- Written twice, the second stands.
 written-over : {w : List ℕ} → OfLength 8 w → (r s : Reader) → readerWritten (readerWritten w r) s ≡ readerWritten w s
@@ -177,10 +153,6 @@ one-reader {w} {r} {s} p q =
     λ i. readerOf (e0 i) (e1 i) (e2 i) (e3 i) (e4 i) (e5 i) (e6 i) (e7 i)
 
 -- And a reader is one list of words.
-pub one-note : {Says : Answer → Type 0} {n : Note} {v w : ℕ} → NoteTold Says n v → NoteTold Says n w → v ≡ w
-one-note unnoted unnoted = refl
-one-note (noted a t) (noted b u) = ap (λ (x : ℕ). 1 + x) (one-word t u)
-
 one-list : {v w : List ℕ} → OfLength 8 v → OfLength 8 w → {r : Reader} → ReaderWords v r → ReaderWords w r → v ≡ w
 one-list (one a (one b (one c (one d (one e (one f (one g (one h end))))))))
     (one a′ (one b′ (one c′ (one d′ (one e′ (one f′ (one g′ (one h′ end)))))))) p q =

@@ -1,9 +1,8 @@
 -- Save comes to the bytes written, or to one of two refusals, and which of them the word tells.
-use mathlib.Core.Path.{_≡_, refl, ap, sym, _∙_}
-use mathlib.Core.Logic.{_↔_}
+use mathlib.Core.Path.{_≡_, refl}
 use mathlib.Core.Bool.{Bool, true, false}
 use mathlib.Core.List.{List, _++_}
-use Prim.Native.Nat.{ℕ, _+_, _*_, _/_, _<_, _≤_}
+use Prim.Native.Nat.{ℕ, _+_, _<_, _≤_}
 use native.Mathlib.Decide.{decLt}
 use native.Mathlib.Omega.{arith}
 use lib.ListN.{length, drop}
@@ -19,8 +18,10 @@ use Rattle.file_rules.specs.File.{setBytes, setSize}
 use Rattle.file_rules.specs.Saving.{Saved, saved, saves}
 use Rattle.file_rules.proofs.Claims.{claims}
 use Rattle.file.proofs.Saving.{size-small}
-use Rattle.exports.specs.Loaders.{SaveWorded, saveWorded}
+use Rattle.exports.specs.Loaders.{saveWorded}
+use Rattle.exports.specs.Told.{gives}
 use Rattle.exports.specs.Filed.{SaveTold}
+use Rattle.exports.proofs.Telling.{plainly, always-tells}
 
 module _ (s : Set) (out : List ℕ) where
   -- Which of the three it comes to.
@@ -60,10 +61,11 @@ module _ (s : Set) (out : List ℕ) where
   unfolding setSize
   small f = size-small s out (fits-exactly s .1 f) refl
 
-  told : {o : Saved} → SaveWay o → SaveTold s out (saveWorded o)
+  told : {o : Saved} → SaveWay o → SaveTold s out o (saveWorded o)
   unfolding saveWorded answerWord
   told (unfit n) =
       record {
+        tells = always-tells (plainly 1 refl);
         one = (λ e. n, λ m. refl);
         two = (λ e. absurd (omega arith), λ p. absurd (n (p .0, p .1)));
         stays = λ e. refl;
@@ -72,6 +74,7 @@ module _ (s : Set) (out : List ℕ) where
       }
   told (damaged f l h) =
       record {
+        tells = always-tells (plainly 2 refl);
         one = (λ e. absurd (omega arith), λ n. absurd (n (f, l)));
         two = (λ e. (f, l, h), λ p. refl);
         stays = λ e. refl;
@@ -81,6 +84,7 @@ module _ (s : Set) (out : List ℕ) where
   told (done f l h) =
       let b = small f in
       record {
+        tells = always-tells (gives b);
         one = (λ e. absurd (omega arith), λ n. absurd (n (f, l)));
         two = (λ e. absurd (omega arith), λ p. absurd (p .2 h));
         stays = λ e. absurd (e (omega arith));
@@ -88,5 +92,5 @@ module _ (s : Set) (out : List ℕ) where
         only = λ e. absurd (e (omega arith));
       }
 
-pub save-tells : (s : Set) (out : List ℕ) → SaveTold s out (saveWorded (saves s out))
+pub save-tells : (s : Set) (out : List ℕ) → SaveTold s out (saves s out) (saveWorded (saves s out))
 save-tells s out = told s out (way s out)

@@ -1,7 +1,7 @@
 -- A word is value + 2^32 * number and the value is below 2^32, so dividing by 2^32 gives both back; and number and value give the answer
 -- back, for a bare number 0, a refusal and a value never look alike.
 use mathlib.Core.Path.{_≡_, refl, ap, sym, _∙_}
-use mathlib.Core.Logic.{_≢_}
+use mathlib.Core.Logic.{_≢_, _↔_}
 use mathlib.Core.Bool.{Bool, true, false, false≢true}
 use mathlib.Core.List.{List}
 use Prim.Native.Nat.{ℕ, _+_, _/_, _%_, _<_, _≤_}
@@ -91,6 +91,27 @@ never-bare (refuses l k m) e = omega (arith, number e)
 never-bare (present l) e = omega (arith, number e)
 never-bare (fails l k m) e = omega (arith, number e)
 
+-- A refusal's number stands in the words that tell that refusal, and in no others: so it stands there exactly when the refusal is made.
+refusal-is : {bare n : ℕ} {a : Answer} {v : ℕ} → 1 ≤ n → n ≢ 3 → n < 100 → Valued bare a v → a .number ≡ n → a ≡ refused n
+refusal-is l d k (gives b) e = absurd (omega arith)
+refusal-is l d k (T.none b) e = absurd (omega arith)
+refusal-is l d k (refuses b c m) e = ap refused e
+refusal-is l d k (present b) e = absurd (d (sym e))
+refusal-is l d k (fails b c m) e = absurd (omega arith)
+
+pub told-when : {bare : ℕ} {a : Answer} {word : ℕ} {P : Type 0} → WordTells bare a word → (n : ℕ) → plainNumber n ≡ true
+    → (a ≡ refused n) ↔ P
+    → (word / 4294967296 ≡ n) ↔ P
+told-when {a = a} {word} {P} t n e h = go (plainly {bare = 4294967296} n e)
+  where
+    go : Valued 4294967296 (refused n) 0 → (word / 4294967296 ≡ n) ↔ P
+    go (refuses l k d) =
+        (λ w. h .0 (refusal-is l d (omega arith) (t .valued) (sym (t .number) ∙ w)), λ p. t .number ∙ number (h .1 p))
+
+-- What comes with number 0 is its own word.
+pub told-given : {bare : ℕ} {a : Answer} {word v : ℕ} → WordTells bare a word → a ≡ given v → word ≡ v
+told-given t e = omega (arith, t .number, t .value, number e, value-some (t .valued) (value e))
+
 -- The word made of an answer tells it.
 pub word-tells : (b : ℕ) {bare : ℕ} {a : Answer} {v : ℕ} → (a ≡ nothing → b ≡ bare) → bare ≤ 4294967296 → Valued bare a v
     → WordTells bare a (wordOf b a)
@@ -106,6 +127,11 @@ word-tells b s l (fails {t} {s = x} k m d) = record { beside = x; valued = fails
 pub answer-tells : {a : Answer} {v : ℕ} → Valued null a v → WordTells null a (answerWord a)
 unfolding answerWord
 answer-tells h = word-tells null (λ e. refl) (omega arith) h
+
+-- Where something always comes with number 0.
+pub always-tells : {a : Answer} {v : ℕ} → Valued 4294967296 a v → WordTells 4294967296 a (answerWord a)
+unfolding answerWord
+always-tells h = word-tells null (λ e. absurd (never-bare h e)) (omega arith) h
 
 pub check-tells : {a : Answer} {v : ℕ} → Valued 0 a v → WordTells 0 a (checkWord a)
 unfolding checkWord

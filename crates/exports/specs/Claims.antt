@@ -37,8 +37,10 @@ use Rattle.upload_rules.specs.Reading.{session, readChunk, readEnd}
 use Rattle.file_rules.specs.Saving.{saves}
 use Rattle.file_rules.specs.Loader.{Loader}
 use Rattle.file_rules.specs.Loading.{loading, loadChunk, loadEnd}
+use Rattle.move_rules.specs.Moving.{moves}
+use Rattle.figure_rules.specs.Tally.{tallies}
 use Rattle.exports.specs.Words.{searchWord, checkWord, Worded, worded, BatchWorded, batchWorded, WhyWorded, whyWorded}
-use Rattle.exports.specs.Words.{SalvageWorded, salvageWorded}
+use Rattle.exports.specs.Words.{SalvageWorded, salvageWorded, MoveWorded, moveWorded, TallyWorded, tallyWorded}
 use Rattle.exports.specs.Readers.{saying, readerIn, ReadWorded, startedReader, chunkRead, endedReader}
 use Rattle.exports.specs.Loaders.{SaveWorded, saveWorded, sayingLoader, loaderIn, LoaderWorded, startedLoader, LoadWorded}
 use Rattle.exports.specs.Loaders.{chunkLoaded, endedLoader}
@@ -46,6 +48,8 @@ use Rattle.exports.specs.Cursors.{cursorIn, Kept, startedInto, walkedInt
 use Rattle.exports.specs.Told.{WordTells, LooksTold}
 use Rattle.exports.specs.Lent.{ReaderWords, LoaderWords, CursorWords, ReportWord}
 use Rattle.exports.specs.Filed.{SaveTold, LoadStartTold, LoadTold, UnknownLoader, LoadContinued, FileTold}
+use Rattle.exports.specs.Moved.{MoveTold}
+use Rattle.exports.specs.Tallied.{TallyTold}
 use Rattle.exports.specs.Leaving.{WritesTold, BatchTold, UnknownReader, StartTold, ReadTold, Continued, UploadTold, CursorMade}
 use Rattle.exports.specs.Leaving.{WalkTold, WordsListing, WordsWalk, ReasonTold, SalvageTold}
 
@@ -90,7 +94,7 @@ pub record Claims : Type 0 where
   pub uploading : (ix : Index) → FitIndex ix → (h : Sound (ix .live)) → Places (contents h) → (w : List ℕ) → length w ≡ 8
       → (l : List ℕ) → Bytes l → UploadTold ix h w l
   -- save, and the loader likewise
-  pub save-tells : (s : Set) (out : List ℕ) → SaveTold s out (saveWorded (saves s out))
+  pub save-tells : (s : Set) (out : List ℕ) → SaveTold s out (saves s out) (saveWorded (saves s out))
   pub loader-words : (w : List ℕ) (r : Loader) → (loaderIn w ≡ sayingLoader r) ↔ LoaderWords w r
   pub loader-one : (v w : List ℕ) (r : Loader) → LoaderWords v r → LoaderWords w r → v ≡ w
   pub load-start : (w : List ℕ) → LoadStartTold w
@@ -101,6 +105,9 @@ pub record Claims : Type 0 where
       → UnknownLoader t w (chunkLoaded t w l) × UnknownLoader t w (endedLoader t w)
   pub load-going : (t : Set) (w : List ℕ) → LoadContinued t w
   pub load-file : (t : Set) (w : List ℕ) → length w ≡ 8 → (l : List ℕ) → Bytes l → FileTold t w l
+  -- a move of a bin, and the tally of a set
+  pub move-tells : (s : Set) (k i : ℕ) → MoveTold s k i (moves s k i) (moveWorded (moves s k i))
+  pub tally-tells : (s : Set) (t : List ℕ) → TallyTold s t (tallies s t) (tallyWorded (tallies s t))
   -- the cursor likewise
   pub cursor-words : (w : List ℕ) → length w ≡ 11 → (c : Cursor) → (cursorIn w ≡ c) ↔ CursorWords w c
   pub start-tells : (s : Set) (t : ℕ) (w : List ℕ) → CursorMade s t w
@@ -132,6 +139,8 @@ pub record Claims : Type 0 where
   pub load-start-one : (w : List ℕ) → OneAnswer (λ (r : LoaderWorded). r ≡ startedLoader w)
   pub load-chunk-one : (t : Set) (w chunk : List ℕ) → OneAnswer (λ (r : LoadWorded). r ≡ chunkLoaded t w chunk)
   pub load-end-one : (t : Set) (w : List ℕ) → OneAnswer (λ (r : LoadWorded). r ≡ endedLoader t w)
+  pub move-one : (s : Set) (k i : ℕ) → OneAnswer (λ (r : MoveWorded). r ≡ moveWorded (moves s k i))
+  pub tally-one : (s : Set) (t : List ℕ) → OneAnswer (λ (r : TallyWorded). r ≡ tallyWorded (tallies s t))
   pub accept-one : (s : Set) → OneAnswer (λ (r : ℕ). r ≡ answerWord (accepts s))
   pub lookup-one : (s : Set) (table hash key : ℕ) → OneAnswer (λ (r : ℕ). r ≡ searchWord (counted (lookups s table hash key)))
   pub start-one : (s : Set) (table : ℕ) (cursor : List ℕ) → OneAnswer (λ (r : Kept). r ≡ startedInto s table cursor)

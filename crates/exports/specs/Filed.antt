@@ -4,13 +4,13 @@ use mathlib.Core.Logic.{_≢_, _↔_}
 use mathlib.Core.List.{List, _++_}
 use Prim.Native.Nat.{ℕ, _/_, _<_, _≤_}
 use lib.ListN.{length, drop}
-use Rattle.slots.specs.Words.{null}
 use Rattle.slots.specs.Answers.{Answer, given, refused}
 use Rattle.endian.specs.Bytes.{Bytes}
 use Rattle.upload_rules.specs.Reader.{said}
 use Rattle.set_rules.specs.Words.{Set, Fit}
 use Rattle.set_rules.specs.Accepted.{Accepted}
 use Rattle.file_rules.specs.File.{setBytes, setSize, countsIn}
+use Rattle.file_rules.specs.Saving.{Saved}
 use Rattle.file_rules.specs.Faults.{WholeFile, LoadVerdict}
 use Rattle.file_rules.specs.Left.{padded, Zeroed}
 use Rattle.file_rules.specs.Loader.{Loader, loaderOf, newLoader, FitLoader}
@@ -20,8 +20,9 @@ use Rattle.exports.specs.Lent.{LoaderWords}
 use Rattle.exports.specs.Leaving.{RefusedBy}
 use Rattle.exports.specs.Loaders.{SaveWorded, startedLoader, LoadWorded, chunkLoaded, endedLoader}
 
--- oz_save, on any words.
-pub record SaveTold (s : Set) (out : List ℕ) (r : SaveWorded) : Type 0 where
+-- oz_save, on any words: of the rules' call that comes to o the word tells the answer, and what is left is what the rules say.
+pub record SaveTold (s : Set) (out : List ℕ) (o : Saved) (r : SaveWorded) : Type 0 where
+  pub tells : WordTells 4294967296 (o .answer) (r .word)
   -- "save 1 (also output too short), 2 (not accepted); nothing is written then"
   pub one : (r .word / 4294967296 ≡ 1) ↔ ((Fit s × (setSize s ≤ length out)) → ⊥)
   pub two : (r .word / 4294967296 ≡ 2) ↔ (Fit s × (setSize s ≤ length out) × (Accepted s → ⊥))

@@ -7,4 +7,6 @@ pub mod Told
 pub mod Lent
 pub mod Leaving
 pub mod Filed
+pub mod Moved
+pub mod Tallied
 pub mod Claims

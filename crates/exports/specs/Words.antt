@@ -8,6 +8,9 @@ use Rattle.index_rules.specs.Index.{Index, Outcome}
 use Rattle.index_rules.specs.Batch.{Batched}
 use Rattle.night_rules.specs.Account.{Explained}
 use Rattle.night_rules.specs.Salvage.{Salvaged}
+use Rattle.set_rules.specs.Words.{Set}
+use Rattle.move_rules.specs.Moving.{MoveOutcome}
+use Rattle.figure_rules.specs.Tally.{TallyOutcome}
 
 -- "with looks it is value + 2^32 * number + 2^48 * looks": how many slots were looked at stands above the answer's 48 bits.
 unfoldable pub searchWord : Counted → ℕ
@@ -50,3 +53,19 @@ pub record SalvageWorded : Type 0 where
 
 unfoldable pub salvageWorded : Salvaged → SalvageWorded
 salvageWorded o = record { word = answerWord (o .answer); into = o .into; report = o .report }
+
+-- And a move, which leaves the set.
+pub record MoveWorded : Type 0 where
+  pub word : ℕ
+  pub left : Set
+
+unfoldable pub moveWorded : MoveOutcome → MoveWorded
+moveWorded o = record { word = answerWord (o .answer); left = o .set }
+
+-- And a tally, which leaves the totals.
+pub record TallyWorded : Type 0 where
+  pub word : ℕ
+  pub totals : List ℕ
+
+unfoldable pub tallyWorded : TallyOutcome → TallyWorded
+tallyWorded o = record { word = answerWord (o .answer); totals = o .totals }

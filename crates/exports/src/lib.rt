@@ -2,9 +2,11 @@
 mod cursor;
 pub mod files;
 pub mod frozen;
+pub mod moves;
 pub mod reads;
 pub mod reasons;
 pub mod saves;
+pub mod totals;
 pub mod uploads;
 mod words;
 pub mod writes;

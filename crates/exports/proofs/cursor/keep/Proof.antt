@@ -5,12 +5,6 @@ use borrow.Author.Needs.{needs}
 use Rattle.exports.proofs.cursor.keep.Statement.{statement}
 use Rattle.exports.proofs.cursor.keep.Tie as tie
 
-write-requires : tie.Need-write-requires
-write-requires c κs = search needs
-
-same-length : tie.Need-same-length
-same-length c = search needs
-
 returns : tie.Need-returns
 unfolding leftIn
 returns c =
@@ -22,4 +16,4 @@ unfolding leftIn
 returns-2 c = rw (le-ltb _ _ (c .if1 .left))
 
 pub keep-spec : {M : Type 1} → statement M
-keep-spec = tie.close (tie.spec write-requires same-length returns returns-2)
+keep-spec = tie.close (tie.spec (λ c κs. search needs) (λ c. search needs) returns returns-2)

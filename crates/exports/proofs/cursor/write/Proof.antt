@@ -7,63 +7,6 @@ use borrow.Author.Needs.{needs}
 use Rattle.exports.proofs.cursor.write.Statement.{statement}
 use Rattle.exports.proofs.cursor.write.Tie as tie
 
-put-word-requires : tie.Need-put-word-requires
-put-word-requires c κs = search needs
-
-put-word-requires-2 : tie.Need-put-word-requires-2
-put-word-requires-2 c κs = search needs
-
-array-read-put-word : tie.Need-array-read-put-word
-array-read-put-word c = search needs
-
-put-word-requires-3 : tie.Need-put-word-requires-3
-put-word-requires-3 c κs = search needs
-
-array-read-put-word-2 : tie.Need-array-read-put-word-2
-array-read-put-word-2 c = search needs
-
-put-word-requires-4 : tie.Need-put-word-requires-4
-put-word-requires-4 c κs = search needs
-
-array-read-put-word-3 : tie.Need-array-read-put-word-3
-array-read-put-word-3 c = search needs
-
-put-word-requires-5 : tie.Need-put-word-requires-5
-put-word-requires-5 c κs = search needs
-
-array-read-put-word-4 : tie.Need-array-read-put-word-4
-array-read-put-word-4 c = search needs
-
-put-word-requires-6 : tie.Need-put-word-requires-6
-put-word-requires-6 c κs = search needs
-
-array-read-put-word-5 : tie.Need-array-read-put-word-5
-array-read-put-word-5 c = search needs
-
-put-word-requires-7 : tie.Need-put-word-requires-7
-put-word-requires-7 c κs = search needs
-
-array-read-put-word-6 : tie.Need-array-read-put-word-6
-array-read-put-word-6 c = search needs
-
-put-word-requires-8 : tie.Need-put-word-requires-8
-put-word-requires-8 c κs = search needs
-
-array-read-put-word-7 : tie.Need-array-read-put-word-7
-array-read-put-word-7 c = search needs
-
-put-word-requires-9 : tie.Need-put-word-requires-9
-put-word-requires-9 c κs = search needs
-
-array-read-put-word-8 : tie.Need-array-read-put-word-8
-array-read-put-word-8 c = search needs
-
-put-word-requires-10 : tie.Need-put-word-requires-10
-put-word-requires-10 c κs = search needs
-
-put-word-requires-11 : tie.Need-put-word-requires-11
-put-word-requires-11 c κs = search needs
-
 same-length : tie.Need-same-length
 same-length c =
     let c1 = c .before in
@@ -138,24 +81,7 @@ pub write-spec : {M : Type 1} → statement M
 write-spec =
     tie.close
     (tie.spec
-    put-word-requires
-    put-word-requires-2
-    array-read-put-word
-    put-word-requires-3
-    array-read-put-word-2
-    put-word-requires-4
-    array-read-put-word-3
-    put-word-requires-5
-    array-read-put-word-4
-    put-word-requires-6
-    array-read-put-word-5
-    put-word-requires-7
-    array-read-put-word-6
-    put-word-requires-8
-    array-read-put-word-7
-    put-word-requires-9
-    array-read-put-word-8
-    put-word-requires-10
-    put-word-requires-11
-    same-length
-    returns)
+    (λ c κs. search needs) (λ c κs. search needs) (λ c. search needs) (λ c κs. search needs) (λ c. search needs) (λ c κs. search needs)
+    (λ c. search needs) (λ c κs. search needs) (λ c. search needs) (λ c κs. search needs) (λ c. search needs) (λ c κs. search needs)
+    (λ c. search needs) (λ c κs. search needs) (λ c. search needs) (λ c κs. search needs) (λ c. search needs) (λ c κs. search needs)
+    (λ c κs. search needs) same-length returns)

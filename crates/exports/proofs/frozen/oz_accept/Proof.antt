@@ -5,17 +5,8 @@ use borrow.Author.Needs.{needs}
 use Rattle.exports.proofs.frozen.oz_accept.Statement.{statement}
 use Rattle.exports.proofs.frozen.oz_accept.Tie as tie
 
-accept-requires : tie.Need-accept-requires
-accept-requires c κs = search needs
-
-answer-requires : tie.Need-answer-requires
-answer-requires c κs = search needs
-
-answer-word-requires : tie.Need-answer-word-requires
-answer-word-requires c κs = search needs
-
 returns : tie.Need-returns
 returns c = c .answer-word .ensures ∙ ap answerWord (c .before .answer .ensures ∙ c .before .before .accept .ensures)
 
 pub oz-accept-spec : {M : Type 1} → statement M
-oz-accept-spec = tie.close (tie.spec accept-requires answer-requires answer-word-requires returns)
+oz-accept-spec = tie.close (tie.spec (λ c κs. search needs) (λ c κs. search needs) (λ c κs. search needs) returns)

@@ -12,12 +12,6 @@ use borrow.Author.Needs.{needs}
 use Rattle.exports.proofs.frozen.oz_lookup.Statement.{statement}
 use Rattle.exports.proofs.frozen.oz_lookup.Tie as tie
 
-lookup-requires : tie.Need-lookup-requires
-lookup-requires c κs = search needs
-
-counted-requires : tie.Need-counted-requires
-counted-requires c κs = search needs
-
 search-word-requires : tie.Need-search-word-requires
 search-word-requires c κs =
     let is = c .counted .ensures ∙ c .before .lookup .ensures in
@@ -32,4 +26,4 @@ returns : tie.Need-returns
 returns c = c .search-word .ensures ∙ ap searchWord (c .before .counted .ensures ∙ c .before .before .lookup .ensures)
 
 pub oz-lookup-spec : {M : Type 1} → statement M
-oz-lookup-spec = tie.close (tie.spec lookup-requires counted-requires search-word-requires returns)
+oz-lookup-spec = tie.close (tie.spec (λ c κs. search needs) (λ c κs. search needs) search-word-requires returns)

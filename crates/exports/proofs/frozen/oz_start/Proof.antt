@@ -8,27 +8,9 @@ use borrow.Author.Needs.{needs}
 use Rattle.exports.proofs.frozen.oz_start.Statement.{statement}
 use Rattle.exports.proofs.frozen.oz_start.Tie as tie
 
-packed-requires : tie.Need-packed-requires
-packed-requires c κs = search needs
-
 returns : tie.Need-returns
 unfolding startedInto
 returns c = short _ (c .before .if1 .taken) (c .packed .ensures)
-
-start-requires : tie.Need-start-requires
-start-requires c κs = search needs
-
-answer-requires : tie.Need-answer-requires
-answer-requires c κs = search needs
-
-answer-word-requires : tie.Need-answer-word-requires
-answer-word-requires c κs = search needs
-
-keep-requires : tie.Need-keep-requires
-keep-requires c κs = search needs
-
-same-length : tie.Need-same-length
-same-length c = search needs
 
 returns-2 : tie.Need-returns-2
 unfolding startedInto
@@ -45,11 +27,5 @@ pub oz-start-spec : {M : Type 1} → statement M
 oz-start-spec =
     tie.close
     (tie.spec
-    packed-requires
-    returns
-    start-requires
-    answer-requires
-    answer-word-requires
-    keep-requires
-    same-length
-    returns-2)
+    (λ c κs. search needs) returns (λ c κs. search needs) (λ c κs. search needs) (λ c κs. search needs) (λ c κs. search needs)
+    (λ c. search needs) returns-2)

@@ -6,18 +6,9 @@ use borrow.Author.Needs.{needs}
 use Rattle.exports.proofs.reads.oz_check.Statement.{statement}
 use Rattle.exports.proofs.reads.oz_check.Tie as tie
 
-check-requires : tie.Need-check-requires
-check-requires c κs = search needs
-
-answer-requires : tie.Need-answer-requires
-answer-requires c κs = search needs
-
-word-with-requires : tie.Need-word-with-requires
-word-with-requires c κs = search needs
-
 returns : tie.Need-returns
 unfolding checkWord
 returns c = c .word-with .ensures ∙ ap (wordOf 0) (c .before .answer .ensures ∙ c .before .before .check .ensures)
 
 pub oz-check-spec : {M : Type 1} → statement M
-oz-check-spec = tie.close (tie.spec check-requires answer-requires word-with-requires returns)
+oz-check-spec = tie.close (tie.spec (λ c κs. search needs) (λ c κs. search needs) (λ c κs. search needs) returns)

@@ -12,12 +12,6 @@ use borrow.Author.Needs.{needs}
 use Rattle.exports.proofs.reads.oz_find.Statement.{statement}
 use Rattle.exports.proofs.reads.oz_find.Tie as tie
 
-find-requires : tie.Need-find-requires
-find-requires c κs = search needs
-
-counted-requires : tie.Need-counted-requires
-counted-requires c κs = search needs
-
 search-word-requires : tie.Need-search-word-requires
 search-word-requires c κs =
     let is = c .counted .ensures ∙ c .before .find .ensures in
@@ -31,4 +25,4 @@ returns : tie.Need-returns
 returns c = c .search-word .ensures ∙ ap searchWord (c .before .counted .ensures ∙ c .before .before .find .ensures)
 
 pub oz-find-spec : {M : Type 1} → statement M
-oz-find-spec = tie.close (tie.spec find-requires counted-requires search-word-requires returns)
+oz-find-spec = tie.close (tie.spec (λ c κs. search needs) (λ c κs. search needs) search-word-requires returns)

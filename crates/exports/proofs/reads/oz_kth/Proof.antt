@@ -5,17 +5,8 @@ use borrow.Author.Needs.{needs}
 use Rattle.exports.proofs.reads.oz_kth.Statement.{statement}
 use Rattle.exports.proofs.reads.oz_kth.Tie as tie
 
-kth-requires : tie.Need-kth-requires
-kth-requires c κs = search needs
-
-answer-requires : tie.Need-answer-requires
-answer-requires c κs = search needs
-
-answer-word-requires : tie.Need-answer-word-requires
-answer-word-requires c κs = search needs
-
 returns : tie.Need-returns
 returns c = c .answer-word .ensures ∙ ap answerWord (c .before .answer .ensures ∙ c .before .before .kth .ensures)
 
 pub oz-kth-spec : {M : Type 1} → statement M
-oz-kth-spec = tie.close (tie.spec kth-requires answer-requires answer-word-requires returns)
+oz-kth-spec = tie.close (tie.spec (λ c κs. search needs) (λ c κs. search needs) (λ c κs. search needs) returns)

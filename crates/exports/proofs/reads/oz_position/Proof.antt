@@ -5,17 +5,8 @@ use borrow.Author.Needs.{needs}
 use Rattle.exports.proofs.reads.oz_position.Statement.{statement}
 use Rattle.exports.proofs.reads.oz_position.Tie as tie
 
-position-requires : tie.Need-position-requires
-position-requires c κs = search needs
-
-answer-requires : tie.Need-answer-requires
-answer-requires c κs = search needs
-
-answer-word-requires : tie.Need-answer-word-requires
-answer-word-requires c κs = search needs
-
 returns : tie.Need-returns
 returns c = c .answer-word .ensures ∙ ap answerWord (c .before .answer .ensures ∙ c .before .before .position .ensures)
 
 pub oz-position-spec : {M : Type 1} → statement M
-oz-position-spec = tie.close (tie.spec position-requires answer-requires answer-word-requires returns)
+oz-position-spec = tie.close (tie.spec (λ c κs. search needs) (λ c κs. search needs) (λ c κs. search needs) returns)

@@ -5,17 +5,8 @@ use borrow.Author.Needs.{needs}
 use Rattle.exports.proofs.reads.oz_sound.Statement.{statement}
 use Rattle.exports.proofs.reads.oz_sound.Tie as tie
 
-sound-requires : tie.Need-sound-requires
-sound-requires c κs = search needs
-
-answer-requires : tie.Need-answer-requires
-answer-requires c κs = search needs
-
-answer-word-requires : tie.Need-answer-word-requires
-answer-word-requires c κs = search needs
-
 returns : tie.Need-returns
 returns c = c .answer-word .ensures ∙ ap answerWord (c .before .answer .ensures ∙ c .before .before .sound .ensures)
 
 pub oz-sound-spec : {M : Type 1} → statement M
-oz-sound-spec = tie.close (tie.spec sound-requires answer-requires answer-word-requires returns)
+oz-sound-spec = tie.close (tie.spec (λ c κs. search needs) (λ c κs. search needs) (λ c κs. search needs) returns)

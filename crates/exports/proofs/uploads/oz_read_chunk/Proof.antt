@@ -7,56 +7,11 @@ use borrow.Author.Needs.{needs}
 use Rattle.exports.proofs.uploads.oz_read_chunk.Statement.{statement}
 use Rattle.exports.proofs.uploads.oz_read_chunk.Tie as tie
 
-read-words-requires : tie.Need-read-words-requires
-read-words-requires c κs = search needs
-
-enum-known-said : tie.Need-enum-known-said
-enum-known-said c = search needs
-
-enum-told : tie.Need-enum-told
-enum-told c = search needs
-
-packed-requires : tie.Need-packed-requires
-packed-requires c κs = search needs
-
-same-length : tie.Need-same-length
-same-length c = search needs
-
 returns : tie.Need-returns
 returns c =
     let c1 = c .before in
     let c3 = c1 .before .before in
     chunk-none _ _ (c3 .read-words .ensures) _ (ap readerAtOf (c1 .enum-told .given .1)) (c .packed .ensures)
-
-chunk-requires : tie.Need-chunk-requires
-chunk-requires c κs = search needs
-
-write-words-requires : tie.Need-write-words-requires
-write-words-requires c κs = search needs
-
-answer-requires : tie.Need-answer-requires
-answer-requires c κs = search needs
-
-answer-word-requires : tie.Need-answer-word-requires
-answer-word-requires c κs = search needs
-
-same-length-2 : tie.Need-same-length-2
-same-length-2 c = search needs
-
-same-length-3 : tie.Need-same-length-3
-same-length-3 c = search needs
-
-same-length-4 : tie.Need-same-length-4
-same-length-4 c = search needs
-
-same-length-5 : tie.Need-same-length-5
-same-length-5 c = search needs
-
-same-length-6 : tie.Need-same-length-6
-same-length-6 c = search needs
-
-same-length-7 : tie.Need-same-length-7
-same-length-7 c = search needs
 
 returns-2 : tie.Need-returns-2
 returns-2 c =
@@ -72,20 +27,6 @@ pub oz-read-chunk-spec : {M : Type 1} → statement M
 oz-read-chunk-spec =
     tie.close
     (tie.spec
-    read-words-requires
-    enum-known-said
-    enum-told
-    packed-requires
-    same-length
-    returns
-    chunk-requires
-    write-words-requires
-    answer-requires
-    answer-word-requires
-    same-length-2
-    same-length-3
-    same-length-4
-    same-length-5
-    same-length-6
-    same-length-7
-    returns-2)
+    (λ c κs. search needs) (λ c. search needs) (λ c. search needs) (λ c κs. search needs) (λ c. search needs) returns
+    (λ c κs. search needs) (λ c κs. search needs) (λ c κs. search needs) (λ c κs. search needs) (λ c. search needs) (λ c. search needs)
+    (λ c. search needs) (λ c. search needs) (λ c. search needs) (λ c. search needs) returns-2)

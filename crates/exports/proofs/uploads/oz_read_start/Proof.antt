@@ -6,26 +6,8 @@ use borrow.Author.Needs.{needs}
 use Rattle.exports.proofs.uploads.oz_read_start.Statement.{statement}
 use Rattle.exports.proofs.uploads.oz_read_start.Tie as tie
 
-packed-requires : tie.Need-packed-requires
-packed-requires c κs = search needs
-
 returns : tie.Need-returns
 returns c = start-short _ _ (c .before .if1 .taken) (c .packed .ensures)
-
-start-requires : tie.Need-start-requires
-start-requires c κs = search needs
-
-answer-requires : tie.Need-answer-requires
-answer-requires c κs = search needs
-
-answer-word-requires : tie.Need-answer-word-requires
-answer-word-requires c κs = search needs
-
-write-words-requires : tie.Need-write-words-requires
-write-words-requires c κs = search needs
-
-same-length : tie.Need-same-length
-same-length c = search needs
 
 returns-2 : tie.Need-returns-2
 returns-2 c =
@@ -50,12 +32,5 @@ pub oz-read-start-spec : {M : Type 1} → statement M
 oz-read-start-spec =
     tie.close
     (tie.spec
-    packed-requires
-    returns
-    start-requires
-    answer-requires
-    answer-word-requires
-    write-words-requires
-    same-length
-    returns-2
-    returns-3)
+    (λ c κs. search needs) returns (λ c κs. search needs) (λ c κs. search needs) (λ c κs. search needs) (λ c κs. search needs)
+    (λ c. search needs) returns-2 returns-3)

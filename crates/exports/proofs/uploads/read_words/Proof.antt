@@ -11,23 +11,8 @@ use Rattle.exports.proofs.uploads.read_words.Tie as tie
 returns : tie.Need-returns
 returns c = not-eight _ (c .if1 .taken)
 
-wide-requires : tie.Need-wide-requires
-wide-requires c κs = search needs
-
 returns-2 : tie.Need-returns-2
 returns-2 c = wide-mark _ (c .before .before .if1 .left) (c .before .wide .ensures) (c .if2 .taken)
-
-wide-requires-2 : tie.Need-wide-requires-2
-wide-requires-2 c κs = search needs
-
-of-word-requires : tie.Need-of-word-requires
-of-word-requires c κs = search needs
-
-enum-known-said : tie.Need-enum-known-said
-enum-known-said c = search needs
-
-enum-told : tie.Need-enum-told
-enum-told c = search needs
 
 returns-3 : tie.Need-returns-3
 returns-3 c =
@@ -38,27 +23,6 @@ returns-3 c =
     let c6 = c5 .before in
     no-note _ (c6 .if1 .left) (c5 .wide .ensures) (c4 .if2 .left) (c2 .of-word .ensures ∙ ap noteAt (c3 .wide2 .ensures))
     (ap noteAtOf (c .enum-told .given .1))
-
-wide-requires-3 : tie.Need-wide-requires-3
-wide-requires-3 c κs = search needs
-
-wide-requires-4 : tie.Need-wide-requires-4
-wide-requires-4 c κs = search needs
-
-wide-requires-5 : tie.Need-wide-requires-5
-wide-requires-5 c κs = search needs
-
-wide-requires-6 : tie.Need-wide-requires-6
-wide-requires-6 c κs = search needs
-
-wide-requires-7 : tie.Need-wide-requires-7
-wide-requires-7 c κs = search needs
-
-cast-t13 : tie.Need-cast-t13
-cast-t13 c = search needs
-
-wide-requires-8 : tie.Need-wide-requires-8
-wide-requires-8 c κs = search needs
 
 returns-4 : tie.Need-returns-4
 returns-4 c =
@@ -83,19 +47,6 @@ pub read-words-spec : {M : Type 1} → statement M
 read-words-spec =
     tie.close
     (tie.spec
-    returns
-    wide-requires
-    returns-2
-    wide-requires-2
-    of-word-requires
-    enum-known-said
-    enum-told
-    returns-3
-    wide-requires-3
-    wide-requires-4
-    wide-requires-5
-    wide-requires-6
-    wide-requires-7
-    cast-t13
-    wide-requires-8
-    returns-4)
+    returns (λ c κs. search needs) returns-2 (λ c κs. search needs) (λ c κs. search needs) (λ c. search needs) (λ c. search needs)
+    returns-3 (λ c κs. search needs) (λ c κs. search needs) (λ c κs. search needs) (λ c κs. search needs) (λ c κs. search needs)
+    (λ c. search needs) (λ c κs. search needs) returns-4)

@@ -6,36 +6,6 @@ use borrow.Author.Needs.{needs}
 use Rattle.exports.proofs.uploads.write_words.Statement.{statement}
 use Rattle.exports.proofs.uploads.write_words.Tie as tie
 
-put-wide-requires : tie.Need-put-wide-requires
-put-wide-requires c κs = search needs
-
-put-wide-requires-2 : tie.Need-put-wide-requires-2
-put-wide-requires-2 c κs = search needs
-
-put-wide-requires-3 : tie.Need-put-wide-requires-3
-put-wide-requires-3 c κs = search needs
-
-put-wide-requires-4 : tie.Need-put-wide-requires-4
-put-wide-requires-4 c κs = search needs
-
-put-wide-requires-5 : tie.Need-put-wide-requires-5
-put-wide-requires-5 c κs = search needs
-
-cast-put-wide : tie.Need-cast-put-wide
-cast-put-wide c = search needs
-
-put-wide-requires-6 : tie.Need-put-wide-requires-6
-put-wide-requires-6 c κs = search needs
-
-put-wide-requires-7 : tie.Need-put-wide-requires-7
-put-wide-requires-7 c κs = search needs
-
-word-requires : tie.Need-word-requires
-word-requires c κs = search needs
-
-put-wide-requires-8 : tie.Need-put-wide-requires-8
-put-wide-requires-8 c κs = search needs
-
 same-length : tie.Need-same-length
 same-length c =
     let c2 = c .before .before in
@@ -74,15 +44,5 @@ pub write-words-spec : {M : Type 1} → statement M
 write-words-spec =
     tie.close
     (tie.spec
-    put-wide-requires
-    put-wide-requires-2
-    put-wide-requires-3
-    put-wide-requires-4
-    put-wide-requires-5
-    cast-put-wide
-    put-wide-requires-6
-    put-wide-requires-7
-    word-requires
-    put-wide-requires-8
-    same-length
-    returns)
+    (λ c κs. search needs) (λ c κs. search needs) (λ c κs. search needs) (λ c κs. search needs) (λ c κs. search needs) (λ c. search needs)
+    (λ c κs. search needs) (λ c κs. search needs) (λ c κs. search needs) (λ c κs. search needs) same-length returns)

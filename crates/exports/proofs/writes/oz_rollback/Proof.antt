@@ -6,30 +6,6 @@ use Rattle.exports.proofs.Telling.{tells}
 use Rattle.exports.proofs.writes.oz_rollback.Statement.{statement}
 use Rattle.exports.proofs.writes.oz_rollback.Tie as tie
 
-rollback-requires : tie.Need-rollback-requires
-rollback-requires c κs = search needs
-
-answer-requires : tie.Need-answer-requires
-answer-requires c κs = search needs
-
-answer-word-requires : tie.Need-answer-word-requires
-answer-word-requires c κs = search needs
-
-same-length : tie.Need-same-length
-same-length c = search needs
-
-same-length-2 : tie.Need-same-length-2
-same-length-2 c = search needs
-
-same-length-3 : tie.Need-same-length-3
-same-length-3 c = search needs
-
-same-length-4 : tie.Need-same-length-4
-same-length-4 c = search needs
-
-same-length-5 : tie.Need-same-length-5
-same-length-5 c = search needs
-
 returns : tie.Need-returns
 returns c =
     let c1 = c .before in
@@ -40,12 +16,5 @@ pub oz-rollback-spec : {M : Type 1} → statement M
 oz-rollback-spec =
     tie.close
     (tie.spec
-    rollback-requires
-    answer-requires
-    answer-word-requires
-    same-length
-    same-length-2
-    same-length-3
-    same-length-4
-    same-length-5
-    returns)
+    (λ c κs. search needs) (λ c κs. search needs) (λ c κs. search needs) (λ c. search needs) (λ c. search needs) (λ c. search needs)
+    (λ c. search needs) (λ c. search needs) returns)

@@ -1,0 +1,16 @@
+-- The library comes to what the model does, and its word is that answer's.
+use mathlib.Core.Path.{ap, _∙_}
+use Rattle.slots.specs.Answers.{answerWord}
+use Rattle.exports.proofs.Tallying.{tells-tally}
+use borrow.Author.Needs.{needs}
+use Rattle.exports.proofs.totals.oz_tally.Statement.{statement}
+use Rattle.exports.proofs.totals.oz_tally.Tie as tie
+
+returns : tie.Need-returns
+returns c =
+    let c1 = c .before in
+    let c2 = c1 .before .before .before in
+    tells-tally (c .answer-word .ensures ∙ ap answerWord (c1 .answer .ensures)) (c2 .tally .ensures)
+
+pub oz-tally-spec : {M : Type 1} → statement M
+oz-tally-spec = tie.close (tie.spec (λ c κs. search needs) (λ c κs. search needs) (λ c κs. search needs) (λ c. search needs) returns)
