@@ -4,7 +4,7 @@ use mathlib.Core.List.{List}
 use Prim.Native.Nat.{ℕ}
 use native.Mathlib.Omega.{arith}
 use lib.Dec.{ltb}
-use Rattle.slots.specs.Answers.{Answer, refused, answerWord}
+use Rattle.slots.specs.Answers.{Answer, answerWord}
 use Rattle.set_rules.specs.Words.{Set}
 use Rattle.figure_rules.specs.Totals.{countedIn, mostSets, fitsTotals}
 use Rattle.figure_rules.specs.Tally.{TallyOutcome, tallyOutcome, isTaken, tallies}

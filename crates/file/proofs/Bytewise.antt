@@ -1,24 +1,21 @@
 -- One byte at a time: a word's bytes are gathered, and the last of them puts it where it belongs.
-use mathlib.Core.Path.{_≡_, refl, ap, sym, _∙_, subst}
+use mathlib.Core.Path.{_≡_, refl, ap, sym, _∙_}
 use mathlib.Core.Bool.{Bool, true, false}
 use mathlib.Core.Logic.{_≢_}
 use mathlib.Core.List.{List, []}
 use Prim.Native.Nat.{ℕ, zero, suc, _+_, _-_, _*_, _/_, _%_, _^_, _<_, _≤_}
 use native.Mathlib.Omega.{arith}
-use lib.ListN.{length, set}
-use lib.Dec.{eqb, ltb}
+use lib.ListN.{set}
 use borrow.Author.Tests.{eq-eqb, ne-eqb, lt-ltb, le-ltb}
-use Rattle.slots.specs.Words.{pick}
 use Rattle.slots.specs.Answers.{refused}
 use Rattle.set_rules.specs.Words.{Set, lentSet}
-use Rattle.file_rules.specs.Layout.{Field, slotWidth, slotField, fieldOf, sectionWords, putField}
-use Rattle.file_rules.specs.Loader.{Loader, loaderOf, countTaken, nextWidth, FitLoader}
+use Rattle.file_rules.specs.Layout.{Field, slotWidth, slotField, fieldOf, putField}
+use Rattle.file_rules.specs.Loader.{Loader, countTaken, nextWidth, FitLoader}
 use Rattle.file_rules.specs.Loading.{Loading, loading, loadRefused, loaderAt, afterWords, withCount, mayCount, wordCame, withByte}
 use Rattle.file_rules.specs.Loading.{byteStored}
 use Rattle.file_rules.proofs.Ranges.{byte-small, count-own}
 use Rattle.file_rules.proofs.Counting.{may-both}
 use Rattle.file.proofs.Tables.{field-slot, slot-field-width, most-small}
-use Rattle.file.proofs.Ranging.{fit-small}
 
 -- Up to eight bytes are below 2 to the power 64.
 power-most : (k : ℕ) → k ≤ 8 → 256 ^ k ≤ 18446744073709551616

@@ -12,8 +12,8 @@ use Rattle.upload_rules.specs.Reader.{Note, unsaid, said}
 use Rattle.upload_rules.specs.Notes.{NoteSaid, known, unknown}
 use Rattle.set_rules.specs.Words.{Set, lentSet}
 use Rattle.file_rules.specs.Saving.{Saved, saved}
-use Rattle.file_rules.specs.Loader.{Loader as Words, newLoader}
-use Rattle.file_rules.specs.Loading.{loading, LoadOutcome}
+use Rattle.file_rules.specs.Loader.{Loader as Words}
+use Rattle.file_rules.specs.Loading.{LoadOutcome}
 use Rattle.file.specs.Saved.{saveOf}
 use Rattle.file.specs.Meanings.{loadReplyOf, loadNoteOf, loaderWords, loadedOf}
 use Rattle.file.specs.Notes.{loadNoteAtOf}

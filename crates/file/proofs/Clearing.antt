@@ -1,7 +1,7 @@
 -- Zeros are written one word after another: what is still to be zeroed from here is what was to be from the start.
-use mathlib.Core.Path.{_≡_, refl, ap, sym, _∙_}
-use mathlib.Core.List.{List, [], _∷_, _++_, append-nil, append-assoc}
-use Prim.Native.Nat.{ℕ, zero, suc, _+_, _-_, _*_, _<_, _≤_}
+use mathlib.Core.Path.{_≡_, _∙_}
+use mathlib.Core.List.{List, [], _∷_, append-nil, append-assoc}
+use Prim.Native.Nat.{ℕ, suc, _+_, _-_, _*_, _<_, _≤_}
 use native.Mathlib.Omega.{arith}
 use native.Mathlib.Numerals.{add-one}
 use lib.ListN.{length, set, take, replicate, length-set}
@@ -9,7 +9,7 @@ use lib.Seq.{take-all, take-suc-set}
 use Rattle.slots.specs.Answers.{Answer}
 use Rattle.set_rules.specs.Words.{Set, lentSet}
 use Rattle.file_rules.specs.Loader.{Loader, countTaken, noteIn}
-use Rattle.file_rules.specs.Loading.{Loading, loading, zerosFor, restZeroed, restsZeroed, loadRefused}
+use Rattle.file_rules.specs.Loading.{loading, zerosFor, restZeroed, restsZeroed, loadRefused}
 
 pub rest-on : (l : List ℕ) (i : ℕ) → i < length l → restZeroed (i + 1) (set l i 0) ≡ restZeroed i l
 rest-on l i h =

@@ -1,23 +1,21 @@
 -- The loader's ranges and the room for its counts, tested one by one; and the bytes that it counts.
-use mathlib.Core.Path.{_≡_, refl, ap, sym, _∙_}
+use mathlib.Core.Path.{_≡_, refl, sym, _∙_}
 use mathlib.Core.Bool.{Bool, true, false}
-use mathlib.Core.Logic.{_≢_}
 use Prim.Native.Nat.{ℕ, zero, suc, _+_, _*_, _/_, _%_, _^_, _<_, _≤_}
 use native.Mathlib.Decide.{ℕ-discrete}
 use native.Mathlib.Omega.{arith}
 use native.Mathlib.Numerals.{add-one}
 use lib.ListN.{length, List·getD-eq-default}
-use lib.Dec.{leb, ltb, eqb}
+use lib.Dec.{ltb, eqb}
 use borrow.Author.Tests.{eqb-false, eqb-true, ltb-true, ltb-false, le-leb, lt-leb}
-use Rattle.slots.specs.Words.{pick, _and_}
 use Rattle.slots.specs.Answers.{Answer}
-use Rattle.upload_rules.specs.Reader.{Note, unsaid, said}
+use Rattle.upload_rules.specs.Reader.{unsaid, said}
 use Rattle.upload_rules.proofs.Ranges.{no-test}
 use Rattle.set_rules.specs.Words.{Set}
 use Rattle.file_rules.specs.Layout.{sectionWords, mostOf, canHold}
-use Rattle.file_rules.specs.Loader.{Loader, countTaken, nextWidth, FitLoader, countFits, fitsLoader, RoomFor, hasRoom, wordsLong, begunLong}
+use Rattle.file_rules.specs.Loader.{Loader, countTaken, nextWidth, FitLoader, countFits, fitsLoader, hasRoom, wordsLong, begunLong}
 use Rattle.file_rules.specs.Loader.{slotLong, wholesLong, takenOf}
-use Rattle.file_rules.specs.Loading.{Loading, loading, mayCount, mayGoOn}
+use Rattle.file_rules.specs.Loading.{loading, mayCount, mayGoOn}
 use Rattle.file_rules.proofs.Testing.{in-range, range-in, room-in, in-room, count-in, count-test}
 use Rattle.file.specs.Ranged.{CountsTold}
 use Rattle.file.proofs.Tables.{most-small, width-most}

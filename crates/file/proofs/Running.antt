@@ -1,20 +1,17 @@
 -- Whole words and whole slots of a chunk come to what their bytes come to one after another.
-use mathlib.Core.Path.{_≡_, refl, ap, sym, _∙_, subst}
-use mathlib.Core.Bool.{Bool, true, false}
-use mathlib.Core.Logic.{_≢_}
+use mathlib.Core.Path.{_≡_, refl, ap, sym, _∙_}
 use mathlib.Core.List.{List, [], _∷_, _++_, append-assoc, append-nil}
-use Prim.Native.Nat.{ℕ, zero, suc, _+_, _-_, _*_, _/_, _%_, _^_, _<_, _≤_, min}
+use Prim.Native.Nat.{ℕ, zero, suc, _+_, _-_, _*_, _/_, _%_, _^_, _<_, _≤_}
 use native.Mathlib.Omega.{arith}
 use native.Mathlib.Numerals.{add-one}
-use lib.ListN.{length, getD, set, take, drop, length-set, length-drop, drop-of-length-le}
-use lib.Seq.{sets, sets-eq, length-take-le, take-add, drop-drop, drop-cons}
+use lib.ListN.{length, getD, set, take, drop, length-set, length-drop, drop-of-length-le, take-append-drop, List·getD-append}
+use lib.Seq.{sets, sets-eq, length-take-le, take-add, take-append-le, drop-append-le, drop-at, drop-drop, drop-cons}
 use Rattle.endian.specs.Bytes.{Bytes, nothing, another, little, numberOf, wordsBytes, wordIn, wordsIn}
-use Rattle.endian.proofs.Endian.{bytes-split, little-number, number-small, front-own, little-length}
+use Rattle.endian.proofs.Endian.{bytes-split, little-number, number-small, front-own}
 use Rattle.endian.proofs.Reading.{words-length, word-whole, from-place}
-use Rattle.upload_rules.specs.Reader.{unsaid}
 use Rattle.set_rules.specs.Words.{Set, lentSet}
-use Rattle.file_rules.specs.Layout.{Slice, sliceIn, fieldOf, sectionWords, putField}
-use Rattle.file_rules.specs.Loader.{Loader, loaderOf}
+use Rattle.file_rules.specs.Layout.{sliceIn, fieldOf, sectionWords, putField}
+use Rattle.file_rules.specs.Loader.{Loader}
 use Rattle.file_rules.specs.Loading.{Loading, loading, afterWords, bytesLoaded}
 use Rattle.file_rules.proofs.Bringing.{bytes-loaded-append, betweenWords, run-field, after-more}
 use Rattle.file_rules.proofs.Slotwise.{slot-run}
@@ -36,23 +33,23 @@ tail-put l ys from n h e =
 
 -- Words put into the slice of their section.
 module _ (lengths bins heads names cells : List ℕ) where
-  pub put-lengths : (j : ℕ) (ws l : List ℕ) → lentSet (sets l j ws) bins heads names cells ≡
+  lengths-put : (j : ℕ) (ws l : List ℕ) → lentSet (sets l j ws) bins heads names cells ≡
       wordsPut (lentSet l bins heads names cells) 0 j ws
   unfolding wordsPut fieldOf
-  put-lengths j [] l = refl
-  put-lengths j (w ∷ ws) l = put-lengths (suc j) ws (set l j w)
+  lengths-put j [] l = refl
+  lengths-put j (w ∷ ws) l = lengths-put (suc j) ws (set l j w)
 
-  pub put-bins : (j : ℕ) (ws l : List ℕ) → lentSet lengths (sets l j ws) heads names cells ≡
+  bins-put : (j : ℕ) (ws l : List ℕ) → lentSet lengths (sets l j ws) heads names cells ≡
       wordsPut (lentSet lengths l heads names cells) 1 j ws
   unfolding wordsPut fieldOf
-  put-bins j [] l = refl
-  put-bins j (w ∷ ws) l = put-bins (suc j) ws (set l j w)
+  bins-put j [] l = refl
+  bins-put j (w ∷ ws) l = bins-put (suc j) ws (set l j w)
 
-  pub put-heads : (j : ℕ) (ws l : List ℕ) → lentSet lengths bins (sets l j ws) names cells ≡
+  heads-put : (j : ℕ) (ws l : List ℕ) → lentSet lengths bins (sets l j ws) names cells ≡
       wordsPut (lentSet lengths bins l names cells) 2 j ws
   unfolding wordsPut fieldOf
-  put-heads j [] l = refl
-  put-heads j (w ∷ ws) l = put-heads (suc j) ws (set l j w)
+  heads-put j [] l = refl
+  heads-put j (w ∷ ws) l = heads-put (suc j) ws (set l j w)
 
 -- Each word is as small as its bytes.
 pub data Fours : List ℕ → Type 0 where
@@ -275,6 +272,57 @@ cells-tail p q l from (suc n) e =
     sym (cells-behind p (slotsCells q 0 l n) (drop (41 * n) l) from n e)
     ∙ ap (λ (x : List ℕ). slotCells x (from + n) (drop (41 * n) l)) (cells-tail p q l from n e)
 
+-- The first bytes have their own words.
+module _ (m : ℕ) (l : List ℕ) (h : m ≤ length l) where
+  front-long : length (take m l) ≡ m
+  front-long = length-take-le m l h
+
+  front-piece : (a k : ℕ) → a + k ≤ m → take k (drop a (take m l)) ≡ take k (drop a l)
+  front-piece a k b =
+      sym (take-append-le k (drop a (take m l)) (drop m l) (omega (arith, length-drop a (take m l), front-long)))
+      ∙ ap (take k) (sym (drop-append-le a (take m l) (drop m l) (omega (arith, front-long))))
+      ∙ ap (λ (x : List ℕ). take k (drop a x)) (take-append-drop m l)
+
+  front-word : (k i : ℕ) → i < m / k → i < length l / k → k * i + k ≤ m → wordIn k (take m l) i ≡ wordIn k l i
+  front-word k i a b c =
+      sym (word-whole k (take m l) i (rw front-long a) refl) ∙ ap numberOf (front-piece (k * i) k c) ∙ word-whole k l i b refl
+
+-- The slot of the first 41 bytes.
+module _ (l : List ℕ) (h : 41 ≤ length l) (x : List ℕ) (i : ℕ) where
+  pub front-names : slotNames x i (take 41 l) ≡ slotNames x i l
+  unfolding slotNames
+  front-names =
+      rw (front-word 41 l h 8 0 (omega arith) (omega arith) (omega arith), front-word 41 l h 8 1 (omega arith) (omega arith) (omega arith))
+
+  front-byte : getD (take 41 l) 20 0 ≡ getD l 20 0
+  front-byte =
+      sym (List·getD-append (take 41 l) (drop 41 l) 0 20 (omega (arith, front-long 41 l h)))
+      ∙ ap (λ (y : List ℕ). getD y 20 0) (take-append-drop 41 l)
+
+  front-behind : drop 21 (take 41 l) ≡ take 20 (drop 21 l)
+  front-behind =
+      ap (drop 21) (take-add 21 20 l) ∙ drop-at (take 21 l) (take 20 (drop 21 l)) 21 (length-take-le 21 l (omega arith))
+
+  front-links : (y : List ℕ) → slotLinks y i (drop 21 (take 41 l)) ≡ slotLinks y i (drop 21 l)
+  unfolding slotLinks
+  front-links y =
+      let long = length-drop 21 l in
+      let b : 20 ≤ length (drop 21 l) = omega arith in
+      let word : (j : ℕ) → j < 5 → wordIn 4 (take 20 (drop 21 l)) j ≡ wordIn 4 (drop 21 l) j =
+      λ j k. front-word 20 (drop 21 l) b 4 j (omega arith) (omega arith) (omega arith) in
+      rw (
+        front-behind,
+        word 0 (omega arith),
+        word 1 (omega arith),
+        word 2 (omega arith),
+        word 3 (omega arith),
+        word 4 (omega arith),
+      )
+
+  pub front-cells : slotCells x i (take 41 l) ≡ slotCells x i l
+  unfolding slotCells
+  front-cells = rw (front-word 41 l h 4 4 (omega arith) (omega arith) (omega arith), front-byte) (front-links _)
+
 -- The words of a slot, one after another.
 module _ (l : List ℕ) (i : ℕ) (bytes : List ℕ) where
   pub pair-put : {a b : List ℕ} {h k : ℕ} → a ≡ set l (2 * i) h → h ≡ wordIn 8 bytes 0 → b ≡ set a (2 * i + 1) k → k ≡ wordIn 8 bytes 1
@@ -302,17 +350,22 @@ module _ (l : List ℕ) (i : ℕ) (bytes : List ℕ) where
   unfolding slotCells
   cells-put ea ep eb ec et = let z : 7 * i + 0 ≡ 7 * i = omega arith in rw (ec, eb, ea, ep, et, z)
 
-  pub slots-more : (from n k : ℕ) {x y rest : List ℕ} → k ≡ from + n → x ≡ slotsNames l from bytes n → rest ≡ drop (41 * n) bytes
+  pub slots-more : (from n k : ℕ) {x y rest : List ℕ} → k ≡ from + n → x ≡ slotsNames l from bytes n
+      → 41 ≤ length (drop (41 * n) bytes)
+      → rest ≡ take 41 (drop (41 * n) bytes)
       → y ≡ slotNames x k rest
       → y ≡ slotsNames l from bytes (n + 1)
   unfolding slotsNames
-  slots-more from n k ek ex er ey = rw (add-one n, ey, ex, er, ek)
+  slots-more from n k {x} ek ex h er ey =
+      rw (add-one n, ← ex, ← ek) (ey ∙ ap (slotNames x k) er ∙ front-names (drop (41 * n) bytes) h x k)
 
-  pub cells-more : (from n k : ℕ) {x y rest : List ℕ} → k ≡ from + n → x ≡ slotsCells l from bytes n → rest ≡ drop (41 * n) bytes
+  pub cells-more : (from n k : ℕ) {x y rest : List ℕ} → k ≡ from + n → x ≡ slotsCells l from bytes n
+      → 41 ≤ length (drop (41 * n) bytes)
+      → rest ≡ take 41 (drop (41 * n) bytes)
       → y ≡ slotCells x k rest
       → y ≡ slotsCells l from bytes (n + 1)
   unfolding slotsCells
-  cells-more from n k ek ex er ey = rw (add-one n, ey, ex, er, ek)
+  cells-more from n k {x} ek ex h er ey = rw (add-one n, ← ex, ← ek) (ey ∙ ap (slotCells x k) er ∙ front-cells (drop (41 * n) bytes) h x k)
 
   pub no-slots : (l ≡ slotsNames l 0 bytes 0) × (l ≡ slotsCells l 0 bytes 0)
   unfolding slotsNames slotsCells
@@ -348,15 +401,15 @@ module _ (lengths bins heads : List ℕ) (s : ℕ) where
 
   pub section-lengths : (j : ℕ) (ws : List ℕ) {x : List ℕ} → s ≡ 0 → x ≡ sets lengths j ws
       → (names cells : List ℕ) → lentSet x bins heads names cells ≡ wordsPut (lentSet lengths bins heads names cells) s j ws
-  section-lengths j ws e f names cells = rw (f, e) (put-lengths lengths bins heads names cells j ws lengths)
+  section-lengths j ws e f names cells = rw (f, e) (lengths-put lengths bins heads names cells j ws lengths)
 
   pub section-bins : (j : ℕ) (ws : List ℕ) {x : List ℕ} → s ≡ 1 → x ≡ sets bins j ws
       → (names cells : List ℕ) → lentSet lengths x heads names cells ≡ wordsPut (lentSet lengths bins heads names cells) s j ws
-  section-bins j ws e f names cells = rw (f, e) (put-bins lengths bins heads names cells j ws bins)
+  section-bins j ws e f names cells = rw (f, e) (bins-put lengths bins heads names cells j ws bins)
 
   pub section-heads : (j : ℕ) (ws : List ℕ) {x : List ℕ} → s ≡ 2 → x ≡ sets heads j ws
       → (names cells : List ℕ) → lentSet lengths bins x names cells ≡ wordsPut (lentSet lengths bins heads names cells) s j ws
-  section-heads j ws e f names cells = rw (f, e) (put-heads lengths bins heads names cells j ws heads)
+  section-heads j ws e f names cells = rw (f, e) (heads-put lengths bins heads names cells j ws heads)
 
 -- A slice from a word on, to its end.
 pub tail-back : (l : List ℕ) (a : ℕ) (f : List ℕ → List ℕ) {ys : List ℕ} → ys ≡ f (take (length l - a) (drop a l))

@@ -1,7 +1,7 @@
 -- What save comes to on each of its ways is what the model says.
 use mathlib.Core.Path.{_≡_, refl, ap, sym, _∙_}
 use mathlib.Core.Bool.{true, false}
-use mathlib.Core.List.{List, [], _∷_, _++_}
+use mathlib.Core.List.{List, _++_}
 use Prim.Native.Nat.{ℕ, _+_, _*_, _/_, _<_, _≤_}
 use native.Mathlib.Omega.{arith}
 use lib.ListN.{length, drop}
@@ -10,7 +10,6 @@ use Rattle.slots.specs.Answers.{given, refused}
 use Rattle.slots.proofs.Laws.{number, given-is}
 use Rattle.upload_rules.proofs.Ranges.{no-test}
 use Rattle.set_rules.specs.Words.{Set, tablesOf, Fit, fits}
-use Rattle.set_rules.specs.Accepted.{Accepted}
 use Rattle.set_rules.specs.Accepting.{accepts}
 use Rattle.set_rules.proofs.Fit.{fits-exactly}
 use Rattle.set_rules.proofs.Judged.{judged}

@@ -3,7 +3,7 @@ use mathlib.Core.Path.{_≡_, refl, ap, sym, _∙_, subst}
 use mathlib.Core.Bool.{Bool, true, false}
 use mathlib.Core.Logic.{_≢_}
 use mathlib.Core.List.{List, [], _∷_, _++_}
-use Prim.Native.Nat.{ℕ, zero, suc, _+_, _-_, _*_, _/_, _%_, _^_, _<_, _≤_, min}
+use Prim.Native.Nat.{ℕ, zero, suc, _+_, _-_, _*_, _/_, _%_, _<_, _≤_, min}
 use native.Mathlib.Omega.{arith}
 use lib.ListN.{length, getD, take, drop, length-drop, take-append-drop}
 use lib.Seq.{take-length, drop-drop, drop-length, length-take-le}
@@ -13,14 +13,14 @@ use Rattle.slots.specs.Answers.{Answer, given, refused}
 use Rattle.slots.proofs.Laws.{number, given-is}
 use Rattle.endian.specs.Bytes.{Bytes, wordsIn}
 use Rattle.endian.proofs.Endian.{bytes-split}
-use Rattle.upload_rules.specs.Reader.{Note, unsaid, said}
+use Rattle.upload_rules.specs.Reader.{unsaid, said}
 use Rattle.index_rules.proofs.Fit.{both}
 use Rattle.set_rules.specs.Words.{Set, lentSet, fits}
 use Rattle.set_rules.specs.Accepting.{accepted, accepts}
 use Rattle.file_rules.specs.Layout.{sliceIn, fieldOf, sectionWords, canHold}
 use Rattle.file_rules.specs.Loader.{Loader, loaderOf, countTaken, noteIn, FitLoader, RoomFor, takenOf, loaderAnswer}
-use Rattle.file_rules.specs.Loading.{Loading, loading, LoadOutcome, loadOutcome, loadRefused, afterWords, byteStored, bytesLoaded, cutOut}
-use Rattle.file_rules.specs.Loading.{restsZeroed, endJudged, endLoaded, GoesOn, mayGoOn, loadChunk, loadEnd}
+use Rattle.file_rules.specs.Loading.{Loading, loading, loadOutcome, loadRefused, afterWords, byteStored, bytesLoaded, cutOut}
+use Rattle.file_rules.specs.Loading.{restsZeroed, endJudged, GoesOn, mayGoOn, loadChunk, loadEnd}
 use Rattle.file_rules.proofs.Ranges.{byte-open, bytes-go, end-open, end-said, end-goes}
 use Rattle.file_rules.proofs.Testing.{in-goes, chunk-in, chunk-out, end-in, end-out}
 use Rattle.file_rules.proofs.Written.{bytes-said}

@@ -2,15 +2,15 @@
 use mathlib.Core.Path.{_≡_, refl, ap, sym, _∙_}
 use mathlib.Core.Bool.{Bool, true, false}
 use mathlib.Core.Logic.{_≢_}
-use mathlib.Core.List.{List, [], _∷_}
+use mathlib.Core.List.{[], _∷_}
 use Prim.Native.Nat.{ℕ, zero, suc, _+_, _-_, _*_, _/_, _%_, _^_, _<_, _≤_}
 use native.Mathlib.Omega.{arith}
 use lib.ListN.{length, getD, set}
-use lib.Dec.{eqb, ltb, leb}
-use borrow.Author.Tests.{eq-eqb, ne-eqb, lt-ltb, le-ltb, le-leb, lt-leb}
+use lib.Dec.{eqb, leb}
+use borrow.Author.Tests.{eq-eqb, ne-eqb, lt-ltb, le-ltb}
 use Rattle.slots.specs.Words.{pick, _and_}
 use Rattle.set_rules.specs.Words.{Set}
-use Rattle.file_rules.specs.Layout.{Field, slotWidth, slotField, fieldOf, sectionWords, mostOf, canHold, putField}
+use Rattle.file_rules.specs.Layout.{Field, slotWidth, slotField, fieldOf, sectionWords, mostOf, canHold}
 use Rattle.file_rules.specs.Loader.{Loader, countTaken, nextWidth, countsCome, countFits, slotLong, wordsLong, begunLong}
 use Rattle.file_rules.specs.Loading.{afterWords, loaderAt}
 

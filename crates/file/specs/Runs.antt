@@ -1,7 +1,7 @@
 -- Whole words and whole slots of a chunk, put into the slices, and what a step of the chunk's loop comes to.
 use mathlib.Core.Path.{_≡_}
 use mathlib.Core.List.{List, [], _∷_}
-use Prim.Native.Nat.{ℕ, zero, suc, _+_, _*_, _/_, _%_, _<_, _≤_}
+use Prim.Native.Nat.{ℕ, zero, suc, _+_, _*_, _%_, _<_, _≤_}
 use lib.ListN.{length, getD, set, take, drop}
 use Rattle.endian.specs.Bytes.{wordIn}
 use Rattle.set_rules.specs.Words.{Set}

@@ -98,7 +98,7 @@ fn read_links(cells: &mut [u32], i: usize, bytes: &[u8])
     put_word(cells, 7 * i + 6, word_at(bytes, 4));
 }
 
-// The slot of the first 41 bytes, as slot i.
+// The slot of 41 bytes, as slot i.
 fn read_slot(names: &mut [u64], cells: &mut [u32], i: usize, bytes: &[u8])
     requires { ⌜ (i ≤ 8160) × (41 ≤ length (now bytes)) ⌝ }
     ensures { λ _. ⌜ (now (names .exit) ≡ slotNames (now (names .entry)) i (now (bytes .entry)))
@@ -118,7 +118,7 @@ fn read_slots(names: &mut [u64], cells: &mut [u32], n: usize, rest: &[u8])
 {
     let mut i = 0;
     while i < n {
-        read_slot(names, cells, i, &rest[41 * i..]);
+        read_slot(names, cells, i, &rest[41 * i..41 * i + 41]);
         i += 1;
     }
 }

@@ -1,10 +1,8 @@
 -- Past the last section, amid a word, or its last byte.
-use mathlib.Core.Path.{refl, ap, _∙_}
-use Prim.Native.Nat.{ℕ, _^_, _<_}
+use mathlib.Core.Path.{refl}
 use native.Mathlib.Omega.{arith}
 use denote.Ref.{now}
 use Rattle.set_rules.specs.Words.{lentSet}
-use Rattle.file_rules.specs.Loader.{nextWidth}
 use Rattle.file.specs.Meanings.{loaderWords}
 use Rattle.file.proofs.Ranging.{words-most}
 use Rattle.file.proofs.Bytewise.{byte-long, byte-waits, byte-comes, word-small}

@@ -1,11 +1,8 @@
 -- A count that may be taken, and one over its limit.
-use mathlib.Core.Path.{_∙_}
-use native.Mathlib.Omega.{arith}
 use denote.Ref.{now}
 use borrow.Author.Tests.{not-true, not-false}
 use Rattle.set_rules.specs.Words.{lentSet}
 use Rattle.file.specs.Meanings.{loaderWords}
-use Rattle.file.proofs.Ranging.{fit-small}
 use Rattle.file.proofs.Bytewise.{count-refused, count-taken, count-small}
 use borrow.Author.Needs.{needs}
 use Rattle.file.proofs.bytes.take_count.Statement.{statement}

@@ -1,5 +1,4 @@
 -- The count, or a word of the section.
-use mathlib.Core.Path.{_∙_}
 use native.Mathlib.Omega.{arith}
 use denote.Ref.{now}
 use Rattle.set_rules.specs.Words.{lentSet}

@@ -1,5 +1,5 @@
 -- The four counts with one put in its place.
-use mathlib.Core.Path.{ap, _∙_}
+use mathlib.Core.Path.{ap}
 use mathlib.Core.List.{List}
 use Prim.Native.Nat.{ℕ}
 use Rattle.file_rules.specs.Loader.{loaderOf}

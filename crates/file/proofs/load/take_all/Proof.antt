@@ -9,7 +9,6 @@ use Rattle.file_rules.specs.Loading.{loading}
 use Rattle.file.specs.Meanings.{loaderWords}
 use Rattle.endian.proofs.Reading.{from-place}
 use Rattle.file.proofs.Stepping.{Going, going-start, going-on, going-end}
-use borrow.Author.Needs.{needs}
 use Rattle.file.proofs.load.take_all.Statement.{statement}
 use Rattle.file.proofs.load.take_all.Tie as tie
 

@@ -1,5 +1,4 @@
 -- The bytes of whole sections, and those of the next.
-use native.Mathlib.Omega.{arith}
 use Rattle.file.specs.Meanings.{loaderWords}
 use Rattle.file.proofs.Ranging.{words-most, taken-is}
 use borrow.Author.Needs.{needs}

@@ -1,11 +1,11 @@
 -- Slot after slot.
 use mathlib.Core.Path.{_≡_, ap, _∙_}
-use Prim.Native.Nat.{_-_, _*_, _≤_}
+use Prim.Native.Nat.{ℕ, _+_, _-_, _*_, _≤_}
 use native.Mathlib.Omega.{arith}
 use denote.Ref.{now}
-use lib.ListN.{length, length-drop}
+use lib.ListN.{length, take, drop, length-drop}
+use lib.Seq.{length-take-le}
 use Rattle.file.specs.Runs.{slotsNames, slotsCells}
-use Rattle.endian.proofs.Reading.{from-place}
 use Rattle.file.proofs.Running.{no-slots, slots-more, cells-more, names-long, cells-long}
 use Rattle.file.proofs.runs.read_slots.Statement.{statement}
 use Rattle.file.proofs.runs.read_slots.Tie as tie
@@ -32,17 +32,17 @@ mul-read-slot c =
     let c2 = c1 .before .before .before .before .before in
     omega (arith, c2 .pre .0, c1 .loop-test .taken)
 
-sub-read-slot : tie.Need-sub-read-slot Inv-loop μ-loop
-sub-read-slot c =
+mul-read-slot-2 : tie.Need-mul-read-slot-2 Inv-loop μ-loop
+mul-read-slot-2 c =
     let c1 = c .before .before in
     let c2 = c1 .before .before .before .before .before in
-    omega (arith, c2 .pre .1, c1 .loop-test .taken)
+    omega (arith, c2 .pre .0, c1 .loop-test .taken)
 
-part-read-slot-start : tie.Need-part-read-slot-start Inv-loop μ-loop
-part-read-slot-start c =
+add-read-slot : tie.Need-add-read-slot Inv-loop μ-loop
+add-read-slot c =
     let c1 = c .before .before in
     let c2 = c1 .before .before .before .before .before in
-    omega (arith, c2 .pre .1, c1 .loop-test .taken)
+    omega (arith, c2 .pre .0, c1 .loop-test .taken)
 
 part-read-slot-end : tie.Need-part-read-slot-end Inv-loop μ-loop
 part-read-slot-end c =
@@ -58,7 +58,9 @@ read-slot-requires c κs =
     let rest = now (c3 .args .rest) in
     let i = c2 .loop .i in
     let long = length-drop (41 * i) rest in
-    (omega (arith, c3 .pre .0, c1 .loop-test .taken), rw (from-place rest (41 * i)) (omega (arith, c3 .pre .1, c1 .loop-test .taken)))
+    let room : 41 ≤ length (drop (41 * i) rest) = omega (arith, c3 .pre .1, c1 .loop-test .taken) in
+    let z : 41 * i + 41 - 41 * i ≡ 41 = omega arith in
+    (omega (arith, c3 .pre .0, c1 .loop-test .taken), rw (z, length-take-le 41 (drop (41 * i) rest) room) (omega arith))
 
 add-i : tie.Need-add-i Inv-loop μ-loop
 add-i c =
@@ -79,9 +81,13 @@ loop-again c =
     let c4 = c3 .before .before .before .before in
     let a = c4 .args in
     let i = c3 .loop .i in
-    let tail = from-place (now (a .rest)) (41 * i) in (
-      slots-more (now (a .names)) 0 (now (a .rest)) 0 i i (omega arith) (c3 .loop .inv .0) tail (c1 .read-slot .ensures .0),
-      cells-more (now (a .cells)) 0 (now (a .rest)) 0 i i (omega arith) (c3 .loop .inv .1) tail (c1 .read-slot .ensures .1),
+    let rest = now (a .rest) in
+    let long = length-drop (41 * i) rest in
+    let room : 41 ≤ length (drop (41 * i) rest) = omega (arith, c4 .pre .1, c2 .loop-test .taken) in
+    let z : 41 * i + 41 - 41 * i ≡ 41 = omega arith in
+    let own = ap (λ (n : ℕ). take n (drop (41 * i) rest)) z in (
+      slots-more (now (a .names)) 0 rest 0 i i (omega arith) (c3 .loop .inv .0) room own (c1 .read-slot .ensures .0),
+      cells-more (now (a .cells)) 0 rest 0 i i (omega arith) (c3 .loop .inv .1) room own (c1 .read-slot .ensures .1),
       omega (arith, c2 .loop-test .taken),
     )
 
@@ -105,5 +111,5 @@ returns c =
 pub read-slots-spec : {M : Type 1} → statement M
 read-slots-spec =
     tie.close
-    (tie.spec Inv-loop μ-loop loop-holds mul-read-slot sub-read-slot part-read-slot-start part-read-slot-end read-slot-requires add-i
-    loop-less loop-again same-length same-length-2 returns)
+    (tie.spec Inv-loop μ-loop loop-holds mul-read-slot mul-read-slot-2 add-read-slot (λ c. omega arith) (λ c. omega arith)
+    part-read-slot-end read-slot-requires add-i loop-less loop-again same-length same-length-2 returns)

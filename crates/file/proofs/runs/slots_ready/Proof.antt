@@ -1,6 +1,5 @@
 -- Each test in turn.
 use mathlib.Core.Path.{refl}
-use native.Mathlib.Omega.{arith}
 use borrow.Author.Tests.{leb-true}
 use Rattle.upload_rules.proofs.Ranges.{no-test}
 use Rattle.file.proofs.runs.slots_ready.Statement.{statement}
