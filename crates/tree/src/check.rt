@@ -10,6 +10,9 @@ use slots::get;
 use slots::is_red;
 use slots::name;
 ghost use mathlib.Core.Path.{_≡_};
+ghost use Prim.Native.Nat.{_+_, _*_, _<_};
+ghost use lib.ListN.{length};
+ghost use Rattle.slots.specs.Words.{cell};
 ghost use Rattle.tree.specs.Check.{walkOf, checkedOf};
 ghost use Rattle.tree_rules.specs.Check.{pointsBack, isChild, leftHash, rightHash, notAllRed, firstFailing};
 ghost use Rattle.tree_rules.specs.Check.{inRange, linksIn, walked, checked};
@@ -101,8 +104,29 @@ pub fn in_range(n: usize, link: u32) -> bool
     link == NULL || (link as usize) < n
 }
 
-// So is each of slot i's own five links.
-pub fn links_in(n: usize, cells: &[u32], i: u32) -> bool
+// The field f of slot i, whose word is there.
+fn held(cells: &[u32], i: u32, f: u32) -> u32
+    requires { ⌜ 7 * i + f < length (now cells) ⌝ }
+    ensures { λ r. ⌜ r ≡ cell (now (cells .entry)) i f ⌝ }
+{
+    cells[7 * (i as usize) + (f as usize)]
+}
+
+// So is each of slot i's own five links, whose words are there.
+fn links_held(n: usize, cells: &[u32], i: u32) -> bool
+    requires { ⌜ 7 * i + 6 < length (now cells) ⌝ }
+    ensures { λ r. ⌜ r ≡ linksIn n (now (cells .entry)) i ⌝ }
+{
+    let parent = in_range(n, held(cells, i, PARENT));
+    let left = in_range(n, held(cells, i, LEFT));
+    let right = in_range(n, held(cells, i, RIGHT));
+    let prev = in_range(n, held(cells, i, PREV));
+    let next = in_range(n, held(cells, i, NEXT));
+    parent && left && right && prev && next
+}
+
+// So is each of slot i's own five links, where some of its words may not be there.
+fn links_read(n: usize, cells: &[u32], i: u32) -> bool
     ensures { λ r. ⌜ r ≡ linksIn n (now (cells .entry)) i ⌝ }
 {
     let parent = in_range(n, get(cells, i, PARENT));
@@ -111,6 +135,16 @@ pub fn links_in(n: usize, cells: &[u32], i: u32) -> bool
     let prev = in_range(n, get(cells, i, PREV));
     let next = in_range(n, get(cells, i, NEXT));
     parent && left && right && prev && next
+}
+
+// So is each of slot i's own five links: one test of its last word's place answers for the five.
+pub fn links_in(n: usize, cells: &[u32], i: u32) -> bool
+    ensures { λ r. ⌜ r ≡ linksIn n (now (cells .entry)) i ⌝ }
+{
+    if 7 * (i as usize) + 6 < cells.len() {
+        return links_held(n, cells, i);
+    }
+    links_read(n, cells, i)
 }
 
 // What a visit comes to: all passes, with so many visits left; a test fails at a slot; or the walk is lost.
@@ -134,7 +168,7 @@ fn visit(names: &[u64], cells: &[u32], i: u32, visits: usize) -> Walk
     if visits == 0 {
         return Walk::Strayed;
     }
-    let named = links_in(slots, cells, i);
+    let named = links_read(slots, cells, i);
     if !named {
         return Walk::Strayed;
     }

@@ -104,7 +104,11 @@ fn walk(
         return Part::Breaks;
     }
     let l = get(cells, i, LEFT);
-    let lefts = walk(names, cells, sizes, i, last, l, depth - 1, visits - 1);
+    let lefts = if l == NULL {
+        Part::Obeys(visits - 1, last, 0)
+    } else {
+        walk(names, cells, sizes, i, last, l, depth - 1, visits - 1)
+    };
     let Part::Obeys(rest, m, a) = lefts else {
         return Part::Breaks;
     };
@@ -113,7 +117,11 @@ fn walk(
         return Part::Breaks;
     }
     let r = get(cells, i, RIGHT);
-    let rights = walk(names, cells, sizes, i, i, r, depth - 1, rest);
+    let rights = if r == NULL {
+        Part::Obeys(rest, i, 0)
+    } else {
+        walk(names, cells, sizes, i, i, r, depth - 1, rest)
+    };
     let Part::Obeys(unspent, end, b) = rights else {
         return Part::Breaks;
     };

@@ -5,107 +5,18 @@ use borrow.Author.Needs.{needs}
 use Rattle.drill.proofs.drill_longest.Statement.{statement}
 use Rattle.drill.proofs.drill_longest.Tie as tie
 
-slice-aggregate-load : tie.Need-slice-aggregate-load
-slice-aggregate-load c = search needs
-
-load-requires : tie.Need-load-requires
-load-requires c κs = search needs
-
-slice-aggregate-load-2 : tie.Need-slice-aggregate-load-2
-slice-aggregate-load-2 c = search needs
-
-load-requires-2 : tie.Need-load-requires-2
-load-requires-2 c κs = search needs
-
-slice-reshare-prefix-try-cuts : tie.Need-slice-reshare-prefix-try-cuts
-slice-reshare-prefix-try-cuts c = search needs
-
 slice-aggregate-try-cuts : tie.Need-slice-aggregate-try-cuts
 slice-aggregate-try-cuts c = simp length-take (omega arith)
 
-slice-reshare-prefix-try-cuts-2 : tie.Need-slice-reshare-prefix-try-cuts-2
-slice-reshare-prefix-try-cuts-2 c = search needs
-
 slice-aggregate-try-cuts-2 : tie.Need-slice-aggregate-try-cuts-2
 slice-aggregate-try-cuts-2 c = simp length-take (omega arith)
-
-try-cuts-requires : tie.Need-try-cuts-requires
-try-cuts-requires c κs = search needs
-
-slice-aggregate-number : tie.Need-slice-aggregate-number
-slice-aggregate-number c = search needs
-
-number-requires : tie.Need-number-requires
-number-requires c κs = search needs
-
-slice-aggregate-number-2 : tie.Need-slice-aggregate-number-2
-slice-aggregate-number-2 c = search needs
-
-number-requires-2 : tie.Need-number-requires-2
-number-requires-2 c κs = search needs
-
-slice-aggregate-number-3 : tie.Need-slice-aggregate-number-3
-slice-aggregate-number-3 c = search needs
-
-number-requires-3 : tie.Need-number-requires-3
-number-requires-3 c κs = search needs
-
-slice-aggregate-number-4 : tie.Need-slice-aggregate-number-4
-slice-aggregate-number-4 c = search needs
-
-number-requires-4 : tie.Need-number-requires-4
-number-requires-4 c κs = search needs
-
-slice-aggregate-number-5 : tie.Need-slice-aggregate-number-5
-slice-aggregate-number-5 c = search needs
-
-number-requires-5 : tie.Need-number-requires-5
-number-requires-5 c κs = search needs
-
-slice-aggregate-say : tie.Need-slice-aggregate-say
-slice-aggregate-say c = search needs
-
-say-requires : tie.Need-say-requires
-say-requires c κs = search needs
-
-same-length : tie.Need-same-length
-same-length c = search needs
-
-same-length-2 : tie.Need-same-length-2
-same-length-2 c = search needs
-
-same-length-3 : tie.Need-same-length-3
-same-length-3 c = search needs
-
-returns : tie.Need-returns
-returns c = search needs
 
 pub drill-longest-spec : {M : Type 1} → statement M
 drill-longest-spec =
     tie.close
     (tie.spec
-    slice-aggregate-load
-    load-requires
-    slice-aggregate-load-2
-    load-requires-2
-    slice-reshare-prefix-try-cuts
-    slice-aggregate-try-cuts
-    slice-reshare-prefix-try-cuts-2
-    slice-aggregate-try-cuts-2
-    try-cuts-requires
-    slice-aggregate-number
-    number-requires
-    slice-aggregate-number-2
-    number-requires-2
-    slice-aggregate-number-3
-    number-requires-3
-    slice-aggregate-number-4
-    number-requires-4
-    slice-aggregate-number-5
-    number-requires-5
-    slice-aggregate-say
-    say-requires
-    same-length
-    same-length-2
-    same-length-3
-    returns)
+    (λ c. search needs) (λ c κs. search needs) (λ c. search needs) (λ c κs. search needs) (λ c. search needs) slice-aggregate-try-cuts
+    (λ c. search needs) slice-aggregate-try-cuts-2 (λ c κs. search needs) (λ c. search needs) (λ c κs. search needs) (λ c. search needs)
+    (λ c κs. search needs) (λ c. search needs) (λ c κs. search needs) (λ c. search needs) (λ c κs. search needs) (λ c. search needs)
+    (λ c κs. search needs) (λ c. search needs) (λ c κs. search needs) (λ c. search needs) (λ c. search needs) (λ c. search needs)
+    (λ c. search needs))

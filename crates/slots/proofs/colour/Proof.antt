@@ -3,9 +3,6 @@ use borrow.Author.Needs.{needs}
 use Rattle.slots.proofs.colour.Statement.{statement}
 use Rattle.slots.proofs.colour.Tie as tie
 
-is-red-requires : tie.Need-is-red-requires
-is-red-requires c κs = search needs
-
 returns : tie.Need-returns
 returns c = rw (← c .before .is-red .ensures, c .if1 .taken)
 
@@ -13,4 +10,4 @@ returns-2 : tie.Need-returns-2
 returns-2 c = rw (← c .before .is-red .ensures, c .if1 .left)
 
 pub colour-spec : {M : Type 1} → statement M
-colour-spec = tie.close (tie.spec is-red-requires returns returns-2)
+colour-spec = tie.close (tie.spec (λ c κs. search needs) returns returns-2)

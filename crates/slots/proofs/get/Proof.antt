@@ -4,18 +4,9 @@ use borrow.Author.Needs.{needs}
 use Rattle.slots.proofs.get.Statement.{statement}
 use Rattle.slots.proofs.get.Tie as tie
 
-mul-word : tie.Need-mul-word
-mul-word c = search needs
-
-add-word : tie.Need-add-word
-add-word c = search needs
-
-word-requires : tie.Need-word-requires
-word-requires c κs = search needs
-
 returns : tie.Need-returns
 unfolding cell
 returns c = search needs
 
 pub get-spec : {M : Type 1} → statement M
-get-spec = tie.close (tie.spec mul-word add-word word-requires returns)
+get-spec = tie.close (tie.spec (λ c. search needs) (λ c. search needs) (λ c κs. search needs) returns)

@@ -7,12 +7,6 @@ use borrow.Author.Needs.{needs}
 use Rattle.slots.proofs.word.Statement.{statement}
 use Rattle.slots.proofs.word.Tie as tie
 
-mul-result : tie.Need-mul-result
-mul-result c = search needs
-
-shared-slice-read-result : tie.Need-shared-slice-read-result
-shared-slice-read-result c = search needs
-
 returns : tie.Need-returns
 returns c = getD-any (now (c .before .before .args .words)) _ 0 (c .before .before .args .none) (c .before .if1 .taken)
 
@@ -20,4 +14,4 @@ returns-2 : tie.Need-returns-2
 returns-2 c = sym (List·getD-eq-default (now (c .before .args .words)) (c .before .args .none) (c .if1 .left))
 
 pub word-spec : {M : Type 1} → statement M
-word-spec = tie.close (tie.spec mul-result shared-slice-read-result returns returns-2)
+word-spec = tie.close (tie.spec (λ c. search needs) (λ c. search needs) returns returns-2)

@@ -7,12 +7,6 @@ use borrow.Author.Needs.{needs}
 use Rattle.batch.proofs.calls.call_fits.Statement.{statement}
 use Rattle.batch.proofs.calls.call_fits.Tie as tie
 
-call-word-requires : tie.Need-call-word-requires
-call-word-requires c κs = search needs
-
-call-word-requires-2 : tie.Need-call-word-requires-2
-call-word-requires-2 c κs = search needs
-
 returns : tie.Need-returns
 returns c =
     let c1 = c .before in
@@ -48,6 +42,4 @@ returns-4 c =
     ∙ fits-none (now (a .calls)) (a .k) (c4 .call-word .ensures) (c3 .call-word2 .ensures) (c2 .if1 .left) (c1 .if2 .left) (c .if3 .left)
 
 pub call-fits-spec : {M : Type 1} → statement M
-call-fits-spec =
-    tie.close
-    (tie.spec call-word-requires call-word-requires-2 returns returns-2 returns-3 returns-4)
+call-fits-spec = tie.close (tie.spec (λ c κs. search needs) (λ c κs. search needs) returns returns-2 returns-3 returns-4)

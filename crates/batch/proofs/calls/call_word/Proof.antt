@@ -8,18 +8,6 @@ use borrow.Author.Needs.{needs}
 use Rattle.batch.proofs.calls.call_word.Statement.{statement}
 use Rattle.batch.proofs.calls.call_word.Tie as tie
 
-mul-wide : tie.Need-mul-wide
-mul-wide c = search needs
-
-add-wide : tie.Need-add-wide
-add-wide c = search needs
-
-wide-requires : tie.Need-wide-requires
-wide-requires c κs = search needs
-
-returns : tie.Need-returns
-returns c = search needs
-
 returns-2 : tie.Need-returns-2
 returns-2 c =
     let a = c .before .before .args in
@@ -27,4 +15,4 @@ returns-2 c =
     sym (List·getD-eq-default (now (a .calls)) 0 out)
 
 pub call-word-spec : {M : Type 1} → statement M
-call-word-spec = tie.close (tie.spec mul-wide add-wide wide-requires returns returns-2)
+call-word-spec = tie.close (tie.spec (λ c. search needs) (λ c. search needs) (λ c κs. search needs) (λ c. search needs) returns-2)

@@ -5,12 +5,6 @@ use Rattle.batch.proofs.Making.{not-whole, too-many, each-fits}
 use Rattle.batch.proofs.calls.calls_fit.Statement.{statement}
 use Rattle.batch.proofs.calls.calls_fit.Tie as tie
 
-calls-in-requires : tie.Need-calls-in-requires
-calls-in-requires c κs = search needs
-
-mul-if1 : tie.Need-mul-if1
-mul-if1 c = search needs
-
 returns : tie.Need-returns
 returns c =
     let c1 = c .before in
@@ -24,9 +18,6 @@ returns-2 c =
     let a = c2 .before .before .before .args in
     too-many (now (a .calls)) (now (a .answers)) (c2 .calls-in .ensures) (c1 .if1 .left) (c .if2 .taken)
 
-all-fit-requires : tie.Need-all-fit-requires
-all-fit-requires c κs = search needs
-
 returns-3 : tie.Need-returns-3
 returns-3 c =
     let c1 = c .before in
@@ -36,4 +27,4 @@ returns-3 c =
     each-fits (now (a .calls)) (now (a .answers)) (c3 .calls-in .ensures) (c2 .if1 .left) (c1 .if2 .left) (c .all-fit .ensures)
 
 pub calls-fit-spec : {M : Type 1} → statement M
-calls-fit-spec = tie.close (tie.spec calls-in-requires mul-if1 returns returns-2 all-fit-requires returns-3)
+calls-fit-spec = tie.close (tie.spec (λ c κs. search needs) (λ c. search needs) returns returns-2 (λ c κs. search needs) returns-3)

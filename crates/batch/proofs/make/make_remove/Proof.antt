@@ -5,39 +5,6 @@ use borrow.Author.Needs.{needs}
 use Rattle.batch.proofs.make.make_remove.Statement.{statement}
 use Rattle.batch.proofs.make.make_remove.Tie as tie
 
-remove-sound-requires : tie.Need-remove-sound-requires
-remove-sound-requires c κs = search needs
-
-answer-requires : tie.Need-answer-requires
-answer-requires c κs = search needs
-
-answer-word-requires : tie.Need-answer-word-requires
-answer-word-requires c κs = search needs
-
-put-wide-requires : tie.Need-put-wide-requires
-put-wide-requires c κs = search needs
-
-lower-requires : tie.Need-lower-requires
-lower-requires c κs = search needs
-
-same-length : tie.Need-same-length
-same-length c = search needs
-
-same-length-2 : tie.Need-same-length-2
-same-length-2 c = search needs
-
-same-length-3 : tie.Need-same-length-3
-same-length-3 c = search needs
-
-same-length-4 : tie.Need-same-length-4
-same-length-4 c = search needs
-
-same-length-5 : tie.Need-same-length-5
-same-length-5 c = search needs
-
-same-length-6 : tie.Need-same-length-6
-same-length-6 c = search needs
-
 returns : tie.Need-returns
 returns c =
     let c2 = c .before .before .before in
@@ -55,15 +22,5 @@ pub make-remove-spec : {M : Type 1} → statement M
 make-remove-spec =
     tie.close
     (tie.spec
-    remove-sound-requires
-    answer-requires
-    answer-word-requires
-    put-wide-requires
-    lower-requires
-    same-length
-    same-length-2
-    same-length-3
-    same-length-4
-    same-length-5
-    same-length-6
-    returns)
+    (λ c κs. search needs) (λ c κs. search needs) (λ c κs. search needs) (λ c κs. search needs) (λ c κs. search needs) (λ c. search needs)
+    (λ c. search needs) (λ c. search needs) (λ c. search needs) (λ c. search needs) (λ c. search needs) returns)

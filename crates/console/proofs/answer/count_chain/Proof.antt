@@ -29,24 +29,12 @@ returns c =
     count-spent (a .n) (now (a .cells)) (at-loop .loop .i) (at-loop .loop .count) (at-loop .loop .inv .0) (c .before .loop-test .taken)
     (c .if1 .taken)
 
-cast-if2 : tie.Need-cast-if2 Inv-loop μ-loop
-cast-if2 c = search needs
-
 returns-2 : tie.Need-returns-2 Inv-loop μ-loop
 returns-2 c =
     let at-loop = c .before .before .before in
     let a = at-loop .before .before .args in
     count-outside (a .n) (now (a .cells)) (at-loop .loop .i) (at-loop .loop .count) (at-loop .loop .inv .0)
     (c .before .before .loop-test .taken) (c .if2 .taken)
-
-get-requires : tie.Need-get-requires Inv-loop μ-loop
-get-requires c κs = search needs
-
-add-count : tie.Need-add-count Inv-loop μ-loop
-add-count c = search needs
-
-loop-less : tie.Need-loop-less Inv-loop μ-loop
-loop-less c = search needs
 
 below : {a b : ℕ} → a ≤ b → a ≢ b → a < b
 below h n = omega arith
@@ -81,14 +69,5 @@ pub count-chain-spec : {M : Type 1} → statement M
 count-chain-spec =
     tie.close
     (tie.spec
-    Inv-loop
-    μ-loop
-    loop-holds
-    returns
-    cast-if2
-    returns-2
-    get-requires
-    add-count
-    loop-less
-    loop-again
-    returns-3)
+    Inv-loop μ-loop loop-holds returns (λ c. search needs) returns-2 (λ c κs. search needs) (λ c. search needs) (λ c. search needs)
+    loop-again returns-3)

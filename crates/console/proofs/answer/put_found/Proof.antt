@@ -9,39 +9,12 @@ use borrow.Author.Needs.{needs}
 use Rattle.console.proofs.answer.put_found.Statement.{statement}
 use Rattle.console.proofs.answer.put_found.Tie as tie
 
-slice-aggregate-put-numbered : tie.Need-slice-aggregate-put-numbered
-slice-aggregate-put-numbered c = search needs
-
-cast-put-numbered : tie.Need-cast-put-numbered
-cast-put-numbered c = search needs
-
-put-numbered-requires : tie.Need-put-numbered-requires
-put-numbered-requires c κs = search needs
-
-same-length : tie.Need-same-length
-same-length c = search needs
-
 returns : tie.Need-returns
 returns c =
     let c2 = c .before .before in
     let c3 = c2 .before .before .before in
     let a = c3 .before .before .args in
     c2 .put-numbered .ensures ∙ ap (typed _) (found-refused (answerOf (a .answer)) (c3 .if1 .taken))
-
-enum-known-value : tie.Need-enum-known-value
-enum-known-value c = search needs
-
-slice-aggregate-put-numbered-2 : tie.Need-slice-aggregate-put-numbered-2
-slice-aggregate-put-numbered-2 c = search needs
-
-cast-put-numbered-2 : tie.Need-cast-put-numbered-2
-cast-put-numbered-2 c = search needs
-
-put-numbered-requires-2 : tie.Need-put-numbered-requires-2
-put-numbered-requires-2 c κs = search needs
-
-same-length-2 : tie.Need-same-length-2
-same-length-2 c = search needs
 
 returns-2 : tie.Need-returns-2
 returns-2 c =
@@ -52,18 +25,6 @@ returns-2 c =
     c2 .put-numbered2 .ensures
     ∙ ap (λ v. typed (lentPaper (now (a .out)) (a .at)) (foundValue (valueOf v))) (sym (c4 .value .given .1))
     ∙ ap (typed _) (found-value (answerOf (a .answer)) (c6 .if1 .left))
-
-enum-told : tie.Need-enum-told
-enum-told c = search needs
-
-slice-aggregate-put-word : tie.Need-slice-aggregate-put-word
-slice-aggregate-put-word c = search needs
-
-put-word-requires : tie.Need-put-word-requires
-put-word-requires c κs = search needs
-
-same-length-3 : tie.Need-same-length-3
-same-length-3 c = search needs
 
 returns-3 : tie.Need-returns-3
 returns-3 c =
@@ -79,19 +40,6 @@ pub put-found-spec : {M : Type 1} → statement M
 put-found-spec =
     tie.close
     (tie.spec
-    slice-aggregate-put-numbered
-    cast-put-numbered
-    put-numbered-requires
-    same-length
-    returns
-    enum-known-value
-    slice-aggregate-put-numbered-2
-    cast-put-numbered-2
-    put-numbered-requires-2
-    same-length-2
-    returns-2
-    enum-told
-    slice-aggregate-put-word
-    put-word-requires
-    same-length-3
-    returns-3)
+    (λ c. search needs) (λ c. search needs) (λ c κs. search needs) (λ c. search needs) returns (λ c. search needs) (λ c. search needs)
+    (λ c. search needs) (λ c κs. search needs) (λ c. search needs) returns-2 (λ c. search needs) (λ c. search needs)
+    (λ c κs. search needs) (λ c. search needs) returns-3)

@@ -8,15 +8,6 @@ use borrow.Author.Needs.{needs}
 use Rattle.console.proofs.answer.put_numbered.Statement.{statement}
 use Rattle.console.proofs.answer.put_numbered.Tie as tie
 
-put-word-requires : tie.Need-put-word-requires
-put-word-requires c κs = search needs
-
-put-number-requires : tie.Need-put-number-requires
-put-number-requires c κs = search needs
-
-same-length : tie.Need-same-length
-same-length c = search needs
-
 returns : tie.Need-returns
 returns c =
     let c2 = c .before .before in
@@ -27,4 +18,4 @@ returns c =
     ∙ sym (typed-append (lentPaper (now (a .out)) (a .at)) (now (a .word)) (decimal (a .v)))
 
 pub put-numbered-spec : {M : Type 1} → statement M
-put-numbered-spec = tie.close (tie.spec put-word-requires put-number-requires same-length returns)
+put-numbered-spec = tie.close (tie.spec (λ c κs. search needs) (λ c κs. search needs) (λ c. search needs) returns)

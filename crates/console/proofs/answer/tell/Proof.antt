@@ -5,18 +5,6 @@ use borrow.Author.Needs.{needs}
 use Rattle.console.proofs.answer.tell.Statement.{statement}
 use Rattle.console.proofs.answer.tell.Tie as tie
 
-put-word-requires : tie.Need-put-word-requires
-put-word-requires c κs = search needs
-
-put-number-requires : tie.Need-put-number-requires
-put-number-requires c κs = search needs
-
-put-byte-requires : tie.Need-put-byte-requires
-put-byte-requires c κs = search needs
-
-same-length : tie.Need-same-length
-same-length c = search needs
-
 returns : tie.Need-returns
 returns c =
     let c2 = c .before .before in
@@ -27,6 +15,4 @@ returns c =
     (c2 .put-byte .ensures)
 
 pub tell-spec : {M : Type 1} → statement M
-tell-spec =
-    tie.close
-    (tie.spec put-word-requires put-number-requires put-byte-requires same-length returns)
+tell-spec = tie.close (tie.spec (λ c κs. search needs) (λ c κs. search needs) (λ c κs. search needs) (λ c. search needs) returns)

@@ -8,18 +8,6 @@ use borrow.Author.Needs.{needs}
 use Rattle.console.proofs.answer.tell_find.Statement.{statement}
 use Rattle.console.proofs.answer.tell_find.Tie as tie
 
-find-requires : tie.Need-find-requires
-find-requires c κs = search needs
-
-counted-requires : tie.Need-counted-requires
-counted-requires c κs = search needs
-
-tell-search-requires : tie.Need-tell-search-requires
-tell-search-requires c κs = search needs
-
-same-length : tie.Need-same-length
-same-length c = search needs
-
 returns : tie.Need-returns
 returns c =
     let c2 = c .before .before in
@@ -30,4 +18,4 @@ returns c =
     ∙ ap (λ (x : Counted). typed (lentPaper (now (a .out)) (a .at)) (searchLine x)) (c3 .counted .ensures ∙ c4 .find .ensures)
 
 pub tell-find-spec : {M : Type 1} → statement M
-tell-find-spec = tie.close (tie.spec find-requires counted-requires tell-search-requires same-length returns)
+tell-find-spec = tie.close (tie.spec (λ c κs. search needs) (λ c κs. search needs) (λ c κs. search needs) (λ c. search needs) returns)

@@ -7,45 +7,12 @@ use borrow.Author.Needs.{needs}
 use Rattle.console.proofs.answer.tell_list.Statement.{statement}
 use Rattle.console.proofs.answer.tell_list.Tie as tie
 
-fit-requires : tie.Need-fit-requires
-fit-requires c κs = search needs
-
-slice-aggregate-tell : tie.Need-slice-aggregate-tell
-slice-aggregate-tell c = search needs
-
-tell-requires : tie.Need-tell-requires
-tell-requires c κs = search needs
-
-same-length : tie.Need-same-length
-same-length c = search needs
-
 returns : tie.Need-returns
 returns c =
     let c2 = c .before .before in
     let c3 = c2 .before .before .before in
     let c4 = c3 .before in
     list-unfit _ _ (c4 .fit .ensures) (not-true (c4 .fit .result) (c3 .if1 .taken)) (c2 .tell .ensures)
-
-word-requires : tie.Need-word-requires
-word-requires c κs = search needs
-
-count-chain-requires : tie.Need-count-chain-requires
-count-chain-requires c κs = search needs
-
-enum-known-counted : tie.Need-enum-known-counted
-enum-known-counted c = search needs
-
-enum-told : tie.Need-enum-told
-enum-told c = search needs
-
-slice-aggregate-tell-2 : tie.Need-slice-aggregate-tell-2
-slice-aggregate-tell-2 c = search needs
-
-tell-requires-2 : tie.Need-tell-requires-2
-tell-requires-2 c κs = search needs
-
-same-length-2 : tie.Need-same-length-2
-same-length-2 c = search needs
 
 returns-2 : tie.Need-returns-2
 returns-2 c =
@@ -63,18 +30,6 @@ returns-2 c =
     (c6 .word .ensures)
     (ap metOf (sym (c3 .enum-told .given .1)) ∙ c5 .count-chain .ensures)
     (c2 .tell2 .ensures)
-
-slice-aggregate-tell-3 : tie.Need-slice-aggregate-tell-3
-slice-aggregate-tell-3 c = search needs
-
-tell-requires-3 : tie.Need-tell-requires-3
-tell-requires-3 c κs = search needs
-
-tell-entries-requires : tie.Need-tell-entries-requires
-tell-entries-requires c κs = search needs
-
-same-length-3 : tie.Need-same-length-3
-same-length-3 c = search needs
 
 returns-3 : tie.Need-returns-3
 returns-3 c =
@@ -99,21 +54,6 @@ pub tell-list-spec : {M : Type 1} → statement M
 tell-list-spec =
     tie.close
     (tie.spec
-    fit-requires
-    slice-aggregate-tell
-    tell-requires
-    same-length
-    returns
-    word-requires
-    count-chain-requires
-    enum-known-counted
-    enum-told
-    slice-aggregate-tell-2
-    tell-requires-2
-    same-length-2
-    returns-2
-    slice-aggregate-tell-3
-    tell-requires-3
-    tell-entries-requires
-    same-length-3
-    returns-3)
+    (λ c κs. search needs) (λ c. search needs) (λ c κs. search needs) (λ c. search needs) returns (λ c κs. search needs)
+    (λ c κs. search needs) (λ c. search needs) (λ c. search needs) (λ c. search needs) (λ c κs. search needs) (λ c. search needs)
+    returns-2 (λ c. search needs) (λ c κs. search needs) (λ c κs. search needs) (λ c. search needs) returns-3)

@@ -10,15 +10,9 @@ returns : tie.Need-returns
 unfolding noted
 returns c = simp (le-ltb (c .before .before .args .line .count) width (omega arith))
 
-array-write-bytes : tie.Need-array-write-bytes
-array-write-bytes c = search needs
-
-add-t9 : tie.Need-add-t9
-add-t9 c = search needs
-
 returns-2 : tie.Need-returns-2
 unfolding noted
 returns-2 c = simp (lt-ltb (c .before .before .args .line .count) width (omega arith))
 
 pub note-spec : {M : Type 1} → statement M
-note-spec = tie.close (tie.spec returns array-write-bytes add-t9 returns-2)
+note-spec = tie.close (tie.spec returns (λ c. search needs) (λ c. search needs) returns-2)

@@ -15,21 +15,12 @@ Inv-loop line word i₀ i = (startsWith (drop i word) (drop i line) ≡ startsWi
 abbrev μ-loop : tie.MeasureT-loop
 μ-loop line word i₀ i = length word - i
 
-loop-holds : tie.Need-loop-holds Inv-loop μ-loop
-loop-holds c = search needs
-
 returns : tie.Need-returns Inv-loop μ-loop
 returns c =
     let at-loop = c .before .before in
     let a = at-loop .before .args in
     sym (begins-short (now (a .word)) (now (a .line)) (at-loop .loop .i) (c .before .loop-test .taken) (c .if1 .taken))
     ∙ at-loop .loop .inv .0
-
-shared-slice-read-if2 : tie.Need-shared-slice-read-if2 Inv-loop μ-loop
-shared-slice-read-if2 c = search needs
-
-shared-slice-read-if2-2 : tie.Need-shared-slice-read-if2-2 Inv-loop μ-loop
-shared-slice-read-if2-2 c = search needs
 
 returns-2 : tie.Need-returns-2 Inv-loop μ-loop
 returns-2 c =
@@ -38,12 +29,6 @@ returns-2 c =
     let a = at-loop .before .args in
     sym (begins-other (now (a .word)) (now (a .line)) (at-loop .loop .i) (c1 .before .loop-test .taken) (c1 .if1 .left) (c .if2 .taken))
     ∙ at-loop .loop .inv .0
-
-add-i : tie.Need-add-i Inv-loop μ-loop
-add-i c = search needs
-
-loop-less : tie.Need-loop-less Inv-loop μ-loop
-loop-less c = search needs
 
 loop-again : tie.Need-loop-again Inv-loop μ-loop
 loop-again c =
@@ -65,14 +50,5 @@ pub begins-spec : {M : Type 1} → statement M
 begins-spec =
     tie.close
     (tie.spec
-    Inv-loop
-    μ-loop
-    loop-holds
-    returns
-    shared-slice-read-if2
-    shared-slice-read-if2-2
-    returns-2
-    add-i
-    loop-less
-    loop-again
-    returns-3)
+    Inv-loop μ-loop (λ c. search needs) returns (λ c. search needs) (λ c. search needs) returns-2 (λ c. search needs) (λ c. search needs)
+    loop-again returns-3)

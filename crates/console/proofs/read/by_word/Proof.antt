@@ -5,29 +5,11 @@ use borrow.Author.Needs.{needs}
 use Rattle.console.proofs.read.by_word.Statement.{statement}
 use Rattle.console.proofs.read.by_word.Tie as tie
 
-slice-aggregate-begins : tie.Need-slice-aggregate-begins
-slice-aggregate-begins c = search needs
-
-begins-requires : tie.Need-begins-requires
-begins-requires c κs = search needs
-
-entry-requires : tie.Need-entry-requires
-entry-requires c κs = search needs
-
 returns : tie.Need-returns
 returns c =
     let t1 = c .before in
     let b1 = t1 .before in
     by-plus _ (sym (b1 .begins .ensures) ∙ t1 .if1 .taken) (c .entry .ensures)
-
-slice-aggregate-begins-2 : tie.Need-slice-aggregate-begins-2
-slice-aggregate-begins-2 c = search needs
-
-begins-requires-2 : tie.Need-begins-requires-2
-begins-requires-2 c κs = search needs
-
-removal-requires : tie.Need-removal-requires
-removal-requires c κs = search needs
 
 returns-2 : tie.Need-returns-2
 returns-2 c =
@@ -36,15 +18,6 @@ returns-2 c =
     let t1 = b2 .before .before in
     let b1 = t1 .before in
     by-minus _ (sym (b1 .begins .ensures) ∙ t1 .if1 .left) (sym (b2 .begins2 .ensures) ∙ t2 .if2 .taken) (c .removal .ensures)
-
-slice-aggregate-begins-3 : tie.Need-slice-aggregate-begins-3
-slice-aggregate-begins-3 c = search needs
-
-begins-requires-3 : tie.Need-begins-requires-3
-begins-requires-3 c κs = search needs
-
-question-requires : tie.Need-question-requires
-question-requires c κs = search needs
 
 returns-3 : tie.Need-returns-3
 returns-3 c =
@@ -56,15 +29,6 @@ returns-3 c =
     let b1 = t1 .before in
     by-ask _ (sym (b1 .begins .ensures) ∙ t1 .if1 .left) (sym (b2 .begins2 .ensures) ∙ t2 .if2 .left)
     (sym (b3 .begins3 .ensures) ∙ t3 .if3 .taken) (c .question .ensures)
-
-slice-aggregate-begins-4 : tie.Need-slice-aggregate-begins-4
-slice-aggregate-begins-4 c = search needs
-
-begins-requires-4 : tie.Need-begins-requires-4
-begins-requires-4 c κs = search needs
-
-mark-requires : tie.Need-mark-requires
-mark-requires c κs = search needs
 
 returns-4 : tie.Need-returns-4
 returns-4 c =
@@ -78,15 +42,6 @@ returns-4 c =
     let b1 = t1 .before in
     by-roll _ (sym (b1 .begins .ensures) ∙ t1 .if1 .left) (sym (b2 .begins2 .ensures) ∙ t2 .if2 .left)
     (sym (b3 .begins3 .ensures) ∙ t3 .if3 .left) (sym (b4 .begins4 .ensures) ∙ t4 .if4 .taken) (c .mark .ensures)
-
-slice-aggregate-begins-5 : tie.Need-slice-aggregate-begins-5
-slice-aggregate-begins-5 c = search needs
-
-begins-requires-5 : tie.Need-begins-requires-5
-begins-requires-5 c κs = search needs
-
-alone-after-requires : tie.Need-alone-after-requires
-alone-after-requires c κs = search needs
 
 returns-5 : tie.Need-returns-5
 returns-5 c =
@@ -103,15 +58,6 @@ returns-5 c =
     by-mark _ (sym (b1 .begins .ensures) ∙ t1 .if1 .left) (sym (b2 .begins2 .ensures) ∙ t2 .if2 .left)
     (sym (b3 .begins3 .ensures) ∙ t3 .if3 .left) (sym (b4 .begins4 .ensures) ∙ t4 .if4 .left) (sym (b5 .begins5 .ensures) ∙ t5 .if5 .taken)
     (c .alone-after .ensures)
-
-slice-aggregate-begins-6 : tie.Need-slice-aggregate-begins-6
-slice-aggregate-begins-6 c = search needs
-
-begins-requires-6 : tie.Need-begins-requires-6
-begins-requires-6 c κs = search needs
-
-alone-after-requires-2 : tie.Need-alone-after-requires-2
-alone-after-requires-2 c κs = search needs
 
 returns-6 : tie.Need-returns-6
 returns-6 c =
@@ -152,28 +98,7 @@ pub by-word-spec : {M : Type 1} → statement M
 by-word-spec =
     tie.close
     (tie.spec
-    slice-aggregate-begins
-    begins-requires
-    entry-requires
-    returns
-    slice-aggregate-begins-2
-    begins-requires-2
-    removal-requires
-    returns-2
-    slice-aggregate-begins-3
-    begins-requires-3
-    question-requires
-    returns-3
-    slice-aggregate-begins-4
-    begins-requires-4
-    mark-requires
-    returns-4
-    slice-aggregate-begins-5
-    begins-requires-5
-    alone-after-requires
-    returns-5
-    slice-aggregate-begins-6
-    begins-requires-6
-    alone-after-requires-2
-    returns-6
-    returns-7)
+    (λ c. search needs) (λ c κs. search needs) (λ c κs. search needs) returns (λ c. search needs) (λ c κs. search needs)
+    (λ c κs. search needs) returns-2 (λ c. search needs) (λ c κs. search needs) (λ c κs. search needs) returns-3 (λ c. search needs)
+    (λ c κs. search needs) (λ c κs. search needs) returns-4 (λ c. search needs) (λ c κs. search needs) (λ c κs. search needs) returns-5
+    (λ c. search needs) (λ c κs. search needs) (λ c κs. search needs) returns-6 returns-7)

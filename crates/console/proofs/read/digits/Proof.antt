@@ -15,12 +15,6 @@ Inv-loop line most v at value₀ i₀ value i = (readOn most value (drop i line)
 abbrev μ-loop : tie.MeasureT-loop
 μ-loop line most v at value₀ i₀ value i = length line - i
 
-loop-holds : tie.Need-loop-holds Inv-loop μ-loop
-loop-holds c = search needs
-
-shared-slice-read-b : tie.Need-shared-slice-read-b Inv-loop μ-loop
-shared-slice-read-b c = search needs
-
 returns : tie.Need-returns Inv-loop μ-loop
 returns c =
     let c1 = c .before .before in
@@ -37,12 +31,6 @@ returns-2 c =
     sym (on-high (a .most) (at-loop .loop .value) (now (a .line)) (at-loop .loop .i) (c2 .loop-test .taken) (c .if2 .taken))
     ∙ at-loop .loop .inv .0
 
-cast-digit : tie.Need-cast-digit Inv-loop μ-loop
-cast-digit c = search needs
-
-sub-if3 : tie.Need-sub-if3 Inv-loop μ-loop
-sub-if3 c = search needs
-
 returns-3 : tie.Need-returns-3 Inv-loop μ-loop
 returns-3 c =
     let c1 = c .before in
@@ -53,18 +41,6 @@ returns-3 c =
     sym (on-wide (a .most) (at-loop .loop .value) (now (a .line)) (at-loop .loop .i) (c3 .loop-test .taken) (c2 .if1 .left) (c1 .if2 .left)
     (c .if3 .taken))
     ∙ at-loop .loop .inv .0
-
-mul-value : tie.Need-mul-value Inv-loop μ-loop
-mul-value c = search needs
-
-add-value : tie.Need-add-value Inv-loop μ-loop
-add-value c = search needs
-
-add-i : tie.Need-add-i Inv-loop μ-loop
-add-i c = search needs
-
-loop-less : tie.Need-loop-less Inv-loop μ-loop
-loop-less c = search needs
 
 loop-again : tie.Need-loop-again Inv-loop μ-loop
 loop-again c =
@@ -89,18 +65,5 @@ pub digits-spec : {M : Type 1} → statement M
 digits-spec =
     tie.close
     (tie.spec
-    Inv-loop
-    μ-loop
-    loop-holds
-    shared-slice-read-b
-    returns
-    returns-2
-    cast-digit
-    sub-if3
-    returns-3
-    mul-value
-    add-value
-    add-i
-    loop-less
-    loop-again
-    returns-4)
+    Inv-loop μ-loop (λ c. search needs) (λ c. search needs) returns returns-2 (λ c. search needs) (λ c. search needs) returns-3
+    (λ c. search needs) (λ c. search needs) (λ c. search needs) (λ c. search needs) loop-again returns-4)

@@ -11,29 +11,11 @@ use borrow.Author.Needs.{needs}
 use Rattle.console.proofs.read.entry.Statement.{statement}
 use Rattle.console.proofs.read.entry.Tie as tie
 
-first-number-requires : tie.Need-first-number-requires
-first-number-requires c κs = search needs
-
-enum-known-first : tie.Need-enum-known-first
-enum-known-first c = search needs
-
-enum-told : tie.Need-enum-told
-enum-told c = search needs
-
 returns : tie.Need-returns
 returns c =
     let c2 = c .before .before in
     let line = now (c2 .before .before .args .line) in
     entry-none _ (ap (readOf line) (sym (c .enum-told .given .1)) ∙ c2 .first-number .ensures)
-
-next-number-requires : tie.Need-next-number-requires
-next-number-requires c κs = search needs
-
-enum-known-second : tie.Need-enum-known-second
-enum-known-second c = search needs
-
-enum-told-2 : tie.Need-enum-told-2
-enum-told-2 c = search needs
 
 returns-2 : tie.Need-returns-2
 returns-2 c =
@@ -44,15 +26,6 @@ returns-2 c =
     entry-one _
     (ap (readOf line) (sym (c4 .first .given .1)) ∙ c6 .first-number .ensures)
     (ap (readOf line) (sym (c .enum-told2 .given .1)) ∙ c2 .next-number .ensures)
-
-next-number-requires-2 : tie.Need-next-number-requires-2
-next-number-requires-2 c κs = search needs
-
-enum-known-third : tie.Need-enum-known-third
-enum-known-third c = search needs
-
-enum-told-3 : tie.Need-enum-told-3
-enum-told-3 c = search needs
 
 returns-3 : tie.Need-returns-3
 returns-3 c =
@@ -115,18 +88,5 @@ pub entry-spec : {M : Type 1} → statement M
 entry-spec =
     tie.close
     (tie.spec
-    first-number-requires
-    enum-known-first
-    enum-told
-    returns
-    next-number-requires
-    enum-known-second
-    enum-told-2
-    returns-2
-    next-number-requires-2
-    enum-known-third
-    enum-told-3
-    returns-3
-    returns-4
-    cast-t14
-    returns-5)
+    (λ c κs. search needs) (λ c. search needs) (λ c. search needs) returns (λ c κs. search needs) (λ c. search needs) (λ c. search needs)
+    returns-2 (λ c κs. search needs) (λ c. search needs) (λ c. search needs) returns-3 returns-4 cast-t14 returns-5)

@@ -11,12 +11,6 @@ returns c =
     let a = c .before .before .args in
     sym (number-end (a .most) (now (a .line)) (a .at) (c .if1 .taken))
 
-shared-slice-read-b : tie.Need-shared-slice-read-b
-shared-slice-read-b c = search needs
-
-add-t9 : tie.Need-add-t9
-add-t9 c = search needs
-
 returns-2 : tie.Need-returns-2
 returns-2 c =
     let c1 = c .before .before in
@@ -35,15 +29,6 @@ returns-4 c =
     let a = c3 .before .before .args in
     sym (number-high (a .most) (now (a .line)) (a .at) (c3 .if1 .left) (c .if4 .taken))
 
-cast-digits : tie.Need-cast-digits
-cast-digits c = search needs
-
-add-digits : tie.Need-add-digits
-add-digits c = search needs
-
-digits-requires : tie.Need-digits-requires
-digits-requires c κs = search needs
-
 returns-5 : tie.Need-returns-5
 returns-5 c =
     let c1 = c .before in
@@ -58,13 +43,5 @@ pub first-number-spec : {M : Type 1} → statement M
 first-number-spec =
     tie.close
     (tie.spec
-    returns
-    shared-slice-read-b
-    add-t9
-    returns-2
-    returns-3
-    returns-4
-    cast-digits
-    add-digits
-    digits-requires
-    returns-5)
+    returns (λ c. search needs) (λ c. search needs) returns-2 returns-3 returns-4 (λ c. search needs) (λ c. search needs)
+    (λ c κs. search needs) returns-5)

@@ -11,15 +11,6 @@ use borrow.Author.Needs.{needs}
 use Rattle.console.proofs.read.mark.Statement.{statement}
 use Rattle.console.proofs.read.mark.Tie as tie
 
-first-number-requires : tie.Need-first-number-requires
-first-number-requires c κs = search needs
-
-enum-known-first : tie.Need-enum-known-first
-enum-known-first c = search needs
-
-enum-told : tie.Need-enum-told
-enum-told c = search needs
-
 returns : tie.Need-returns
 returns c =
     let c2 = c .before .before in
@@ -51,6 +42,4 @@ returns-3 c =
     sym (alone-end _ line _ (c .if1 .left)) ∙ mark-all _ (ap (readOf line) (sym (c2 .first .given .1)) ∙ c4 .first-number .ensures)
 
 pub mark-spec : {M : Type 1} → statement M
-mark-spec =
-    tie.close
-    (tie.spec first-number-requires enum-known-first enum-told returns returns-2 cast-t8 returns-3)
+mark-spec = tie.close (tie.spec (λ c κs. search needs) (λ c. search needs) (λ c. search needs) returns returns-2 cast-t8 returns-3)

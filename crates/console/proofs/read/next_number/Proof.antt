@@ -11,20 +11,11 @@ returns c =
     let a = c .before .before .args in
     sym (next-end (a .most) (now (a .line)) (a .at) (c .if1 .taken))
 
-shared-slice-read-if2 : tie.Need-shared-slice-read-if2
-shared-slice-read-if2 c = search needs
-
 returns-2 : tie.Need-returns-2
 returns-2 c =
     let c1 = c .before .before in
     let a = c1 .before .before .args in
     sym (next-other (a .most) (now (a .line)) (a .at) (c1 .if1 .left) (c .if2 .taken))
-
-add-first-number : tie.Need-add-first-number
-add-first-number c = search needs
-
-first-number-requires : tie.Need-first-number-requires
-first-number-requires c κs = search needs
 
 returns-3 : tie.Need-returns-3
 returns-3 c =
@@ -34,12 +25,4 @@ returns-3 c =
     c .first-number .ensures ∙ sym (next-space (a .most) (now (a .line)) (a .at) (c2 .if1 .left) (c1 .if2 .left))
 
 pub next-number-spec : {M : Type 1} → statement M
-next-number-spec =
-    tie.close
-    (tie.spec
-    returns
-    shared-slice-read-if2
-    returns-2
-    add-first-number
-    first-number-requires
-    returns-3)
+next-number-spec = tie.close (tie.spec returns (λ c. search needs) returns-2 (λ c. search needs) (λ c κs. search needs) returns-3)

@@ -6,15 +6,6 @@ use borrow.Author.Needs.{needs}
 use Rattle.console.proofs.read.removal.Statement.{statement}
 use Rattle.console.proofs.read.removal.Tie as tie
 
-two-numbers-requires : tie.Need-two-numbers-requires
-two-numbers-requires c κs = search needs
-
-enum-known-named : tie.Need-enum-known-named
-enum-known-named c = search needs
-
-enum-told : tie.Need-enum-told
-enum-told c = search needs
-
 returns : tie.Need-returns
 returns c =
     let c3 = c .before .before .before in
@@ -26,5 +17,4 @@ returns-2 c =
     ap (pairCommand remove) (sym (c .enum-told .given .1)) ∙ c2 .two-numbers .ensures remove
 
 pub removal-spec : {M : Type 1} → statement M
-removal-spec =
-    tie.close (tie.spec two-numbers-requires enum-known-named enum-told returns returns-2)
+removal-spec = tie.close (tie.spec (λ c κs. search needs) (λ c. search needs) (λ c. search needs) returns returns-2)

@@ -8,29 +8,11 @@ use borrow.Author.Needs.{needs}
 use Rattle.console.proofs.read.two_numbers.Statement.{statement}
 use Rattle.console.proofs.read.two_numbers.Tie as tie
 
-first-number-requires : tie.Need-first-number-requires
-first-number-requires c κs = search needs
-
-enum-known-first : tie.Need-enum-known-first
-enum-known-first c = search needs
-
-enum-told : tie.Need-enum-told
-enum-told c = search needs
-
 returns : tie.Need-returns
 returns c =
     let c2 = c .before .before in
     let line = now (c2 .before .before .args .line) in
     λ k. pair-none _ k (ap (readOf line) (sym (c .enum-told .given .1)) ∙ c2 .first-number .ensures)
-
-next-number-requires : tie.Need-next-number-requires
-next-number-requires c κs = search needs
-
-enum-known-second : tie.Need-enum-known-second
-enum-known-second c = search needs
-
-enum-told-2 : tie.Need-enum-told-2
-enum-told-2 c = search needs
 
 returns-2 : tie.Need-returns-2
 returns-2 c =
@@ -73,13 +55,5 @@ pub two-numbers-spec : {M : Type 1} → statement M
 two-numbers-spec =
     tie.close
     (tie.spec
-    first-number-requires
-    enum-known-first
-    enum-told
-    returns
-    next-number-requires
-    enum-known-second
-    enum-told-2
-    returns-2
-    returns-3
-    returns-4)
+    (λ c κs. search needs) (λ c. search needs) (λ c. search needs) returns (λ c κs. search needs) (λ c. search needs) (λ c. search needs)
+    returns-2 returns-3 returns-4)

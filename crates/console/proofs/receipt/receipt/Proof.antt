@@ -8,15 +8,6 @@ use Rattle.console.proofs.receipt.receipt.Tie as tie
 returns : tie.Need-returns
 returns c = (receipt-short _ _ _ (c .if1 .taken), search needs)
 
-slice-aggregate-tell : tie.Need-slice-aggregate-tell
-slice-aggregate-tell c = search needs
-
-tell-requires : tie.Need-tell-requires
-tell-requires c κs = search needs
-
-same-length : tie.Need-same-length
-same-length c = search needs
-
 returns-2 : tie.Need-returns-2
 returns-2 c =
     let c2 = c .before .before in
@@ -24,12 +15,6 @@ returns-2 c =
       receipt-refused _ _ _ (c3 .before .if1 .left) (c3 .if2 .taken) (c2 .tell .ensures),
       text-within _ _ (c2 .tell .ensures) (omega arith),
     )
-
-tell-list-requires : tie.Need-tell-list-requires
-tell-list-requires c κs = search needs
-
-same-length-2 : tie.Need-same-length-2
-same-length-2 c = search needs
 
 returns-3 : tie.Need-returns-3
 returns-3 c =
@@ -43,11 +28,4 @@ pub receipt-spec : {M : Type 1} → statement M
 receipt-spec =
     tie.close
     (tie.spec
-    returns
-    slice-aggregate-tell
-    tell-requires
-    same-length
-    returns-2
-    tell-list-requires
-    same-length-2
-    returns-3)
+    returns (λ c. search needs) (λ c κs. search needs) (λ c. search needs) returns-2 (λ c κs. search needs) (λ c. search needs) returns-3)

@@ -7,28 +7,10 @@ use borrow.Author.Needs.{needs}
 use Rattle.index.proofs.check.check.Statement.{statement}
 use Rattle.index.proofs.check.check.Tie as tie
 
-fit-unsized-requires : tie.Need-fit-unsized-requires
-fit-unsized-requires c κs = search needs
-
 returns : tie.Need-returns
 returns c =
     let at-fit = c .before in
     check-unfit _ (at-fit .fit-unsized .ensures) (not-true (at-fit .fit-unsized .result) (c .if1 .taken))
-
-word-requires : tie.Need-word-requires
-word-requires c κs = search needs
-
-check-invariants-requires : tie.Need-check-invariants-requires
-check-invariants-requires c κs = search needs
-
-enum-told : tie.Need-enum-told
-enum-told c = search needs
-
-enum-known-walked : tie.Need-enum-known-walked
-enum-known-walked c = search needs
-
-enum-told-2 : tie.Need-enum-told-2
-enum-told-2 c = search needs
 
 returns-2 : tie.Need-returns-2
 returns-2 c =
@@ -73,13 +55,5 @@ pub check-spec : {M : Type 1} → statement M
 check-spec =
     tie.close
     (tie.spec
-    fit-unsized-requires
-    returns
-    word-requires
-    check-invariants-requires
-    enum-told
-    enum-known-walked
-    enum-told-2
-    returns-2
-    returns-3
-    returns-4)
+    (λ c κs. search needs) returns (λ c κs. search needs) (λ c κs. search needs) (λ c. search needs) (λ c. search needs)
+    (λ c. search needs) returns-2 returns-3 returns-4)

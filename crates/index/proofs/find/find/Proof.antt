@@ -8,22 +8,10 @@ use Rattle.index.proofs.Gate.{find-unfit, find-fit, looks-word}
 use Rattle.index.proofs.find.find.Statement.{statement}
 use Rattle.index.proofs.find.find.Tie as tie
 
-fit-unsized-requires : tie.Need-fit-unsized-requires
-fit-unsized-requires c κs = search needs
-
 returns : tie.Need-returns
 returns c =
     let at-fit = c .before in
     find-unfit _ (at-fit .fit-unsized .ensures) _ _ (not-true (at-fit .fit-unsized .result) (c .if1 .taken))
-
-word-requires : tie.Need-word-requires
-word-requires c κs = search needs
-
-find-tree-node-requires : tie.Need-find-tree-node-requires
-find-tree-node-requires c κs = search needs
-
-enum-known-found : tie.Need-enum-known-found
-enum-known-found c = search needs
 
 cast-count : tie.Need-cast-count
 cast-count c =
@@ -36,9 +24,6 @@ cast-count c =
           (ap searchedOf (sym (c .before .found .given .1)) ∙ at-search .find-tree-node .ensures),
     )
 
-enum-known-found-2 : tie.Need-enum-known-found-2
-enum-known-found-2 c = search needs
-
 cast-count-2 : tie.Need-cast-count-2
 cast-count-2 c =
     let at-search = c .before .before .before in
@@ -49,9 +34,6 @@ cast-count-2 c =
       looks-word _ (at-fit .fit-unsized .ensures) (not-false (at-fit .fit-unsized .result) (at-test .if1 .left)) _ _ _
           (ap searchedOf (sym (c .before .found2 .given .1)) ∙ at-search .find-tree-node .ensures),
     )
-
-enum-known-found-3 : tie.Need-enum-known-found-3
-enum-known-found-3 c = search needs
 
 cast-count-3 : tie.Need-cast-count-3
 cast-count-3 c =
@@ -113,16 +95,5 @@ pub find-spec : {M : Type 1} → statement M
 find-spec =
     tie.close
     (tie.spec
-    fit-unsized-requires
-    returns
-    word-requires
-    find-tree-node-requires
-    enum-known-found
-    cast-count
-    enum-known-found-2
-    cast-count-2
-    enum-known-found-3
-    cast-count-3
-    returns-2
-    returns-3
-    returns-4)
+    (λ c κs. search needs) returns (λ c κs. search needs) (λ c κs. search needs) (λ c. search needs) cast-count (λ c. search needs)
+    cast-count-2 (λ c. search needs) cast-count-3 returns-2 returns-3 returns-4)

@@ -4,9 +4,6 @@ use Rattle.index_rules.specs.Live.{fits}
 use Rattle.index.proofs.fit.fit.Statement.{statement}
 use Rattle.index.proofs.fit.fit.Tie as tie
 
-fit-unsized-requires : tie.Need-fit-unsized-requires
-fit-unsized-requires c κs = search needs
-
 returns : tie.Need-returns
 unfolding fits
 returns c = rw (← c .before .fit-unsized .ensures, c .if1 .taken)
@@ -16,4 +13,4 @@ unfolding fits
 returns-2 c = rw (← c .before .fit-unsized .ensures, c .if1 .left)
 
 pub fit-spec : {M : Type 1} → statement M
-fit-spec = tie.close (tie.spec fit-unsized-requires returns returns-2)
+fit-spec = tie.close (tie.spec (λ c κs. search needs) returns returns-2)

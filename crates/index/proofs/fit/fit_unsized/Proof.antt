@@ -11,12 +11,6 @@ use Rattle.index_rules.specs.Live.{fitsUnsized, unsized}
 use Rattle.index.proofs.fit.fit_unsized.Statement.{statement}
 use Rattle.index.proofs.fit.fit_unsized.Tie as tie
 
-mul-if3 : tie.Need-mul-if3
-mul-if3 c = search needs
-
-mul-if4 : tie.Need-mul-if4
-mul-if4 c = search needs
-
 -- What is asked of the slices is what the last `&&` is asked.
 asked : (c : tie.Joined3)
     → let a = c .before .before .before .args in
@@ -34,4 +28,4 @@ returns-2 : tie.Need-returns-2
 returns-2 c = rw (← asked (c .before), c .if4 .left)
 
 pub fit-unsized-spec : {M : Type 1} → statement M
-fit-unsized-spec = tie.close (tie.spec mul-if3 mul-if4 returns returns-2)
+fit-unsized-spec = tie.close (tie.spec (λ c. search needs) (λ c. search needs) returns returns-2)

@@ -7,14 +7,8 @@ use borrow.Author.Needs.{needs}
 use Rattle.index.proofs.fit_index.can_count.Statement.{statement}
 use Rattle.index.proofs.fit_index.can_count.Tie as tie
 
-word-requires : tie.Need-word-requires
-word-requires c κs = search needs
-
-cast-result : tie.Need-cast-result
-cast-result c = search needs
-
 returns : tie.Need-returns
 returns c = ap (λ (n : ℕ). leb n mostSlots) (c .word .ensures)
 
 pub can-count-spec : {M : Type 1} → statement M
-can-count-spec = tie.close (tie.spec word-requires cast-result returns)
+can-count-spec = tie.close (tie.spec (λ c κs. search needs) (λ c. search needs) returns)

@@ -5,16 +5,10 @@ use borrow.Author.Needs.{needs}
 use Rattle.index.proofs.fit_index.fit_index.Statement.{statement}
 use Rattle.index.proofs.fit_index.fit_index.Tie as tie
 
-fit-requires : tie.Need-fit-requires
-fit-requires c κs = search needs
-
 returns : tie.Need-returns
 returns c =
     let c1 = c .before in
     unfit-tree _ (c1 .fit .ensures) (not-true (c1 .fit .result) (c .if1 .taken))
-
-fit-journal-requires : tie.Need-fit-journal-requires
-fit-journal-requires c κs = search needs
 
 returns-2 : tie.Need-returns-2
 returns-2 c =
@@ -33,4 +27,4 @@ returns-3 c =
     (not-false (c1 .fit-journal .result) (c .if2 .left))
 
 pub fit-index-spec : {M : Type 1} → statement M
-fit-index-spec = tie.close (tie.spec fit-requires returns fit-journal-requires returns-2 returns-3)
+fit-index-spec = tie.close (tie.spec (λ c κs. search needs) returns (λ c κs. search needs) returns-2 returns-3)

@@ -9,15 +9,9 @@ use Rattle.index.proofs.fresh.fit_lengths.Lts as lts
 use Rattle.index.proofs.fit.fit.Reads as fit-reads
 use Rattle.index.proofs.journal.is_whole.Reads as is-whole-reads
 
-fit-requires : tie.Need-fit-requires
-fit-requires c κs = search needs
-
 returns : tie.Need-returns
 unfolding fitsLengths
 returns c = rw (← c .before .fit .ensures, not-true (c .before .fit .result) (c .if1 .taken))
-
-is-whole-requires : tie.Need-is-whole-requires
-is-whole-requires c κs = search needs
 
 returns-2 : tie.Need-returns-2
 unfolding fitsLengths
@@ -26,4 +20,4 @@ returns-2 c =
     rw (← c1 .before .fit .ensures, not-false (c1 .before .fit .result) (c1 .if1 .left)) (c .is-whole .ensures)
 
 pub fit-lengths-spec : {M : Type 1} → statement M
-fit-lengths-spec = tie.close (tie.spec fit-requires returns is-whole-requires returns-2)
+fit-lengths-spec = tie.close (tie.spec (λ c κs. search needs) returns (λ c κs. search needs) returns-2)

@@ -9,24 +9,6 @@ use borrow.Author.Needs.{needs}
 use Rattle.index.proofs.fresh.fresh.Statement.{statement}
 use Rattle.index.proofs.fresh.fresh.Tie as tie
 
-fit-lengths-requires : tie.Need-fit-lengths-requires
-fit-lengths-requires c κs = search needs
-
-same-length : tie.Need-same-length
-same-length c = search needs
-
-same-length-2 : tie.Need-same-length-2
-same-length-2 c = search needs
-
-same-length-3 : tie.Need-same-length-3
-same-length-3 c = search needs
-
-same-length-4 : tie.Need-same-length-4
-same-length-4 c = search needs
-
-same-length-5 : tie.Need-same-length-5
-same-length-5 c = search needs
-
 returns : tie.Need-returns
 returns c =
     let c1 = c .before in
@@ -34,21 +16,12 @@ returns c =
     fresh-unfit (now (a .names)) (now (a .cells)) (now (a .head)) (now (a .sizes)) (now (a .lines)) (c1 .fit-lengths .ensures)
     (not-true (c1 .fit-lengths .result) (c .if1 .taken))
 
-capacity-of-requires : tie.Need-capacity-of-requires
-capacity-of-requires c κs = search needs
-
 cast-bare : tie.Need-cast-bare
 cast-bare c =
     let c1 = c .before .before .before .before .before .before in
     let c2 = c1 .before in
     let fit = lengths-fit _ (sym (c2 .fit-lengths .ensures) ∙ not-false (c2 .fit-lengths .result) (c1 .if1 .left)) in
     omega (arith, fit .tree .two, fit .tree .most)
-
-bare-requires : tie.Need-bare-requires
-bare-requires c κs = search needs
-
-head-put-requires : tie.Need-head-put-requires
-head-put-requires c κs = search needs
 
 cast-cut : tie.Need-cast-cut
 cast-cut c =
@@ -58,24 +31,6 @@ cast-cut c =
     let c3 = c2 .before in
     let fit = lengths-fit _ (sym (c3 .fit-lengths .ensures) ∙ not-false (c3 .fit-lengths .result) (c2 .if1 .left)) in
     omega (arith, c1 .capacity-of .ensures, fit .words, fit .most)
-
-cut-requires : tie.Need-cut-requires
-cut-requires c κs = search needs
-
-same-length-6 : tie.Need-same-length-6
-same-length-6 c = search needs
-
-same-length-7 : tie.Need-same-length-7
-same-length-7 c = search needs
-
-same-length-8 : tie.Need-same-length-8
-same-length-8 c = search needs
-
-same-length-9 : tie.Need-same-length-9
-same-length-9 c = search needs
-
-same-length-10 : tie.Need-same-length-10
-same-length-10 c = search needs
 
 returns-2 : tie.Need-returns-2
 returns-2 c =
@@ -94,22 +49,6 @@ pub fresh-spec : {M : Type 1} → statement M
 fresh-spec =
     tie.close
     (tie.spec
-    fit-lengths-requires
-    same-length
-    same-length-2
-    same-length-3
-    same-length-4
-    same-length-5
-    returns
-    capacity-of-requires
-    cast-bare
-    bare-requires
-    head-put-requires
-    cast-cut
-    cut-requires
-    same-length-6
-    same-length-7
-    same-length-8
-    same-length-9
-    same-length-10
-    returns-2)
+    (λ c κs. search needs) (λ c. search needs) (λ c. search needs) (λ c. search needs) (λ c. search needs) (λ c. search needs) returns
+    (λ c κs. search needs) cast-bare (λ c κs. search needs) (λ c κs. search needs) cast-cut (λ c κs. search needs) (λ c. search needs)
+    (λ c. search needs) (λ c. search needs) (λ c. search needs) (λ c. search needs) returns-2)

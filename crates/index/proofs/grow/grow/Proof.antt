@@ -21,12 +21,6 @@ returns c =
     grow-wide (lentTree (now (a .names)) (now (a .cells)) (now (a .head)) (now (a .sizes))) (a .x) (a .y) (a .hash) (a .key) (a .place)
     (c .if1 .taken)
 
-word-requires : tie.Need-word-requires
-word-requires c κs = search needs
-
-same-length : tie.Need-same-length
-same-length c = search needs
-
 returns-2 : tie.Need-returns-2
 returns-2 c =
     let c1 = c .before in
@@ -36,48 +30,6 @@ returns-2 c =
     (c2 .if1 .left)
     (c1 .word .ensures)
     (c .if2 .taken)
-
-cast-n : tie.Need-cast-n
-cast-n c = search needs
-
-word-requires-2 : tie.Need-word-requires-2
-word-requires-2 c κs = search needs
-
-word-requires-3 : tie.Need-word-requires-3
-word-requires-3 c κs = search needs
-
-add-more : tie.Need-add-more
-add-more c = search needs
-
-get-requires : tie.Need-get-requires
-get-requires c κs = search needs
-
-put-pair-requires : tie.Need-put-pair-requires
-put-pair-requires c κs = search needs
-
-put-requires : tie.Need-put-requires
-put-requires c κs = search needs
-
-seat-requires : tie.Need-seat-requires
-seat-requires c κs = search needs
-
-hang-slot-requires : tie.Need-hang-slot-requires
-hang-slot-requires c κs = search needs
-
-head-put-requires : tie.Need-head-put-requires
-head-put-requires c κs = search needs
-
-same-length-2 : tie.Need-same-length-2
-same-length-2 c = search needs
-
-same-length-3 : tie.Need-same-length-3
-same-length-3 c = search needs
-
-same-length-4 : tie.Need-same-length-4
-same-length-4 c = search needs
-
-same-length-5 : tie.Need-same-length-5
-same-length-5 c = search needs
 
 returns-3 : tie.Need-returns-3
 returns-3 c =
@@ -113,22 +65,6 @@ pub grow-spec : {M : Type 1} → statement M
 grow-spec =
     tie.close
     (tie.spec
-    returns
-    word-requires
-    same-length
-    returns-2
-    cast-n
-    word-requires-2
-    word-requires-3
-    add-more
-    get-requires
-    put-pair-requires
-    put-requires
-    seat-requires
-    hang-slot-requires
-    head-put-requires
-    same-length-2
-    same-length-3
-    same-length-4
-    same-length-5
-    returns-3)
+    returns (λ c κs. search needs) (λ c. search needs) returns-2 (λ c. search needs) (λ c κs. search needs) (λ c κs. search needs)
+    (λ c. search needs) (λ c κs. search needs) (λ c κs. search needs) (λ c κs. search needs) (λ c κs. search needs) (λ c κs. search needs)
+    (λ c κs. search needs) (λ c. search needs) (λ c. search needs) (λ c. search needs) (λ c. search needs) returns-3)

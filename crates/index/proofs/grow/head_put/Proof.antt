@@ -5,18 +5,6 @@ use borrow.Author.Needs.{needs}
 use Rattle.index.proofs.grow.head_put.Statement.{statement}
 use Rattle.index.proofs.grow.head_put.Tie as tie
 
-put-word-requires : tie.Need-put-word-requires
-put-word-requires c κs = search needs
-
-put-word-requires-2 : tie.Need-put-word-requires-2
-put-word-requires-2 c κs = search needs
-
-put-word-requires-3 : tie.Need-put-word-requires-3
-put-word-requires-3 c κs = search needs
-
-same-length : tie.Need-same-length
-same-length c = search needs
-
 returns : tie.Need-returns
 returns c =
     let c1 = c .before .before in
@@ -29,6 +17,4 @@ returns c =
     (c1 .put-word3 .ensures)
 
 pub head-put-spec : {M : Type 1} → statement M
-head-put-spec =
-    tie.close
-    (tie.spec put-word-requires put-word-requires-2 put-word-requires-3 same-length returns)
+head-put-spec = tie.close (tie.spec (λ c κs. search needs) (λ c κs. search needs) (λ c κs. search needs) (λ c. search needs) returns)

@@ -17,9 +17,6 @@ abbrev μ-loop : tie.MeasureT-loop
 loop-holds : tie.Need-loop-holds Inv-loop μ-loop
 loop-holds c = refl
 
-get-requires : tie.Need-get-requires Inv-loop μ-loop
-get-requires c κs = search needs
-
 returns : tie.Need-returns Inv-loop μ-loop
 returns c =
     let c1 = c .before in
@@ -27,12 +24,6 @@ returns c =
     let c3 = c2 .before in
     let a = c3 .before .before .args in
     free-here (now (a .cells)) (a .n) (c3 .loop .k) (c3 .loop .inv) (c2 .loop-test .taken) (c1 .get .ensures) (c .if1 .taken)
-
-add-k : tie.Need-add-k Inv-loop μ-loop
-add-k c = search needs
-
-loop-less : tie.Need-loop-less Inv-loop μ-loop
-loop-less c = search needs
 
 loop-again : tie.Need-loop-again Inv-loop μ-loop
 loop-again c =
@@ -51,4 +42,5 @@ returns-2 c =
 pub lowest-free-spec : {M : Type 1} → statement M
 lowest-free-spec =
     tie.close
-    (tie.spec Inv-loop μ-loop loop-holds get-requires returns add-k loop-less loop-again returns-2)
+    (tie.spec
+    Inv-loop μ-loop loop-holds (λ c κs. search needs) returns (λ c. search needs) (λ c. search needs) loop-again returns-2)

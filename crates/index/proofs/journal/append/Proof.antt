@@ -6,12 +6,6 @@ use borrow.Author.Needs.{needs}
 use Rattle.index.proofs.journal.append.Statement.{statement}
 use Rattle.index.proofs.journal.append.Tie as tie
 
-length-of-requires : tie.Need-length-of-requires
-length-of-requires c κs = search needs
-
-same-length : tie.Need-same-length
-same-length c = search needs
-
 returns : tie.Need-returns
 returns c =
     let c1 = c .before in
@@ -19,18 +13,6 @@ returns c =
     no-append (now (a .lines)) (lineMade (a .kind) (a .hash) (a .key) (a .place) (a .prehash) (a .prekey))
     (c1 .length-of .ensures)
     (c .if1 .taken)
-
-put-line-requires : tie.Need-put-line-requires
-put-line-requires c κs = search needs
-
-add-put-wide : tie.Need-add-put-wide
-add-put-wide c = search needs
-
-put-wide-requires : tie.Need-put-wide-requires
-put-wide-requires c κs = search needs
-
-same-length-2 : tie.Need-same-length-2
-same-length-2 c = search needs
 
 returns-2 : tie.Need-returns-2
 returns-2 c =
@@ -49,11 +31,5 @@ pub append-spec : {M : Type 1} → statement M
 append-spec =
     tie.close
     (tie.spec
-    length-of-requires
-    same-length
-    returns
-    put-line-requires
-    add-put-wide
-    put-wide-requires
-    same-length-2
-    returns-2)
+    (λ c κs. search needs) (λ c. search needs) returns (λ c κs. search needs) (λ c. search needs) (λ c κs. search needs)
+    (λ c. search needs) returns-2)

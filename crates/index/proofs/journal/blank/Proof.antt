@@ -15,23 +15,8 @@ Inv-loop lines₀ m count c₀ lines c = (blanked c lines m ≡ blanked count li
 abbrev μ-loop : tie.MeasureT-loop
 μ-loop lines₀ m count c₀ lines c = c
 
-loop-holds : tie.Need-loop-holds Inv-loop μ-loop
-loop-holds c = search needs
-
-sub-c : tie.Need-sub-c Inv-loop μ-loop
-sub-c c = search needs
-
-cast-put-line : tie.Need-cast-put-line Inv-loop μ-loop
-cast-put-line c = search needs
-
 add-put-line : tie.Need-add-put-line Inv-loop μ-loop
 add-put-line c = omega arith
-
-put-line-requires : tie.Need-put-line-requires Inv-loop μ-loop
-put-line-requires c κs = search needs
-
-loop-less : tie.Need-loop-less Inv-loop μ-loop
-loop-less c = search needs
 
 loop-again : tie.Need-loop-again Inv-loop μ-loop
 loop-again c =
@@ -44,9 +29,6 @@ loop-again c =
       c2 .put-line .kept .0 ∙ c4 .loop .inv .2,
     )
 
-same-length : tie.Need-same-length Inv-loop μ-loop
-same-length c = search needs
-
 returns : tie.Need-returns Inv-loop μ-loop
 returns c =
     let c1 = c .before in
@@ -57,14 +39,5 @@ pub blank-spec : {M : Type 1} → statement M
 blank-spec =
     tie.close
     (tie.spec
-    Inv-loop
-    μ-loop
-    loop-holds
-    sub-c
-    cast-put-line
-    add-put-line
-    put-line-requires
-    loop-less
-    loop-again
-    same-length
-    returns)
+    Inv-loop μ-loop (λ c. search needs) (λ c. search needs) (λ c. search needs) add-put-line (λ c κs. search needs) (λ c. search needs)
+    loop-again (λ c. search needs) returns)

@@ -5,15 +5,6 @@ use borrow.Author.Needs.{needs}
 use Rattle.index.proofs.journal.cut.Statement.{statement}
 use Rattle.index.proofs.journal.cut.Tie as tie
 
-blank-requires : tie.Need-blank-requires
-blank-requires c κs = search needs
-
-put-wide-requires : tie.Need-put-wide-requires
-put-wide-requires c κs = search needs
-
-same-length : tie.Need-same-length
-same-length c = search needs
-
 returns : tie.Need-returns
 returns c =
     let c1 = c .before .before in
@@ -24,4 +15,4 @@ returns c =
     (c1 .put-wide .ensures)
 
 pub cut-spec : {M : Type 1} → statement M
-cut-spec = tie.close (tie.spec blank-requires put-wide-requires same-length returns)
+cut-spec = tie.close (tie.spec (λ c κs. search needs) (λ c κs. search needs) (λ c. search needs) returns)

@@ -10,18 +10,9 @@ use Rattle.index.proofs.journal.capacity_of.Reads as capacity-of-reads
 use Rattle.index.proofs.journal.is_whole.Reads as is-whole-reads
 use Rattle.index.proofs.journal.length_of.Reads as length-of-reads
 
-is-whole-requires : tie.Need-is-whole-requires
-is-whole-requires c κs = search needs
-
 returns : tie.Need-returns
 unfolding fitsJournal
 returns c = rw (← c .before .is-whole .ensures, not-true (c .before .is-whole .result) (c .if1 .taken))
-
-capacity-of-requires : tie.Need-capacity-of-requires
-capacity-of-requires c κs = search needs
-
-length-of-requires : tie.Need-length-of-requires
-length-of-requires c κs = search needs
 
 returns-2 : tie.Need-returns-2
 unfolding fitsJournal
@@ -36,6 +27,4 @@ returns-2 c =
     )
 
 pub fit-journal-spec : {M : Type 1} → statement M
-fit-journal-spec =
-    tie.close
-    (tie.spec is-whole-requires returns capacity-of-requires length-of-requires returns-2)
+fit-journal-spec = tie.close (tie.spec (λ c κs. search needs) returns (λ c κs. search needs) (λ c κs. search needs) returns-2)

@@ -7,14 +7,8 @@ use Rattle.index.proofs.journal.is_full.Lts as lts
 use Rattle.index.proofs.journal.capacity_of.Reads as capacity-of-reads
 use Rattle.index.proofs.journal.length_of.Reads as length-of-reads
 
-length-of-requires : tie.Need-length-of-requires
-length-of-requires c κs = search needs
-
-capacity-of-requires : tie.Need-capacity-of-requires
-capacity-of-requires c κs = search needs
-
 returns : tie.Need-returns
 returns c = rw (← c .before .length-of .ensures, ← c .capacity-of .ensures)
 
 pub is-full-spec : {M : Type 1} → statement M
-is-full-spec = tie.close (tie.spec length-of-requires capacity-of-requires returns)
+is-full-spec = tie.close (tie.spec (λ c κs. search needs) (λ c κs. search needs) returns)

@@ -8,22 +8,13 @@ use Rattle.index.proofs.journal.is_whole.Reads as reads
 use Rattle.index.proofs.journal.is_whole.Lts as lts
 use Rattle.index.proofs.journal.capacity_of.Reads as capacity-of-reads
 
-capacity-of-requires : tie.Need-capacity-of-requires
-capacity-of-requires c κs = search needs
-
 returns : tie.Need-returns
 unfolding wholeLines
 returns c = rw (← c .before .capacity-of .ensures, lt-leb _ _ (c .if1 .taken))
-
-mul-result : tie.Need-mul-result
-mul-result c = search needs
-
-add-result : tie.Need-add-result
-add-result c = search needs
 
 returns-2 : tie.Need-returns-2
 unfolding wholeLines
 returns-2 c = rw (← c .before .capacity-of .ensures, le-leb _ _ (c .if1 .left))
 
 pub is-whole-spec : {M : Type 1} → statement M
-is-whole-spec = tie.close (tie.spec capacity-of-requires returns mul-result add-result returns-2)
+is-whole-spec = tie.close (tie.spec (λ c κs. search needs) returns (λ c. search needs) (λ c. search needs) returns-2)

@@ -8,21 +8,6 @@ use borrow.Author.Needs.{needs}
 use Rattle.index.proofs.journal.line_word.Statement.{statement}
 use Rattle.index.proofs.journal.line_word.Tie as tie
 
-mul-wide : tie.Need-mul-wide
-mul-wide c = search needs
-
-add-wide : tie.Need-add-wide
-add-wide c = search needs
-
-add-wide-2 : tie.Need-add-wide-2
-add-wide-2 c = search needs
-
-wide-requires : tie.Need-wide-requires
-wide-requires c κs = search needs
-
-returns : tie.Need-returns
-returns c = search needs
-
 returns-2 : tie.Need-returns-2
 returns-2 c =
     let a = c .before .before .args in
@@ -30,4 +15,7 @@ returns-2 c =
     sym (List·getD-eq-default (now (a .lines)) 0 out)
 
 pub line-word-spec : {M : Type 1} → statement M
-line-word-spec = tie.close (tie.spec mul-wide add-wide add-wide-2 wide-requires returns returns-2)
+line-word-spec =
+    tie.close
+    (tie.spec
+    (λ c. search needs) (λ c. search needs) (λ c. search needs) (λ c κs. search needs) (λ c. search needs) returns-2)

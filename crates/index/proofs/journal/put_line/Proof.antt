@@ -14,48 +14,6 @@ returns c =
     no-line (now (a .lines)) (a .k) (a .kind) (a .hash) (a .key) (a .place) (a .prehash) (a .prekey)
     (c .if1 .taken)
 
-mul-at : tie.Need-mul-at
-mul-at c = search needs
-
-add-at : tie.Need-add-at
-add-at c = search needs
-
-put-wide-requires : tie.Need-put-wide-requires
-put-wide-requires c κs = search needs
-
-add-put-wide : tie.Need-add-put-wide
-add-put-wide c = search needs
-
-put-wide-requires-2 : tie.Need-put-wide-requires-2
-put-wide-requires-2 c κs = search needs
-
-add-put-wide-2 : tie.Need-add-put-wide-2
-add-put-wide-2 c = search needs
-
-put-wide-requires-3 : tie.Need-put-wide-requires-3
-put-wide-requires-3 c κs = search needs
-
-add-put-wide-3 : tie.Need-add-put-wide-3
-add-put-wide-3 c = search needs
-
-put-wide-requires-4 : tie.Need-put-wide-requires-4
-put-wide-requires-4 c κs = search needs
-
-add-put-wide-4 : tie.Need-add-put-wide-4
-add-put-wide-4 c = search needs
-
-put-wide-requires-5 : tie.Need-put-wide-requires-5
-put-wide-requires-5 c κs = search needs
-
-add-put-wide-5 : tie.Need-add-put-wide-5
-add-put-wide-5 c = search needs
-
-put-wide-requires-6 : tie.Need-put-wide-requires-6
-put-wide-requires-6 c κs = search needs
-
-same-length : tie.Need-same-length
-same-length c = search needs
-
 returns-2 : tie.Need-returns-2
 returns-2 c =
     let c1 = c .before .before in
@@ -78,19 +36,6 @@ pub put-line-spec : {M : Type 1} → statement M
 put-line-spec =
     tie.close
     (tie.spec
-    returns
-    mul-at
-    add-at
-    put-wide-requires
-    add-put-wide
-    put-wide-requires-2
-    add-put-wide-2
-    put-wide-requires-3
-    add-put-wide-3
-    put-wide-requires-4
-    add-put-wide-4
-    put-wide-requires-5
-    add-put-wide-5
-    put-wide-requires-6
-    same-length
-    returns-2)
+    returns (λ c. search needs) (λ c. search needs) (λ c κs. search needs) (λ c. search needs) (λ c κs. search needs) (λ c. search needs)
+    (λ c κs. search needs) (λ c. search needs) (λ c κs. search needs) (λ c. search needs) (λ c κs. search needs) (λ c. search needs)
+    (λ c κs. search needs) (λ c. search needs) returns-2)

@@ -8,18 +8,6 @@ use borrow.Author.Needs.{needs}
 use Rattle.index.proofs.lines.place_back.Statement.{statement}
 use Rattle.index.proofs.lines.place_back.Tie as tie
 
-word-requires : tie.Need-word-requires
-word-requires c κs = search needs
-
-find-tree-node-requires : tie.Need-find-tree-node-requires
-find-tree-node-requires c κs = search needs
-
-enum-known-found : tie.Need-enum-known-found
-enum-known-found c = search needs
-
-same-length : tie.Need-same-length
-same-length c = search needs
-
 returns : tie.Need-returns
 returns c =
     let c1 = c .before in
@@ -29,15 +17,6 @@ returns c =
       tt,
     )
 
-get-requires : tie.Need-get-requires
-get-requires c κs = search needs
-
-cast-if1 : tie.Need-cast-if1
-cast-if1 c = search needs
-
-same-length-2 : tie.Need-same-length-2
-same-length-2 c = search needs
-
 returns-2 : tie.Need-returns-2
 returns-2 c =
     let c1 = c .before in
@@ -46,15 +25,6 @@ returns-2 c =
     let c6 = c5 .before .before in
     let s = sought-at _ _ _ (c6 .word .ensures) (c5 .find-tree-node .result) (c5 .find-tree-node .ensures) (c3 .found .given .1) in
     (place-other _ _ _ _ s (c1 .get .ensures) (c .if1 .taken), tt)
-
-cast-put : tie.Need-cast-put
-cast-put c = search needs
-
-put-requires : tie.Need-put-requires
-put-requires c κs = search needs
-
-same-length-3 : tie.Need-same-length-3
-same-length-3 c = search needs
 
 returns-3 : tie.Need-returns-3
 returns-3 c =
@@ -72,16 +42,5 @@ pub place-back-spec : {M : Type 1} → statement M
 place-back-spec =
     tie.close
     (tie.spec
-    word-requires
-    find-tree-node-requires
-    enum-known-found
-    same-length
-    returns
-    get-requires
-    cast-if1
-    same-length-2
-    returns-2
-    cast-put
-    put-requires
-    same-length-3
-    returns-3)
+    (λ c κs. search needs) (λ c κs. search needs) (λ c. search needs) (λ c. search needs) returns (λ c κs. search needs)
+    (λ c. search needs) (λ c. search needs) returns-2 (λ c. search needs) (λ c κs. search needs) (λ c. search needs) returns-3)

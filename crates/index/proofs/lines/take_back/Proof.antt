@@ -9,24 +9,6 @@ use borrow.Author.Needs.{needs}
 use Rattle.index.proofs.lines.take_back.Statement.{statement}
 use Rattle.index.proofs.lines.take_back.Tie as tie
 
-word-requires : tie.Need-word-requires
-word-requires c κs = search needs
-
-find-tree-node-requires : tie.Need-find-tree-node-requires
-find-tree-node-requires c κs = search needs
-
-enum-known-found : tie.Need-enum-known-found
-enum-known-found c = search needs
-
-same-length : tie.Need-same-length
-same-length c = search needs
-
-same-length-2 : tie.Need-same-length-2
-same-length-2 c = search needs
-
-same-length-3 : tie.Need-same-length-3
-same-length-3 c = search needs
-
 returns : tie.Need-returns
 returns c =
     let c1 = c .before in
@@ -36,21 +18,6 @@ returns c =
       tt,
     )
 
-get-requires : tie.Need-get-requires
-get-requires c κs = search needs
-
-cast-if1 : tie.Need-cast-if1
-cast-if1 c = search needs
-
-same-length-4 : tie.Need-same-length-4
-same-length-4 c = search needs
-
-same-length-5 : tie.Need-same-length-5
-same-length-5 c = search needs
-
-same-length-6 : tie.Need-same-length-6
-same-length-6 c = search needs
-
 returns-2 : tie.Need-returns-2
 returns-2 c =
     let c1 = c .before in
@@ -59,21 +26,6 @@ returns-2 c =
     let c6 = c5 .before .before .before in
     let s = sought-at _ _ _ (c6 .word .ensures) (c5 .find-tree-node .result) (c5 .find-tree-node .ensures) (c3 .found .given .1) in
     (back-other _ _ _ _ s (c1 .get .ensures) (c .if1 .taken), tt)
-
-shrink-requires : tie.Need-shrink-requires
-shrink-requires c κs = search needs
-
-same-length-7 : tie.Need-same-length-7
-same-length-7 c = search needs
-
-same-length-8 : tie.Need-same-length-8
-same-length-8 c = search needs
-
-same-length-9 : tie.Need-same-length-9
-same-length-9 c = search needs
-
-same-length-10 : tie.Need-same-length-10
-same-length-10 c = search needs
 
 returns-3 : tie.Need-returns-3
 returns-3 c =
@@ -91,22 +43,6 @@ pub take-back-spec : {M : Type 1} → statement M
 take-back-spec =
     tie.close
     (tie.spec
-    word-requires
-    find-tree-node-requires
-    enum-known-found
-    same-length
-    same-length-2
-    same-length-3
-    returns
-    get-requires
-    cast-if1
-    same-length-4
-    same-length-5
-    same-length-6
-    returns-2
-    shrink-requires
-    same-length-7
-    same-length-8
-    same-length-9
-    same-length-10
-    returns-3)
+    (λ c κs. search needs) (λ c κs. search needs) (λ c. search needs) (λ c. search needs) (λ c. search needs) (λ c. search needs) returns
+    (λ c κs. search needs) (λ c. search needs) (λ c. search needs) (λ c. search needs) (λ c. search needs) returns-2
+    (λ c κs. search needs) (λ c. search needs) (λ c. search needs) (λ c. search needs) (λ c. search needs) returns-3)

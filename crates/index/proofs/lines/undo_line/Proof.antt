@@ -7,33 +7,6 @@ use borrow.Author.Needs.{needs}
 use Rattle.index.proofs.lines.undo_line.Statement.{statement}
 use Rattle.index.proofs.lines.undo_line.Tie as tie
 
-line-word-requires : tie.Need-line-word-requires
-line-word-requires c κs = search needs
-
-line-word-requires-2 : tie.Need-line-word-requires-2
-line-word-requires-2 c κs = search needs
-
-line-word-requires-3 : tie.Need-line-word-requires-3
-line-word-requires-3 c κs = search needs
-
-line-word-requires-4 : tie.Need-line-word-requires-4
-line-word-requires-4 c κs = search needs
-
-take-back-requires : tie.Need-take-back-requires
-take-back-requires c κs = search needs
-
-same-length : tie.Need-same-length
-same-length c = search needs
-
-same-length-2 : tie.Need-same-length-2
-same-length-2 c = search needs
-
-same-length-3 : tie.Need-same-length-3
-same-length-3 c = search needs
-
-same-length-4 : tie.Need-same-length-4
-same-length-4 c = search needs
-
 returns : tie.Need-returns
 returns c =
     let c1 = c .before .before .before .before .before .before .before .before in
@@ -54,21 +27,6 @@ returns c =
           (c6 .line-word .ensures) (c5 .line-word2 .ensures) (c4 .line-word3 .ensures) (c1 .take-back .result) (c2 .if1 .taken)
           (c1 .take-back .ensures .1),
     )
-
-put-back-requires : tie.Need-put-back-requires
-put-back-requires c κs = search needs
-
-same-length-5 : tie.Need-same-length-5
-same-length-5 c = search needs
-
-same-length-6 : tie.Need-same-length-6
-same-length-6 c = search needs
-
-same-length-7 : tie.Need-same-length-7
-same-length-7 c = search needs
-
-same-length-8 : tie.Need-same-length-8
-same-length-8 c = search needs
 
 returns-2 : tie.Need-returns-2
 returns-2 c =
@@ -92,27 +50,6 @@ returns-2 c =
           (c7 .line-word .ensures) (c6 .line-word2 .ensures) (c5 .line-word3 .ensures) (c1 .put-back .result) (c3 .if1 .left)
           (c1 .put-back .ensures .1),
     )
-
-line-word-requires-5 : tie.Need-line-word-requires-5
-line-word-requires-5 c κs = search needs
-
-line-word-requires-6 : tie.Need-line-word-requires-6
-line-word-requires-6 c κs = search needs
-
-put-behind-requires : tie.Need-put-behind-requires
-put-behind-requires c κs = search needs
-
-same-length-9 : tie.Need-same-length-9
-same-length-9 c = search needs
-
-same-length-10 : tie.Need-same-length-10
-same-length-10 c = search needs
-
-same-length-11 : tie.Need-same-length-11
-same-length-11 c = search needs
-
-same-length-12 : tie.Need-same-length-12
-same-length-12 c = search needs
 
 returns-3 : tie.Need-returns-3
 returns-3 c =
@@ -142,21 +79,6 @@ returns-3 c =
           (c10 .line-word .ensures) (c9 .line-word2 .ensures) (c8 .line-word3 .ensures) (c1 .put-behind .result) (c6 .if1 .left)
           (c1 .put-behind .ensures .1),
     )
-
-place-back-requires : tie.Need-place-back-requires
-place-back-requires c κs = search needs
-
-same-length-13 : tie.Need-same-length-13
-same-length-13 c = search needs
-
-same-length-14 : tie.Need-same-length-14
-same-length-14 c = search needs
-
-same-length-15 : tie.Need-same-length-15
-same-length-15 c = search needs
-
-same-length-16 : tie.Need-same-length-16
-same-length-16 c = search needs
 
 returns-4 : tie.Need-returns-4
 returns-4 c =
@@ -211,34 +133,8 @@ pub undo-line-spec : {M : Type 1} → statement M
 undo-line-spec =
     tie.close
     (tie.spec
-    line-word-requires
-    line-word-requires-2
-    line-word-requires-3
-    line-word-requires-4
-    take-back-requires
-    same-length
-    same-length-2
-    same-length-3
-    same-length-4
-    returns
-    put-back-requires
-    same-length-5
-    same-length-6
-    same-length-7
-    same-length-8
-    returns-2
-    line-word-requires-5
-    line-word-requires-6
-    put-behind-requires
-    same-length-9
-    same-length-10
-    same-length-11
-    same-length-12
-    returns-3
-    place-back-requires
-    same-length-13
-    same-length-14
-    same-length-15
-    same-length-16
-    returns-4
-    returns-5)
+    (λ c κs. search needs) (λ c κs. search needs) (λ c κs. search needs) (λ c κs. search needs) (λ c κs. search needs) (λ c. search needs)
+    (λ c. search needs) (λ c. search needs) (λ c. search needs) returns (λ c κs. search needs) (λ c. search needs) (λ c. search needs)
+    (λ c. search needs) (λ c. search needs) returns-2 (λ c κs. search needs) (λ c κs. search needs) (λ c κs. search needs)
+    (λ c. search needs) (λ c. search needs) (λ c. search needs) (λ c. search needs) returns-3 (λ c κs. search needs) (λ c. search needs)
+    (λ c. search needs) (λ c. search needs) (λ c. search needs) returns-4 returns-5)

@@ -6,22 +6,10 @@ use borrow.Author.Needs.{needs}
 use Rattle.index.proofs.present.present.Statement.{statement}
 use Rattle.index.proofs.present.present.Tie as tie
 
-fit-index-requires : tie.Need-fit-index-requires
-fit-index-requires c κs = search needs
-
-enum-told : tie.Need-enum-told
-enum-told c = search needs
-
-enum-told-2 : tie.Need-enum-told-2
-enum-told-2 c = search needs
-
 returns : tie.Need-returns
 returns c =
     let c2 = c .before .before in
     unfit _ _ _ (is-unfit _ (c2 .fit-index .ensures) (c .enum-told2 .given .1))
-
-can-count-requires : tie.Need-can-count-requires
-can-count-requires c κs = search needs
 
 returns-2 : tie.Need-returns-2
 returns-2 c =
@@ -29,15 +17,6 @@ returns-2 c =
     let c2 = c1 .before in
     let c4 = c2 .before .before in
     damaged _ _ _ (is-fit _ (c4 .fit-index .ensures) (c2 .enum-told .given .1)) (fails (c1 .can-count .ensures) (c .if1 .taken))
-
-word-requires : tie.Need-word-requires
-word-requires c κs = search needs
-
-find-tree-node-requires : tie.Need-find-tree-node-requires
-find-tree-node-requires c κs = search needs
-
-enum-known-found : tie.Need-enum-known-found
-enum-known-found c = search needs
 
 returns-3 : tie.Need-returns-3
 returns-3 c =
@@ -50,9 +29,6 @@ returns-3 c =
     let f = is-fit _ (c7 .fit-index .ensures) (c5 .enum-told .given .1) in
     let n = holds (c4 .can-count .ensures) (c3 .if1 .left) in
     absent _ _ _ f n (sought-not _ _ _ (c2 .word .ensures) (c1 .find-tree-node .result) (c1 .find-tree-node .ensures) (c .match2 .keys2))
-
-is-full-requires : tie.Need-is-full-requires
-is-full-requires c κs = search needs
 
 returns-4 : tie.Need-returns-4
 returns-4 c =
@@ -90,16 +66,5 @@ pub present-spec : {M : Type 1} → statement M
 present-spec =
     tie.close
     (tie.spec
-    fit-index-requires
-    enum-told
-    enum-told-2
-    returns
-    can-count-requires
-    returns-2
-    word-requires
-    find-tree-node-requires
-    enum-known-found
-    returns-3
-    is-full-requires
-    returns-4
-    returns-5)
+    (λ c κs. search needs) (λ c. search needs) (λ c. search needs) returns (λ c κs. search needs) returns-2 (λ c κs. search needs)
+    (λ c κs. search needs) (λ c. search needs) returns-3 (λ c κs. search needs) returns-4 returns-5)

@@ -17,72 +17,12 @@ use Rattle.index.proofs.shrink.shrink.Reads as shrink-reads
 use Rattle.slots.proofs.get.Reads as get-reads
 use Rattle.slots.proofs.name.Reads as name-reads
 
-present-requires : tie.Need-present-requires
-present-requires c κs = search needs
-
-enum-known-asked : tie.Need-enum-known-asked
-enum-known-asked c = search needs
-
-same-length : tie.Need-same-length
-same-length c = search needs
-
-same-length-2 : tie.Need-same-length-2
-same-length-2 c = search needs
-
-same-length-3 : tie.Need-same-length-3
-same-length-3 c = search needs
-
-same-length-4 : tie.Need-same-length-4
-same-length-4 c = search needs
-
-same-length-5 : tie.Need-same-length-5
-same-length-5 c = search needs
-
 returns : tie.Need-returns
 unfolding removesSound
 returns c =
     let c1 = c .before in
     let a = c1 .before .before .before .before .before .before .before .before .before .before .before .args in
     kept _ _ _ (settled _ (a .hash) (a .key)) _ (not-at (c1 .present .result) (c .match .keys2)) (c1 .present .ensures _)
-
-get-requires : tie.Need-get-requires
-get-requires c κs = search needs
-
-cast-place : tie.Need-cast-place
-cast-place c = search needs
-
-get-requires-2 : tie.Need-get-requires-2
-get-requires-2 c κs = search needs
-
-name-requires : tie.Need-name-requires
-name-requires c κs = search needs
-
-name-requires-2 : tie.Need-name-requires-2
-name-requires-2 c κs = search needs
-
-shrink-requires : tie.Need-shrink-requires
-shrink-requires c κs = search needs
-
-append-requires : tie.Need-append-requires
-append-requires c κs = search needs
-
-append-requires-2 : tie.Need-append-requires-2
-append-requires-2 c κs = search needs
-
-same-length-6 : tie.Need-same-length-6
-same-length-6 c = search needs
-
-same-length-7 : tie.Need-same-length-7
-same-length-7 c = search needs
-
-same-length-8 : tie.Need-same-length-8
-same-length-8 c = search needs
-
-same-length-9 : tie.Need-same-length-9
-same-length-9 c = search needs
-
-same-length-10 : tie.Need-same-length-10
-same-length-10 c = search needs
 
 returns-2 : tie.Need-returns-2
 unfolding removesSound
@@ -103,21 +43,6 @@ returns-2 c =
     (d .left)
     (c2 .if1 .taken)
     (c1 .append .ensures ∙ appended-is _ _ (lines-most d))
-
-same-length-11 : tie.Need-same-length-11
-same-length-11 c = search needs
-
-same-length-12 : tie.Need-same-length-12
-same-length-12 c = search needs
-
-same-length-13 : tie.Need-same-length-13
-same-length-13 c = search needs
-
-same-length-14 : tie.Need-same-length-14
-same-length-14 c = search needs
-
-same-length-15 : tie.Need-same-length-15
-same-length-15 c = search needs
 
 returns-3 : tie.Need-returns-3
 unfolding removesSound
@@ -147,31 +72,8 @@ pub remove-sound-spec : {M : Type 1} → statement M
 remove-sound-spec =
     tie.close
     (tie.spec
-    present-requires
-    enum-known-asked
-    same-length
-    same-length-2
-    same-length-3
-    same-length-4
-    same-length-5
-    returns
-    get-requires
-    cast-place
-    get-requires-2
-    name-requires
-    name-requires-2
-    shrink-requires
-    append-requires
-    append-requires-2
-    same-length-6
-    same-length-7
-    same-length-8
-    same-length-9
-    same-length-10
-    returns-2
-    same-length-11
-    same-length-12
-    same-length-13
-    same-length-14
-    same-length-15
-    returns-3)
+    (λ c κs. search needs) (λ c. search needs) (λ c. search needs) (λ c. search needs) (λ c. search needs) (λ c. search needs)
+    (λ c. search needs) returns (λ c κs. search needs) (λ c. search needs) (λ c κs. search needs) (λ c κs. search needs)
+    (λ c κs. search needs) (λ c κs. search needs) (λ c κs. search needs) (λ c κs. search needs) (λ c. search needs) (λ c. search needs)
+    (λ c. search needs) (λ c. search needs) (λ c. search needs) returns-2 (λ c. search needs) (λ c. search needs) (λ c. search needs)
+    (λ c. search needs) (λ c. search needs) returns-3)

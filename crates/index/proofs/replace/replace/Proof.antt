@@ -5,38 +5,11 @@ use borrow.Author.Needs.{needs}
 use Rattle.index.proofs.replace.replace.Statement.{statement}
 use Rattle.index.proofs.replace.replace.Tie as tie
 
-fit-index-requires : tie.Need-fit-index-requires
-fit-index-requires c κs = search needs
-
-enum-told : tie.Need-enum-told
-enum-told c = search needs
-
-enum-told-2 : tie.Need-enum-told-2
-enum-told-2 c = search needs
-
-same-length : tie.Need-same-length
-same-length c = search needs
-
-same-length-2 : tie.Need-same-length-2
-same-length-2 c = search needs
-
 returns : tie.Need-returns
 returns c =
     let c2 = c .before .before in
     let a = c2 .before .before .before .before .before .before .before .before .args in
     replace-unfit _ (is-unfit _ (c2 .fit-index .ensures) (c .enum-told2 .given .1)) (a .hash) (a .key) (a .place)
-
-sound-requires : tie.Need-sound-requires
-sound-requires c κs = search needs
-
-enum-told-3 : tie.Need-enum-told-3
-enum-told-3 c = search needs
-
-same-length-3 : tie.Need-same-length-3
-same-length-3 c = search needs
-
-same-length-4 : tie.Need-same-length-4
-same-length-4 c = search needs
 
 returns-2 : tie.Need-returns-2
 returns-2 c =
@@ -47,15 +20,6 @@ returns-2 c =
     let f = is-fit _ (c4 .fit-index .ensures) (c2 .enum-told .given .1) in
     replace-damaged _ f (not-sound _ (tree-fits _ f) (c1 .sound .result) (c1 .sound .ensures) (c .match2 .keys2)) (a .hash)
     (a .key) (a .place)
-
-replace-sound-requires : tie.Need-replace-sound-requires
-replace-sound-requires c κs = search needs
-
-same-length-5 : tie.Need-same-length-5
-same-length-5 c = search needs
-
-same-length-6 : tie.Need-same-length-6
-same-length-6 c = search needs
 
 returns-3 : tie.Need-returns-3
 returns-3 c =
@@ -73,18 +37,6 @@ pub replace-spec : {M : Type 1} → statement M
 replace-spec =
     tie.close
     (tie.spec
-    fit-index-requires
-    enum-told
-    enum-told-2
-    same-length
-    same-length-2
-    returns
-    sound-requires
-    enum-told-3
-    same-length-3
-    same-length-4
-    returns-2
-    replace-sound-requires
-    same-length-5
-    same-length-6
+    (λ c κs. search needs) (λ c. search needs) (λ c. search needs) (λ c. search needs) (λ c. search needs) returns (λ c κs. search needs)
+    (λ c. search needs) (λ c. search needs) (λ c. search needs) returns-2 (λ c κs. search needs) (λ c. search needs) (λ c. search needs)
     returns-3)

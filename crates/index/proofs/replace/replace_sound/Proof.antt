@@ -10,42 +10,12 @@ use borrow.Author.Needs.{needs}
 use Rattle.index.proofs.replace.replace_sound.Statement.{statement}
 use Rattle.index.proofs.replace.replace_sound.Tie as tie
 
-present-requires : tie.Need-present-requires
-present-requires c κs = search needs
-
-enum-known-asked : tie.Need-enum-known-asked
-enum-known-asked c = search needs
-
-same-length : tie.Need-same-length
-same-length c = search needs
-
-same-length-2 : tie.Need-same-length-2
-same-length-2 c = search needs
-
 returns : tie.Need-returns
 unfolding replacesSound
 returns c =
     let c1 = c .before in
     let a = c1 .before .before .before .before .before .before .before .before .args in
     kept _ _ _ (settled _ (a .hash) (a .key) (a .place)) _ (not-at (c1 .present .result) (c .match .keys2)) (c1 .present .ensures _)
-
-get-requires : tie.Need-get-requires
-get-requires c κs = search needs
-
-put-requires : tie.Need-put-requires
-put-requires c κs = search needs
-
-both-places-requires : tie.Need-both-places-requires
-both-places-requires c κs = search needs
-
-append-requires : tie.Need-append-requires
-append-requires c κs = search needs
-
-same-length-3 : tie.Need-same-length-3
-same-length-3 c = search needs
-
-same-length-4 : tie.Need-same-length-4
-same-length-4 c = search needs
 
 returns-2 : tie.Need-returns-2
 unfolding replacesSound
@@ -70,15 +40,5 @@ pub replace-sound-spec : {M : Type 1} → statement M
 replace-sound-spec =
     tie.close
     (tie.spec
-    present-requires
-    enum-known-asked
-    same-length
-    same-length-2
-    returns
-    get-requires
-    put-requires
-    both-places-requires
-    append-requires
-    same-length-3
-    same-length-4
-    returns-2)
+    (λ c κs. search needs) (λ c. search needs) (λ c. search needs) (λ c. search needs) returns (λ c κs. search needs)
+    (λ c κs. search needs) (λ c κs. search needs) (λ c κs. search needs) (λ c. search needs) (λ c. search needs) returns-2)

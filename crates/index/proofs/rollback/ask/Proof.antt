@@ -7,22 +7,10 @@ use borrow.Author.Needs.{needs}
 use Rattle.index.proofs.rollback.ask.Statement.{statement}
 use Rattle.index.proofs.rollback.ask.Tie as tie
 
-fit-index-requires : tie.Need-fit-index-requires
-fit-index-requires c κs = search needs
-
-enum-told : tie.Need-enum-told
-enum-told c = search needs
-
-enum-told-2 : tie.Need-enum-told-2
-enum-told-2 c = search needs
-
 returns : tie.Need-returns
 returns c =
     let c2 = c .before .before in
     unfit _ _ (is-unfit _ (c2 .fit-index .ensures) (c .enum-told2 .given .1))
-
-can-count-requires : tie.Need-can-count-requires
-can-count-requires c κs = search needs
 
 returns-2 : tie.Need-returns-2
 returns-2 c =
@@ -30,9 +18,6 @@ returns-2 c =
     let c2 = c1 .before in
     let c4 = c2 .before .before in
     damaged _ _ (is-fit _ (c4 .fit-index .ensures) (c2 .enum-told .given .1)) (fails (c1 .can-count .ensures) (c .if1 .taken))
-
-length-of-requires : tie.Need-length-of-requires
-length-of-requires c κs = search needs
 
 returns-3 : tie.Need-returns-3
 returns-3 c =
@@ -44,9 +29,6 @@ returns-3 c =
     let f = is-fit _ (c6 .fit-index .ensures) (c4 .enum-told .given .1) in
     let n = holds (c3 .can-count .ensures) (c2 .if1 .left) in
     bad-mark _ _ f n (c1 .length-of .ensures) (c .if2 .taken)
-
-sub-t12 : tie.Need-sub-t12
-sub-t12 c = search needs
 
 cast-t13 : tie.Need-cast-t13
 cast-t13 c =
@@ -71,14 +53,5 @@ pub ask-spec : {M : Type 1} → statement M
 ask-spec =
     tie.close
     (tie.spec
-    fit-index-requires
-    enum-told
-    enum-told-2
-    returns
-    can-count-requires
-    returns-2
-    length-of-requires
-    returns-3
-    sub-t12
-    cast-t13
-    returns-4)
+    (λ c κs. search needs) (λ c. search needs) (λ c. search needs) returns (λ c κs. search needs) returns-2 (λ c κs. search needs)
+    returns-3 (λ c. search needs) cast-t13 returns-4)

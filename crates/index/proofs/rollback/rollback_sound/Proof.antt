@@ -8,27 +8,6 @@ use borrow.Author.Needs.{needs}
 use Rattle.index.proofs.rollback.rollback_sound.Statement.{statement}
 use Rattle.index.proofs.rollback.rollback_sound.Tie as tie
 
-ask-requires : tie.Need-ask-requires
-ask-requires c κs = search needs
-
-enum-known-asked : tie.Need-enum-known-asked
-enum-known-asked c = search needs
-
-same-length : tie.Need-same-length
-same-length c = search needs
-
-same-length-2 : tie.Need-same-length-2
-same-length-2 c = search needs
-
-same-length-3 : tie.Need-same-length-3
-same-length-3 c = search needs
-
-same-length-4 : tie.Need-same-length-4
-same-length-4 c = search needs
-
-same-length-5 : tie.Need-same-length-5
-same-length-5 c = search needs
-
 returns : tie.Need-returns
 returns c =
     let c1 = c .before in
@@ -43,27 +22,6 @@ undo-requires c κs =
     let o = (opening _ (a .mark) _ (ap rolledOf (sym (c1 .asked .given .1)) ∙ c2 .ask .ensures)) in
     (names-most o, (cells-most o, (head-three o, (sizes-most o, count-room o))))
 
-enum-told : tie.Need-enum-told
-enum-told c = search needs
-
-enum-told-2 : tie.Need-enum-told-2
-enum-told-2 c = search needs
-
-same-length-6 : tie.Need-same-length-6
-same-length-6 c = search needs
-
-same-length-7 : tie.Need-same-length-7
-same-length-7 c = search needs
-
-same-length-8 : tie.Need-same-length-8
-same-length-8 c = search needs
-
-same-length-9 : tie.Need-same-length-9
-same-length-9 c = search needs
-
-same-length-10 : tie.Need-same-length-10
-same-length-10 c = search needs
-
 returns-2 : tie.Need-returns-2
 returns-2 c =
     let c1 = c .before .before .before .before .before .before .before .before .before .before in
@@ -74,24 +32,6 @@ returns-2 c =
     misfits (opening _ (a .mark) _ (ap rolledOf (sym (c2 .asked .given .1)) ∙ c3 .ask .ensures))
     (undo-not _ (c1 .undo .ensures .0) f)
     (c1 .undo .ensures .1 f)
-
-cut-requires : tie.Need-cut-requires
-cut-requires c κs = search needs
-
-same-length-11 : tie.Need-same-length-11
-same-length-11 c = search needs
-
-same-length-12 : tie.Need-same-length-12
-same-length-12 c = search needs
-
-same-length-13 : tie.Need-same-length-13
-same-length-13 c = search needs
-
-same-length-14 : tie.Need-same-length-14
-same-length-14 c = search needs
-
-same-length-15 : tie.Need-same-length-15
-same-length-15 c = search needs
 
 returns-3 : tie.Need-returns-3
 returns-3 c =
@@ -109,27 +49,7 @@ pub rollback-sound-spec : {M : Type 1} → statement M
 rollback-sound-spec =
     tie.close
     (tie.spec
-    ask-requires
-    enum-known-asked
-    same-length
-    same-length-2
-    same-length-3
-    same-length-4
-    same-length-5
-    returns
-    undo-requires
-    enum-told
-    enum-told-2
-    same-length-6
-    same-length-7
-    same-length-8
-    same-length-9
-    same-length-10
-    returns-2
-    cut-requires
-    same-length-11
-    same-length-12
-    same-length-13
-    same-length-14
-    same-length-15
-    returns-3)
+    (λ c κs. search needs) (λ c. search needs) (λ c. search needs) (λ c. search needs) (λ c. search needs) (λ c. search needs)
+    (λ c. search needs) returns undo-requires (λ c. search needs) (λ c. search needs) (λ c. search needs) (λ c. search needs)
+    (λ c. search needs) (λ c. search needs) (λ c. search needs) returns-2 (λ c κs. search needs) (λ c. search needs) (λ c. search needs)
+    (λ c. search needs) (λ c. search needs) (λ c. search needs) returns-3)

@@ -4,12 +4,6 @@ use borrow.Author.Needs.{needs}
 use Rattle.index.proofs.shrink.new_first.Statement.{statement}
 use Rattle.index.proofs.shrink.new_first.Tie as tie
 
-get-requires : tie.Need-get-requires
-get-requires c κs = search needs
-
-get-requires-2 : tie.Need-get-requires-2
-get-requires-2 c κs = search needs
-
 returns : tie.Need-returns
 returns c =
     let c1 = c .before in
@@ -22,4 +16,4 @@ returns-2 c =
     rw (← c1 .get .ensures, pick-ne _ _ (c .if1 .left))
 
 pub new-first-spec : {M : Type 1} → statement M
-new-first-spec = tie.close (tie.spec get-requires get-requires-2 returns returns-2)
+new-first-spec = tie.close (tie.spec (λ c κs. search needs) (λ c κs. search needs) returns returns-2)

@@ -12,51 +12,6 @@ returns c =
     shrink-wide (lentTree (now (a .names)) (now (a .cells)) (now (a .head)) (now (a .sizes))) (a .x)
     (c .if1 .taken)
 
-cast-n : tie.Need-cast-n
-cast-n c = search needs
-
-word-requires : tie.Need-word-requires
-word-requires c κs = search needs
-
-word-requires-2 : tie.Need-word-requires-2
-word-requires-2 c κs = search needs
-
-new-first-requires : tie.Need-new-first-requires
-new-first-requires c κs = search needs
-
-word-requires-3 : tie.Need-word-requires-3
-word-requires-3 c κs = search needs
-
-one-less-requires : tie.Need-one-less-requires
-one-less-requires c κs = search needs
-
-put-pair-requires : tie.Need-put-pair-requires
-put-pair-requires c κs = search needs
-
-unchain-requires : tie.Need-unchain-requires
-unchain-requires c κs = search needs
-
-unlink-slot-requires : tie.Need-unlink-slot-requires
-unlink-slot-requires c κs = search needs
-
-wipe-requires : tie.Need-wipe-requires
-wipe-requires c κs = search needs
-
-head-put-requires : tie.Need-head-put-requires
-head-put-requires c κs = search needs
-
-same-length : tie.Need-same-length
-same-length c = search needs
-
-same-length-2 : tie.Need-same-length-2
-same-length-2 c = search needs
-
-same-length-3 : tie.Need-same-length-3
-same-length-3 c = search needs
-
-same-length-4 : tie.Need-same-length-4
-same-length-4 c = search needs
-
 returns-2 : tie.Need-returns-2
 returns-2 c =
     let c1 = c .before .before in
@@ -88,20 +43,6 @@ pub shrink-spec : {M : Type 1} → statement M
 shrink-spec =
     tie.close
     (tie.spec
-    returns
-    cast-n
-    word-requires
-    word-requires-2
-    new-first-requires
-    word-requires-3
-    one-less-requires
-    put-pair-requires
-    unchain-requires
-    unlink-slot-requires
-    wipe-requires
-    head-put-requires
-    same-length
-    same-length-2
-    same-length-3
-    same-length-4
-    returns-2)
+    returns (λ c. search needs) (λ c κs. search needs) (λ c κs. search needs) (λ c κs. search needs) (λ c κs. search needs)
+    (λ c κs. search needs) (λ c κs. search needs) (λ c κs. search needs) (λ c κs. search needs) (λ c κs. search needs)
+    (λ c κs. search needs) (λ c. search needs) (λ c. search needs) (λ c. search needs) (λ c. search needs) returns-2)

@@ -5,21 +5,6 @@ use borrow.Author.Needs.{needs}
 use Rattle.index.proofs.shrink.unchain.Statement.{statement}
 use Rattle.index.proofs.shrink.unchain.Tie as tie
 
-get-requires : tie.Need-get-requires
-get-requires c κs = search needs
-
-get-requires-2 : tie.Need-get-requires-2
-get-requires-2 c κs = search needs
-
-put-requires : tie.Need-put-requires
-put-requires c κs = search needs
-
-put-requires-2 : tie.Need-put-requires-2
-put-requires-2 c κs = search needs
-
-same-length : tie.Need-same-length
-same-length c = search needs
-
 returns : tie.Need-returns
 returns c =
     let c1 = c .before .before in
@@ -36,4 +21,5 @@ returns c =
 pub unchain-spec : {M : Type 1} → statement M
 unchain-spec =
     tie.close
-    (tie.spec get-requires get-requires-2 put-requires put-requires-2 same-length returns)
+    (tie.spec
+    (λ c κs. search needs) (λ c κs. search needs) (λ c κs. search needs) (λ c κs. search needs) (λ c. search needs) returns)

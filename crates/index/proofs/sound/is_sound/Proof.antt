@@ -8,18 +8,6 @@ use Rattle.index.proofs.Walked.{in-four}
 use Rattle.index.proofs.sound.is_sound.Statement.{statement}
 use Rattle.index.proofs.sound.is_sound.Tie as tie
 
-rules-of-the-slots-requires : tie.Need-rules-of-the-slots-requires
-rules-of-the-slots-requires c κs = search needs
-
-rule2-requires : tie.Need-rule2-requires
-rule2-requires c κs = search needs
-
-rules-of-the-tree-requires : tie.Need-rules-of-the-tree-requires
-rules-of-the-tree-requires c κs = search needs
-
-rule7-requires : tie.Need-rule7-requires
-rule7-requires c κs = search needs
-
 returns : tie.Need-returns
 unfolding rule2
 returns c =
@@ -45,4 +33,5 @@ returns-2 c =
 pub is-sound-spec : {M : Type 1} → statement M
 is-sound-spec =
     tie.close
-    (tie.spec rules-of-the-slots-requires rule2-requires rules-of-the-tree-requires rule7-requires returns returns-2)
+    (tie.spec
+    (λ c κs. search needs) (λ c κs. search needs) (λ c κs. search needs) (λ c κs. search needs) returns returns-2)

@@ -5,9 +5,6 @@ use Rattle.slots.proofs.Laws.{not-is}
 use Rattle.index.proofs.sound.not_free.Statement.{statement}
 use Rattle.index.proofs.sound.not_free.Tie as tie
 
-get-requires : tie.Need-get-requires
-get-requires c κs = search needs
-
 returns : tie.Need-returns
 returns c = rw (eq-eqb _ _ (c .if1 .taken))
 
@@ -15,4 +12,4 @@ returns-2 : tie.Need-returns-2
 returns-2 c = rw (ne-eqb _ _ (c .before .if1 .left), ← c .get .ensures, not-is)
 
 pub not-free-spec : {M : Type 1} → statement M
-not-free-spec = tie.close (tie.spec get-requires returns returns-2)
+not-free-spec = tie.close (tie.spec (λ c κs. search needs) returns returns-2)

@@ -4,21 +4,6 @@ use borrow.Author.Needs.{needs}
 use Rattle.index.proofs.sound.rule2.Statement.{statement}
 use Rattle.index.proofs.sound.rule2.Tie as tie
 
-word-requires : tie.Need-word-requires
-word-requires c κs = search needs
-
-word-requires-2 : tie.Need-word-requires-2
-word-requires-2 c κs = search needs
-
-null-if-none-requires : tie.Need-null-if-none-requires
-null-if-none-requires c κs = search needs
-
-word-requires-3 : tie.Need-word-requires-3
-word-requires-3 c κs = search needs
-
-null-if-none-requires-2 : tie.Need-null-if-none-requires-2
-null-if-none-requires-2 c κs = search needs
-
 returns : tie.Need-returns
 unfolding rule2
 returns c =
@@ -46,10 +31,4 @@ pub rule2-spec : {M : Type 1} → statement M
 rule2-spec =
     tie.close
     (tie.spec
-    word-requires
-    word-requires-2
-    null-if-none-requires
-    word-requires-3
-    null-if-none-requires-2
-    returns
-    returns-2)
+    (λ c κs. search needs) (λ c κs. search needs) (λ c κs. search needs) (λ c κs. search needs) (λ c κs. search needs) returns returns-2)

@@ -12,27 +12,12 @@ use borrow.Author.Needs.{needs}
 use Rattle.index.proofs.sound.rule7.Statement.{statement}
 use Rattle.index.proofs.sound.rule7.Tie as tie
 
-word-requires : tie.Need-word-requires
-word-requires c κs = search needs
-
-not-free-requires : tie.Need-not-free-requires
-not-free-requires c κs = search needs
-
 returns : tie.Need-returns
 unfolding rule7
 returns c sizes =
     let c1 = c .before in
     let c2 = c1 .before in
     rw (← c2 .word .ensures, ← c1 .not-free .ensures, not-true (c1 .not-free .result) (c .if1 .taken))
-
-chain-requires : tie.Need-chain-requires
-chain-requires c κs = search needs
-
-enum-known-walk : tie.Need-enum-known-walk
-enum-known-walk c = search needs
-
-enum-told : tie.Need-enum-told
-enum-told c = search needs
 
 returns-2 : tie.Need-returns-2
 unfolding rule7
@@ -50,9 +35,6 @@ returns-2 c sizes =
       c .enum-told .given .1,
     )
 
-word-requires-2 : tie.Need-word-requires-2
-word-requires-2 c κs = search needs
-
 sub-result : tie.Need-sub-result
 sub-result c =
     let at-told = c .before .before in
@@ -68,9 +50,6 @@ sub-result c =
     (at-first .word .result)
     (at-told .walk .given .0 .0)
     (sym (at-chain .chain .ensures) ∙ ap restOf (at-told .walk .given .1))
-
-cast-result : tie.Need-cast-result
-cast-result c = search needs
 
 returns-3 : tie.Need-returns-3
 unfolding rule7
@@ -92,14 +71,5 @@ pub rule7-spec : {M : Type 1} → statement M
 rule7-spec =
     tie.close
     (tie.spec
-    word-requires
-    not-free-requires
-    returns
-    chain-requires
-    enum-known-walk
-    enum-told
-    returns-2
-    word-requires-2
-    sub-result
-    cast-result
-    returns-3)
+    (λ c κs. search needs) (λ c κs. search needs) returns (λ c κs. search needs) (λ c. search needs) (λ c. search needs) returns-2
+    (λ c κs. search needs) sub-result (λ c. search needs) returns-3)

@@ -14,33 +14,6 @@ use Rattle.index.proofs.Slots.{any-head, any-names, behind}
 use Rattle.index.proofs.sound.rules_of_the_slots.Statement.{statement}
 use Rattle.index.proofs.sound.rules_of_the_slots.Tie as tie
 
-cast-sized-slots-fine : tie.Need-cast-sized-slots-fine
-cast-sized-slots-fine c = search needs
-
-sized-slots-fine-requires : tie.Need-sized-slots-fine-requires
-sized-slots-fine-requires c κs = search needs
-
-word-requires : tie.Need-word-requires
-word-requires c κs = search needs
-
-in-range-requires : tie.Need-in-range-requires
-in-range-requires c κs = search needs
-
-word-requires-2 : tie.Need-word-requires-2
-word-requires-2 c κs = search needs
-
-in-range-requires-2 : tie.Need-in-range-requires-2
-in-range-requires-2 c κs = search needs
-
-word-requires-3 : tie.Need-word-requires-3
-word-requires-3 c κs = search needs
-
-cast-used-slots : tie.Need-cast-used-slots
-cast-used-slots c = search needs
-
-used-slots-requires : tie.Need-used-slots-requires
-used-slots-requires c κs = search needs
-
 -- What is asked of the tree is what the last `&&` is asked.
 asked : (c : tie.Joined2) (x : Bool) {s : Bool} → s ≡ c .if2 .if3 and x
     → let a = c .before .before .before .before .before .before .before .args in
@@ -89,14 +62,5 @@ pub rules-of-the-slots-spec : {M : Type 1} → statement M
 rules-of-the-slots-spec =
     tie.close
     (tie.spec
-    cast-sized-slots-fine
-    sized-slots-fine-requires
-    word-requires
-    in-range-requires
-    word-requires-2
-    in-range-requires-2
-    word-requires-3
-    cast-used-slots
-    used-slots-requires
-    returns
-    returns-2)
+    (λ c. search needs) (λ c κs. search needs) (λ c κs. search needs) (λ c κs. search needs) (λ c κs. search needs) (λ c κs. search needs)
+    (λ c κs. search needs) (λ c. search needs) (λ c κs. search needs) returns returns-2)

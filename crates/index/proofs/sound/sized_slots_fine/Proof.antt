@@ -18,15 +18,6 @@ Inv-loop names cells sizes n k₀ k =
 abbrev μ-loop : tie.MeasureT-loop
 μ-loop names cells sizes n k₀ k = k
 
-loop-holds : tie.Need-loop-holds Inv-loop μ-loop
-loop-holds c = search needs
-
-sub-k : tie.Need-sub-k Inv-loop μ-loop
-sub-k c = search needs
-
-slot-fine-requires : tie.Need-slot-fine-requires Inv-loop μ-loop
-slot-fine-requires c κs = search needs
-
 returns : tie.Need-returns Inv-loop μ-loop
 returns c =
     let at-fine = c .before in
@@ -40,9 +31,6 @@ returns c =
     (at-fine .slot-fine .ensures)
     (not-true (at-fine .slot-fine .result) (c .if1 .taken))
     ∙ at-loop .loop .inv .0
-
-loop-less : tie.Need-loop-less Inv-loop μ-loop
-loop-less c = search needs
 
 loop-again : tie.Need-loop-again Inv-loop μ-loop
 loop-again c =
@@ -71,12 +59,4 @@ pub sized-slots-fine-spec : {M : Type 1} → statement M
 sized-slots-fine-spec =
     tie.close
     (tie.spec
-    Inv-loop
-    μ-loop
-    loop-holds
-    sub-k
-    slot-fine-requires
-    returns
-    loop-less
-    loop-again
-    returns-2)
+    Inv-loop μ-loop (λ c. search needs) (λ c. search needs) (λ c κs. search needs) returns (λ c. search needs) loop-again returns-2)

@@ -6,21 +6,9 @@ use Rattle.index.proofs.Slots.{and-true}
 use Rattle.index.proofs.sound.slot_fine.Statement.{statement}
 use Rattle.index.proofs.sound.slot_fine.Tie as tie
 
-links-in-requires : tie.Need-links-in-requires
-links-in-requires c κs = search needs
-
 returns : tie.Need-returns
 unfolding slotFine
 returns c = rw (← c .before .links-in .ensures, not-true (c .before .links-in .result) (c .if1 .taken))
-
-get-requires : tie.Need-get-requires
-get-requires c κs = search needs
-
-is-cleared-requires : tie.Need-is-cleared-requires
-is-cleared-requires c κs = search needs
-
-word-requires : tie.Need-word-requires
-word-requires c κs = search needs
 
 returns-2 : tie.Need-returns-2
 unfolding slotFine freeFine isCleared
@@ -69,4 +57,5 @@ returns-4 c =
 pub slot-fine-spec : {M : Type 1} → statement M
 slot-fine-spec =
     tie.close
-    (tie.spec links-in-requires returns get-requires is-cleared-requires word-requires returns-2 returns-3 returns-4)
+    (tie.spec
+    (λ c κs. search needs) returns (λ c κs. search needs) (λ c κs. search needs) (λ c κs. search needs) returns-2 returns-3 returns-4)

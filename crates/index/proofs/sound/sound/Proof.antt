@@ -8,9 +8,6 @@ use borrow.Author.Needs.{needs}
 use Rattle.index.proofs.sound.sound.Statement.{statement}
 use Rattle.index.proofs.sound.sound.Tie as tie
 
-fit-requires : tie.Need-fit-requires
-fit-requires c κs = search needs
-
 returns : tie.Need-returns
 unfolding sounds
 returns c =
@@ -50,4 +47,4 @@ returns-3 c =
     )
 
 pub sound-spec : {M : Type 1} → statement M
-sound-spec = tie.close (tie.spec fit-requires returns is-sound-requires returns-2 returns-3)
+sound-spec = tie.close (tie.spec (λ c κs. search needs) returns is-sound-requires returns-2 returns-3)

@@ -4,9 +4,6 @@ use borrow.Author.Needs.{needs}
 use Rattle.index.proofs.sound.used_slot.Statement.{statement}
 use Rattle.index.proofs.sound.used_slot.Tie as tie
 
-get-requires : tie.Need-get-requires
-get-requires c κs = search needs
-
 returns : tie.Need-returns
 returns c =
     let c1 = c .before in
@@ -18,4 +15,4 @@ returns-2 c =
     rw (← c1 .get .ensures, ne-eqb _ _ (c .if1 .left))
 
 pub used-slot-spec : {M : Type 1} → statement M
-used-slot-spec = tie.close (tie.spec get-requires returns returns-2)
+used-slot-spec = tie.close (tie.spec (λ c κs. search needs) returns returns-2)

@@ -16,23 +16,11 @@ Inv-loop cells n count₀ k₀ count k = (count + tally k (used cells) ≡ tally
 abbrev μ-loop : tie.MeasureT-loop
 μ-loop cells n count₀ k₀ count k = k
 
-loop-holds : tie.Need-loop-holds Inv-loop μ-loop
-loop-holds c = search needs
-
-sub-k : tie.Need-sub-k Inv-loop μ-loop
-sub-k c = search needs
-
-used-slot-requires : tie.Need-used-slot-requires Inv-loop μ-loop
-used-slot-requires c κs = search needs
-
 add-count : tie.Need-add-count Inv-loop μ-loop
 add-count c =
     let at-loop = c .before .before in
     let a = at-loop .before .before .args in
     omega (arith, used-one (now (a .cells)) (at-loop .loop .k - 1), c .used-slot .ensures)
-
-loop-less : tie.Need-loop-less Inv-loop μ-loop
-loop-less c = search needs
 
 loop-again : tie.Need-loop-again Inv-loop μ-loop
 loop-again c =
@@ -54,12 +42,4 @@ pub used-slots-spec : {M : Type 1} → statement M
 used-slots-spec =
     tie.close
     (tie.spec
-    Inv-loop
-    μ-loop
-    loop-holds
-    sub-k
-    used-slot-requires
-    add-count
-    loop-less
-    loop-again
-    returns)
+    Inv-loop μ-loop (λ c. search needs) (λ c. search needs) (λ c κs. search needs) add-count (λ c. search needs) loop-again returns)

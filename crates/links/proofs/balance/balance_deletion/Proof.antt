@@ -20,21 +20,6 @@ Inv-loop cells₀ sizes₀ root x budget top₀ at₀ turns₀ cells sizes top a
 abbrev μ-loop : tie.MeasureT-loop
 μ-loop cells₀ sizes₀ root x budget top₀ at₀ turns₀ cells sizes top at turns = turns
 
-loop-holds : tie.Need-loop-holds Inv-loop μ-loop
-loop-holds c = search needs
-
-deletion-turn-requires : tie.Need-deletion-turn-requires Inv-loop μ-loop
-deletion-turn-requires c κs = search needs
-
-enum-known-step : tie.Need-enum-known-step Inv-loop μ-loop
-enum-known-step c = search needs
-
-same-length : tie.Need-same-length Inv-loop μ-loop
-same-length c = search needs
-
-same-length-2 : tie.Need-same-length-2 Inv-loop μ-loop
-same-length-2 c = search needs
-
 returns : tie.Need-returns Inv-loop μ-loop
 returns c =
     let c1 = c .before in
@@ -42,15 +27,6 @@ returns c =
     let c3 = c2 .before .before .before in
     let c4 = c3 .before in
     ends deletion (c4 .loop .inv .0) (c3 .loop-test .taken) (c2 .deletion-turn .ensures) (c1 .step .given .1)
-
-enum-known-step-2 : tie.Need-enum-known-step-2 Inv-loop μ-loop
-enum-known-step-2 c = search needs
-
-sub-turns : tie.Need-sub-turns Inv-loop μ-loop
-sub-turns c = search needs
-
-loop-less : tie.Need-loop-less Inv-loop μ-loop
-loop-less c = search needs
 
 loop-again : tie.Need-loop-again Inv-loop μ-loop
 loop-again c =
@@ -65,12 +41,6 @@ loop-again c =
       search needs,
     )
 
-same-length-3 : tie.Need-same-length-3 Inv-loop μ-loop
-same-length-3 c = search needs
-
-same-length-4 : tie.Need-same-length-4 Inv-loop μ-loop
-same-length-4 c = search needs
-
 returns-2 : tie.Need-returns-2 Inv-loop μ-loop
 returns-2 c = over deletion (c .before .loop .inv .0) (c .loop-test .left)
 
@@ -78,18 +48,5 @@ pub balance-deletion-spec : {M : Type 1} → statement M
 balance-deletion-spec =
     tie.close
     (tie.spec
-    Inv-loop
-    μ-loop
-    loop-holds
-    deletion-turn-requires
-    enum-known-step
-    same-length
-    same-length-2
-    returns
-    enum-known-step-2
-    sub-turns
-    loop-less
-    loop-again
-    same-length-3
-    same-length-4
-    returns-2)
+    Inv-loop μ-loop (λ c. search needs) (λ c κs. search needs) (λ c. search needs) (λ c. search needs) (λ c. search needs) returns
+    (λ c. search needs) (λ c. search needs) (λ c. search needs) loop-again (λ c. search needs) (λ c. search needs) returns-2)

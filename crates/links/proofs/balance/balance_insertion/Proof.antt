@@ -6,18 +6,6 @@ use borrow.Author.Needs.{needs}
 use Rattle.links.proofs.balance.balance_insertion.Statement.{statement}
 use Rattle.links.proofs.balance.balance_insertion.Tie as tie
 
-paint-requires : tie.Need-paint-requires
-paint-requires c κs = search needs
-
-insertion-turns-requires : tie.Need-insertion-turns-requires
-insertion-turns-requires c κs = search needs
-
-same-length : tie.Need-same-length
-same-length c = search needs
-
-same-length-2 : tie.Need-same-length-2
-same-length-2 c = search needs
-
 returns : tie.Need-returns
 returns c =
     let c1 = c .before .before .before .before in
@@ -28,5 +16,4 @@ returns c =
     (c1 .insertion-turns .ensures)
 
 pub balance-insertion-spec : {M : Type 1} → statement M
-balance-insertion-spec =
-    tie.close (tie.spec paint-requires insertion-turns-requires same-length same-length-2 returns)
+balance-insertion-spec = tie.close (tie.spec (λ c κs. search needs) (λ c κs. search needs) (λ c. search needs) (λ c. search needs) returns)

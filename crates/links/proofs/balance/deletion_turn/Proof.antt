@@ -20,15 +20,6 @@ returns-2 c =
     (c1 .if1 .left)
     (c .if2 .taken)
 
-get-requires : tie.Need-get-requires
-get-requires c κs = search needs
-
-paint-requires : tie.Need-paint-requires
-paint-requires c κs = search needs
-
-same-length : tie.Need-same-length
-same-length c = search needs
-
 returns-3 : tie.Need-returns-3
 returns-3 c =
     let c1 = c .before .before in
@@ -43,15 +34,6 @@ returns-3 c =
     (c3 .get .ensures)
     (c2 .if3 .taken)
     (c1 .paint .ensures)
-
-is-red-requires : tie.Need-is-red-requires
-is-red-requires c κs = search needs
-
-paint-requires-2 : tie.Need-paint-requires-2
-paint-requires-2 c κs = search needs
-
-same-length-2 : tie.Need-same-length-2
-same-length-2 c = search needs
 
 returns-4 : tie.Need-returns-4
 returns-4 c =
@@ -71,18 +53,6 @@ returns-4 c =
     (c3 .is-red .ensures)
     (c2 .if4 .taken)
     (c1 .paint2 .ensures)
-
-get-requires-2 : tie.Need-get-requires-2
-get-requires-2 c κs = search needs
-
-sink-requires : tie.Need-sink-requires
-sink-requires c κs = search needs
-
-same-length-3 : tie.Need-same-length-3
-same-length-3 c = search needs
-
-same-length-4 : tie.Need-same-length-4
-same-length-4 c = search needs
 
 returns-5 : tie.Need-returns-5
 returns-5 c =
@@ -106,15 +76,6 @@ returns-5 c =
     (c3 .get2 .ensures)
     (c2 .if5 .taken)
     (c1 .sink .ensures)
-
-sink-requires-2 : tie.Need-sink-requires-2
-sink-requires-2 c κs = search needs
-
-same-length-5 : tie.Need-same-length-5
-same-length-5 c = search needs
-
-same-length-6 : tie.Need-same-length-6
-same-length-6 c = search needs
 
 returns-6 : tie.Need-returns-6
 returns-6 c =
@@ -143,22 +104,6 @@ pub deletion-turn-spec : {M : Type 1} → statement M
 deletion-turn-spec =
     tie.close
     (tie.spec
-    returns
-    returns-2
-    get-requires
-    paint-requires
-    same-length
-    returns-3
-    is-red-requires
-    paint-requires-2
-    same-length-2
-    returns-4
-    get-requires-2
-    sink-requires
-    same-length-3
-    same-length-4
-    returns-5
-    sink-requires-2
-    same-length-5
-    same-length-6
-    returns-6)
+    returns returns-2 (λ c κs. search needs) (λ c κs. search needs) (λ c. search needs) returns-3 (λ c κs. search needs)
+    (λ c κs. search needs) (λ c. search needs) returns-4 (λ c κs. search needs) (λ c κs. search needs) (λ c. search needs)
+    (λ c. search needs) returns-5 (λ c κs. search needs) (λ c. search needs) (λ c. search needs) returns-6)

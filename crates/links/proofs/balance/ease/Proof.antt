@@ -6,21 +6,6 @@ use borrow.Author.Needs.{needs}
 use Rattle.links.proofs.balance.ease.Statement.{statement}
 use Rattle.links.proofs.balance.ease.Tie as tie
 
-get-requires : tie.Need-get-requires
-get-requires c κs = search needs
-
-is-red-requires : tie.Need-is-red-requires
-is-red-requires c κs = search needs
-
-settle-requires : tie.Need-settle-requires
-settle-requires c κs = search needs
-
-same-length : tie.Need-same-length
-same-length c = search needs
-
-same-length-2 : tie.Need-same-length-2
-same-length-2 c = search needs
-
 returns : tie.Need-returns
 returns c =
     let c1 = c .before .before .before .before in
@@ -33,30 +18,6 @@ returns c =
     (c3 .is-red .ensures)
     (c2 .if1 .taken)
     (c1 .settle .ensures)
-
-get-requires-2 : tie.Need-get-requires-2
-get-requires-2 c κs = search needs
-
-is-red-requires-2 : tie.Need-is-red-requires-2
-is-red-requires-2 c κs = search needs
-
-tuck-requires : tie.Need-tuck-requires
-tuck-requires c κs = search needs
-
-get-requires-3 : tie.Need-get-requires-3
-get-requires-3 c κs = search needs
-
-get-requires-4 : tie.Need-get-requires-4
-get-requires-4 c κs = search needs
-
-settle-requires-2 : tie.Need-settle-requires-2
-settle-requires-2 c κs = search needs
-
-same-length-3 : tie.Need-same-length-3
-same-length-3 c = search needs
-
-same-length-4 : tie.Need-same-length-4
-same-length-4 c = search needs
 
 returns-2 : tie.Need-returns-2
 returns-2 c =
@@ -83,12 +44,6 @@ returns-2 c =
     (c2 .get4 .ensures)
     (c1 .settle2 .ensures)
 
-paint-requires : tie.Need-paint-requires
-paint-requires c κs = search needs
-
-same-length-5 : tie.Need-same-length-5
-same-length-5 c = search needs
-
 returns-3 : tie.Need-returns-3
 returns-3 c =
     let c1 = c .before .before in
@@ -112,21 +67,6 @@ pub ease-spec : {M : Type 1} → statement M
 ease-spec =
     tie.close
     (tie.spec
-    get-requires
-    is-red-requires
-    settle-requires
-    same-length
-    same-length-2
-    returns
-    get-requires-2
-    is-red-requires-2
-    tuck-requires
-    get-requires-3
-    get-requires-4
-    settle-requires-2
-    same-length-3
-    same-length-4
-    returns-2
-    paint-requires
-    same-length-5
-    returns-3)
+    (λ c κs. search needs) (λ c κs. search needs) (λ c κs. search needs) (λ c. search needs) (λ c. search needs) returns
+    (λ c κs. search needs) (λ c κs. search needs) (λ c κs. search needs) (λ c κs. search needs) (λ c κs. search needs)
+    (λ c κs. search needs) (λ c. search needs) (λ c. search needs) returns-2 (λ c κs. search needs) (λ c. search needs) returns-3)

@@ -6,15 +6,6 @@ use borrow.Author.Needs.{needs}
 use Rattle.links.proofs.balance.insertion_turn.Statement.{statement}
 use Rattle.links.proofs.balance.insertion_turn.Tie as tie
 
-get-requires : tie.Need-get-requires
-get-requires c κs = search needs
-
-paint-requires : tie.Need-paint-requires
-paint-requires c κs = search needs
-
-same-length : tie.Need-same-length
-same-length c = search needs
-
 returns : tie.Need-returns
 returns c =
     let c1 = c .before .before in
@@ -25,12 +16,6 @@ returns c =
     (c3 .get .ensures)
     (c2 .if1 .taken)
     (c1 .paint .ensures)
-
-is-red-requires : tie.Need-is-red-requires
-is-red-requires c κs = search needs
-
-same-length-2 : tie.Need-same-length-2
-same-length-2 c = search needs
 
 returns-2 : tie.Need-returns-2
 returns-2 c =
@@ -43,12 +28,6 @@ returns-2 c =
     (c2 .if1 .left)
     (c1 .is-red .ensures)
     (c .if2 .taken)
-
-get-requires-2 : tie.Need-get-requires-2
-get-requires-2 c κs = search needs
-
-same-length-3 : tie.Need-same-length-3
-same-length-3 c = search needs
 
 returns-3 : tie.Need-returns-3
 returns-3 c =
@@ -65,18 +44,6 @@ returns-3 c =
     (c2 .if2 .left)
     (c1 .get2 .ensures)
     (c .if3 .taken)
-
-get-requires-3 : tie.Need-get-requires-3
-get-requires-3 c κs = search needs
-
-lift-requires : tie.Need-lift-requires
-lift-requires c κs = search needs
-
-same-length-4 : tie.Need-same-length-4
-same-length-4 c = search needs
-
-same-length-5 : tie.Need-same-length-5
-same-length-5 c = search needs
 
 returns-4 : tie.Need-returns-4
 returns-4 c =
@@ -100,15 +67,6 @@ returns-4 c =
     (c3 .get3 .ensures)
     (c2 .if4 .taken)
     (c1 .lift .ensures)
-
-lift-requires-2 : tie.Need-lift-requires-2
-lift-requires-2 c κs = search needs
-
-same-length-6 : tie.Need-same-length-6
-same-length-6 c = search needs
-
-same-length-7 : tie.Need-same-length-7
-same-length-7 c = search needs
 
 returns-5 : tie.Need-returns-5
 returns-5 c =
@@ -137,22 +95,6 @@ pub insertion-turn-spec : {M : Type 1} → statement M
 insertion-turn-spec =
     tie.close
     (tie.spec
-    get-requires
-    paint-requires
-    same-length
-    returns
-    is-red-requires
-    same-length-2
-    returns-2
-    get-requires-2
-    same-length-3
-    returns-3
-    get-requires-3
-    lift-requires
-    same-length-4
-    same-length-5
-    returns-4
-    lift-requires-2
-    same-length-6
-    same-length-7
-    returns-5)
+    (λ c κs. search needs) (λ c κs. search needs) (λ c. search needs) returns (λ c κs. search needs) (λ c. search needs) returns-2
+    (λ c κs. search needs) (λ c. search needs) returns-3 (λ c κs. search needs) (λ c κs. search needs) (λ c. search needs)
+    (λ c. search needs) returns-4 (λ c κs. search needs) (λ c. search needs) (λ c. search needs) returns-5)

@@ -6,24 +6,6 @@ use borrow.Author.Needs.{needs}
 use Rattle.links.proofs.balance.lift.Statement.{statement}
 use Rattle.links.proofs.balance.lift.Tie as tie
 
-get-requires : tie.Need-get-requires
-get-requires c κs = search needs
-
-is-red-requires : tie.Need-is-red-requires
-is-red-requires c κs = search needs
-
-paint-requires : tie.Need-paint-requires
-paint-requires c κs = search needs
-
-paint-requires-2 : tie.Need-paint-requires-2
-paint-requires-2 c κs = search needs
-
-paint-requires-3 : tie.Need-paint-requires-3
-paint-requires-3 c κs = search needs
-
-same-length : tie.Need-same-length
-same-length c = search needs
-
 returns : tie.Need-returns
 returns c =
     let c1 = c .before .before in
@@ -40,15 +22,6 @@ returns c =
     (c3 .paint .ensures)
     (c2 .paint2 .ensures)
     (c1 .paint3 .ensures)
-
-straighten-requires : tie.Need-straighten-requires
-straighten-requires c κs = search needs
-
-same-length-2 : tie.Need-same-length-2
-same-length-2 c = search needs
-
-same-length-3 : tie.Need-same-length-3
-same-length-3 c = search needs
 
 returns-2 : tie.Need-returns-2
 returns-2 c =
@@ -67,14 +40,5 @@ pub lift-spec : {M : Type 1} → statement M
 lift-spec =
     tie.close
     (tie.spec
-    get-requires
-    is-red-requires
-    paint-requires
-    paint-requires-2
-    paint-requires-3
-    same-length
-    returns
-    straighten-requires
-    same-length-2
-    same-length-3
-    returns-2)
+    (λ c κs. search needs) (λ c κs. search needs) (λ c κs. search needs) (λ c κs. search needs) (λ c κs. search needs) (λ c. search needs)
+    returns (λ c κs. search needs) (λ c. search needs) (λ c. search needs) returns-2)

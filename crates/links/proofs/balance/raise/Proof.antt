@@ -6,21 +6,6 @@ use borrow.Author.Needs.{needs}
 use Rattle.links.proofs.balance.raise.Statement.{statement}
 use Rattle.links.proofs.balance.raise.Tie as tie
 
-paint-requires : tie.Need-paint-requires
-paint-requires c κs = search needs
-
-paint-requires-2 : tie.Need-paint-requires-2
-paint-requires-2 c κs = search needs
-
-rotate-requires : tie.Need-rotate-requires
-rotate-requires c κs = search needs
-
-same-length : tie.Need-same-length
-same-length c = search needs
-
-same-length-2 : tie.Need-same-length-2
-same-length-2 c = search needs
-
 returns : tie.Need-returns
 returns c =
     let c1 = c .before .before .before .before in
@@ -35,4 +20,5 @@ returns c =
 pub raise-spec : {M : Type 1} → statement M
 raise-spec =
     tie.close
-    (tie.spec paint-requires paint-requires-2 rotate-requires same-length same-length-2 returns)
+    (tie.spec
+    (λ c κs. search needs) (λ c κs. search needs) (λ c κs. search needs) (λ c. search needs) (λ c. search needs) returns)

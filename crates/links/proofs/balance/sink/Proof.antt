@@ -6,36 +6,6 @@ use borrow.Author.Needs.{needs}
 use Rattle.links.proofs.balance.sink.Statement.{statement}
 use Rattle.links.proofs.balance.sink.Tie as tie
 
-get-requires : tie.Need-get-requires
-get-requires c κs = search needs
-
-is-red-requires : tie.Need-is-red-requires
-is-red-requires c κs = search needs
-
-paint-requires : tie.Need-paint-requires
-paint-requires c κs = search needs
-
-paint-requires-2 : tie.Need-paint-requires-2
-paint-requires-2 c κs = search needs
-
-rotate-requires : tie.Need-rotate-requires
-rotate-requires c κs = search needs
-
-get-requires-2 : tie.Need-get-requires-2
-get-requires-2 c κs = search needs
-
-get-requires-3 : tie.Need-get-requires-3
-get-requires-3 c κs = search needs
-
-ease-requires : tie.Need-ease-requires
-ease-requires c κs = search needs
-
-same-length : tie.Need-same-length
-same-length c = search needs
-
-same-length-2 : tie.Need-same-length-2
-same-length-2 c = search needs
-
 returns : tie.Need-returns
 returns c =
     let c1 = c .before .before .before .before in
@@ -59,15 +29,6 @@ returns c =
     (c2 .get3 .ensures)
     (c1 .ease .ensures)
 
-ease-requires-2 : tie.Need-ease-requires-2
-ease-requires-2 c κs = search needs
-
-same-length-3 : tie.Need-same-length-3
-same-length-3 c = search needs
-
-same-length-4 : tie.Need-same-length-4
-same-length-4 c = search needs
-
 returns-2 : tie.Need-returns-2
 returns-2 c =
     let c1 = c .before .before .before .before in
@@ -85,18 +46,6 @@ pub sink-spec : {M : Type 1} → statement M
 sink-spec =
     tie.close
     (tie.spec
-    get-requires
-    is-red-requires
-    paint-requires
-    paint-requires-2
-    rotate-requires
-    get-requires-2
-    get-requires-3
-    ease-requires
-    same-length
-    same-length-2
-    returns
-    ease-requires-2
-    same-length-3
-    same-length-4
-    returns-2)
+    (λ c κs. search needs) (λ c κs. search needs) (λ c κs. search needs) (λ c κs. search needs) (λ c κs. search needs)
+    (λ c κs. search needs) (λ c κs. search needs) (λ c κs. search needs) (λ c. search needs) (λ c. search needs) returns
+    (λ c κs. search needs) (λ c. search needs) (λ c. search needs) returns-2)

@@ -6,27 +6,6 @@ use borrow.Author.Needs.{needs}
 use Rattle.links.proofs.balance.straighten.Statement.{statement}
 use Rattle.links.proofs.balance.straighten.Tie as tie
 
-get-requires : tie.Need-get-requires
-get-requires c κs = search needs
-
-rotate-requires : tie.Need-rotate-requires
-rotate-requires c κs = search needs
-
-get-requires-2 : tie.Need-get-requires-2
-get-requires-2 c κs = search needs
-
-get-requires-3 : tie.Need-get-requires-3
-get-requires-3 c κs = search needs
-
-raise-requires : tie.Need-raise-requires
-raise-requires c κs = search needs
-
-same-length : tie.Need-same-length
-same-length c = search needs
-
-same-length-2 : tie.Need-same-length-2
-same-length-2 c = search needs
-
 returns : tie.Need-returns
 returns c =
     let c1 = c .before .before .before .before in
@@ -44,15 +23,6 @@ returns c =
     (c2 .get3 .ensures)
     (c1 .raise .ensures)
 
-raise-requires-2 : tie.Need-raise-requires-2
-raise-requires-2 c κs = search needs
-
-same-length-3 : tie.Need-same-length-3
-same-length-3 c = search needs
-
-same-length-4 : tie.Need-same-length-4
-same-length-4 c = search needs
-
 returns-2 : tie.Need-returns-2
 returns-2 c =
     let c1 = c .before .before .before .before in
@@ -68,15 +38,5 @@ pub straighten-spec : {M : Type 1} → statement M
 straighten-spec =
     tie.close
     (tie.spec
-    get-requires
-    rotate-requires
-    get-requires-2
-    get-requires-3
-    raise-requires
-    same-length
-    same-length-2
-    returns
-    raise-requires-2
-    same-length-3
-    same-length-4
-    returns-2)
+    (λ c κs. search needs) (λ c κs. search needs) (λ c κs. search needs) (λ c κs. search needs) (λ c κs. search needs) (λ c. search needs)
+    (λ c. search needs) returns (λ c κs. search needs) (λ c. search needs) (λ c. search needs) returns-2)

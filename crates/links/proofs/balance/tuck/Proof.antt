@@ -6,24 +6,6 @@ use borrow.Author.Needs.{needs}
 use Rattle.links.proofs.balance.tuck.Statement.{statement}
 use Rattle.links.proofs.balance.tuck.Tie as tie
 
-get-requires : tie.Need-get-requires
-get-requires c κs = search needs
-
-paint-requires : tie.Need-paint-requires
-paint-requires c κs = search needs
-
-paint-requires-2 : tie.Need-paint-requires-2
-paint-requires-2 c κs = search needs
-
-rotate-requires : tie.Need-rotate-requires
-rotate-requires c κs = search needs
-
-same-length : tie.Need-same-length
-same-length c = search needs
-
-same-length-2 : tie.Need-same-length-2
-same-length-2 c = search needs
-
 returns : tie.Need-returns
 returns c =
     let c1 = c .before .before .before .before in
@@ -41,10 +23,5 @@ pub tuck-spec : {M : Type 1} → statement M
 tuck-spec =
     tie.close
     (tie.spec
-    get-requires
-    paint-requires
-    paint-requires-2
-    rotate-requires
-    same-length
-    same-length-2
+    (λ c κs. search needs) (λ c κs. search needs) (λ c κs. search needs) (λ c κs. search needs) (λ c. search needs) (λ c. search needs)
     returns)

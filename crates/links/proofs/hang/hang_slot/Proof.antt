@@ -6,24 +6,6 @@ use borrow.Author.Needs.{needs}
 use Rattle.links.proofs.hang.hang_slot.Statement.{statement}
 use Rattle.links.proofs.hang.hang_slot.Tie as tie
 
-place-requires : tie.Need-place-requires
-place-requires c κs = search needs
-
-hook-requires : tie.Need-hook-requires
-hook-requires c κs = search needs
-
-weigh-requires : tie.Need-weigh-requires
-weigh-requires c κs = search needs
-
-balance-insertion-requires : tie.Need-balance-insertion-requires
-balance-insertion-requires c κs = search needs
-
-same-length : tie.Need-same-length
-same-length c = search needs
-
-same-length-2 : tie.Need-same-length-2
-same-length-2 c = search needs
-
 returns : tie.Need-returns
 returns c =
     let c1 = c .before .before .before .before in
@@ -41,10 +23,5 @@ pub hang-slot-spec : {M : Type 1} → statement M
 hang-slot-spec =
     tie.close
     (tie.spec
-    place-requires
-    hook-requires
-    weigh-requires
-    balance-insertion-requires
-    same-length
-    same-length-2
+    (λ c κs. search needs) (λ c κs. search needs) (λ c κs. search needs) (λ c κs. search needs) (λ c. search needs) (λ c. search needs)
     returns)

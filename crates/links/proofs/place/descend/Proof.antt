@@ -16,15 +16,6 @@ Inv-loop names cells p hash key steps at₀ rest₀ at rest =
 abbrev μ-loop : tie.MeasureT-loop
 μ-loop names cells p hash key steps at₀ rest₀ at rest = rest
 
-loop-holds : tie.Need-loop-holds Inv-loop μ-loop
-loop-holds c = search needs
-
-side-for-requires : tie.Need-side-for-requires Inv-loop μ-loop
-side-for-requires c κs = search needs
-
-get-requires : tie.Need-get-requires Inv-loop μ-loop
-get-requires c κs = search needs
-
 returns : tie.Need-returns Inv-loop μ-loop
 returns c =
     let c1 = c .before in
@@ -34,12 +25,6 @@ returns c =
     let a = c4 .before .before .before .args in
     ended (descent (now (a .names)) (now (a .cells)) (a .hash) (a .key)) (c4 .loop .inv .0) (c3 .loop-test .taken) (c2 .side-for .ensures)
     (c1 .get .ensures) (c .if1 .taken)
-
-sub-rest : tie.Need-sub-rest Inv-loop μ-loop
-sub-rest c = search needs
-
-loop-less : tie.Need-loop-less Inv-loop μ-loop
-loop-less c = search needs
 
 loop-again : tie.Need-loop-again Inv-loop μ-loop
 loop-again c =
@@ -53,9 +38,6 @@ loop-again c =
       search needs,
     )
 
-side-for-requires-2 : tie.Need-side-for-requires-2 Inv-loop μ-loop
-side-for-requires-2 c κs = search needs
-
 returns-2 : tie.Need-returns-2 Inv-loop μ-loop
 returns-2 c =
     let c1 = c .before in
@@ -67,14 +49,5 @@ pub descend-spec : {M : Type 1} → statement M
 descend-spec =
     tie.close
     (tie.spec
-    Inv-loop
-    μ-loop
-    loop-holds
-    side-for-requires
-    get-requires
-    returns
-    sub-rest
-    loop-less
-    loop-again
-    side-for-requires-2
-    returns-2)
+    Inv-loop μ-loop (λ c. search needs) (λ c κs. search needs) (λ c κs. search needs) returns (λ c. search needs) (λ c. search needs)
+    loop-again (λ c κs. search needs) returns-2)

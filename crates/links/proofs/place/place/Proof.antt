@@ -12,9 +12,6 @@ returns c =
     λ sizes. empty (a .steps) (now (a .names)) (lentLinks (now (a .cells)) (a .root) sizes) (a .hash) (a .key)
     (c .if1 .taken)
 
-descend-requires : tie.Need-descend-requires
-descend-requires c κs = search needs
-
 returns-2 : tie.Need-returns-2
 returns-2 c =
     let c1 = c .before in
@@ -24,4 +21,4 @@ returns-2 c =
     (c .descend .ensures)
 
 pub place-spec : {M : Type 1} → statement M
-place-spec = tie.close (tie.spec returns descend-requires returns-2)
+place-spec = tie.close (tie.spec returns (λ c κs. search needs) returns-2)

@@ -3,15 +3,6 @@ use borrow.Author.Needs.{needs}
 use Rattle.links.proofs.place.side_for.Statement.{statement}
 use Rattle.links.proofs.place.side_for.Tie as tie
 
-name-requires : tie.Need-name-requires
-name-requires c κs = search needs
-
-name-requires-2 : tie.Need-name-requires-2
-name-requires-2 c κs = search needs
-
-comes-before-requires : tie.Need-comes-before-requires
-comes-before-requires c κs = search needs
-
 returns : tie.Need-returns
 returns c =
     rw (← c .before .before .before .name .ensures, ← c .before .before .name2 .ensures, ← c .before .comes-before .ensures, c .if1 .taken)
@@ -21,5 +12,4 @@ returns-2 c =
     rw (← c .before .before .before .name .ensures, ← c .before .before .name2 .ensures, ← c .before .comes-before .ensures, c .if1 .left)
 
 pub side-for-spec : {M : Type 1} → statement M
-side-for-spec =
-    tie.close (tie.spec name-requires name-requires-2 comes-before-requires returns returns-2)
+side-for-spec = tie.close (tie.spec (λ c κs. search needs) (λ c κs. search needs) (λ c κs. search needs) returns returns-2)

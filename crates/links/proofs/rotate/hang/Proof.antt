@@ -6,12 +6,6 @@ use borrow.Author.Needs.{needs}
 use Rattle.links.proofs.rotate.hang.Statement.{statement}
 use Rattle.links.proofs.rotate.hang.Tie as tie
 
-put-requires : tie.Need-put-requires
-put-requires c κs = search needs
-
-same-length : tie.Need-same-length
-same-length c = search needs
-
 returns : tie.Need-returns
 returns c =
     let c1 = c .before .before in
@@ -20,18 +14,6 @@ returns c =
     λ sizes. hung-root (a .near) (a .far) (lentLinks (now (a .cells)) (a .root) sizes) (a .pp) (a .p) (a .r)
     (c2 .if1 .taken)
     (c1 .put .ensures)
-
-get-requires : tie.Need-get-requires
-get-requires c κs = search needs
-
-put-requires-2 : tie.Need-put-requires-2
-put-requires-2 c κs = search needs
-
-put-requires-3 : tie.Need-put-requires-3
-put-requires-3 c κs = search needs
-
-same-length-2 : tie.Need-same-length-2
-same-length-2 c = search needs
 
 returns-2 : tie.Need-returns-2
 returns-2 c =
@@ -45,9 +27,6 @@ returns-2 c =
     (c3 .get .ensures)
     (c2 .if2 .taken)
     (c1 .put2 .ensures)
-
-same-length-3 : tie.Need-same-length-3
-same-length-3 c = search needs
 
 returns-3 : tie.Need-returns-3
 returns-3 c =
@@ -66,13 +45,5 @@ pub hang-spec : {M : Type 1} → statement M
 hang-spec =
     tie.close
     (tie.spec
-    put-requires
-    same-length
-    returns
-    get-requires
-    put-requires-2
-    put-requires-3
-    same-length-2
-    returns-2
-    same-length-3
-    returns-3)
+    (λ c κs. search needs) (λ c. search needs) returns (λ c κs. search needs) (λ c κs. search needs) (λ c κs. search needs)
+    (λ c. search needs) returns-2 (λ c. search needs) returns-3)

@@ -13,12 +13,6 @@ returns c =
     none (a .near) (a .far) (lentLinks (now (a .cells)) (a .root) (now (a .sizes))) (a .p)
     (c .if1 .taken)
 
-get-requires : tie.Need-get-requires
-get-requires c κs = search needs
-
-same-length : tie.Need-same-length
-same-length c = search needs
-
 returns-2 : tie.Need-returns-2
 returns-2 c =
     let c1 = c .before in
@@ -28,39 +22,6 @@ returns-2 c =
     (c2 .if1 .left)
     (c1 .get .ensures)
     (c .if2 .taken)
-
-get-requires-2 : tie.Need-get-requires-2
-get-requires-2 c κs = search needs
-
-put-requires : tie.Need-put-requires
-put-requires c κs = search needs
-
-put-requires-2 : tie.Need-put-requires-2
-put-requires-2 c κs = search needs
-
-get-requires-3 : tie.Need-get-requires-3
-get-requires-3 c κs = search needs
-
-put-requires-3 : tie.Need-put-requires-3
-put-requires-3 c κs = search needs
-
-hang-requires : tie.Need-hang-requires
-hang-requires c κs = search needs
-
-put-requires-4 : tie.Need-put-requires-4
-put-requires-4 c κs = search needs
-
-put-requires-5 : tie.Need-put-requires-5
-put-requires-5 c κs = search needs
-
-get-requires-4 : tie.Need-get-requires-4
-get-requires-4 c κs = search needs
-
-get-requires-5 : tie.Need-get-requires-5
-get-requires-5 c κs = search needs
-
-recount-requires : tie.Need-recount-requires
-recount-requires c κs = search needs
 
 same-length-2 : tie.Need-same-length-2
 same-length-2 c =
@@ -76,9 +37,6 @@ same-length-2 c =
     ∙ c4 .put3 .kept .0
     ∙ c5 .put2 .kept .0
     ∙ c6 .put .kept .0
-
-same-length-3 : tie.Need-same-length-3
-same-length-3 c = search needs
 
 returns-3 : tie.Need-returns-3
 returns-3 c =
@@ -117,21 +75,6 @@ pub swing-spec : {M : Type 1} → statement M
 swing-spec =
     tie.close
     (tie.spec
-    returns
-    get-requires
-    same-length
-    returns-2
-    get-requires-2
-    put-requires
-    put-requires-2
-    get-requires-3
-    put-requires-3
-    hang-requires
-    put-requires-4
-    put-requires-5
-    get-requires-4
-    get-requires-5
-    recount-requires
-    same-length-2
-    same-length-3
-    returns-3)
+    returns (λ c κs. search needs) (λ c. search needs) returns-2 (λ c κs. search needs) (λ c κs. search needs) (λ c κs. search needs)
+    (λ c κs. search needs) (λ c κs. search needs) (λ c κs. search needs) (λ c κs. search needs) (λ c κs. search needs)
+    (λ c κs. search needs) (λ c κs. search needs) (λ c κs. search needs) same-length-2 (λ c. search needs) returns-3)

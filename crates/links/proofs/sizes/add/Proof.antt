@@ -4,12 +4,9 @@ use borrow.Author.Needs.{needs}
 use Rattle.links.proofs.sizes.add.Statement.{statement}
 use Rattle.links.proofs.sizes.add.Tie as tie
 
-wrapping-add-u32-requires : tie.Need-wrapping-add-u32-requires
-wrapping-add-u32-requires c κs = search needs
-
 returns : tie.Need-returns
 unfolding sum
 returns c = c .wrapping-add-u32 .ensures
 
 pub add-spec : {M : Type 1} → statement M
-add-spec = tie.close (tie.spec wrapping-add-u32-requires returns)
+add-spec = tie.close (tie.spec (λ c κs. search needs) returns)

@@ -16,12 +16,6 @@ Inv-loop cells sizes₀ p d budget at₀ rest₀ sizes at rest =
 abbrev μ-loop : tie.MeasureT-loop
 μ-loop cells sizes₀ p d budget at₀ rest₀ sizes at rest = rest
 
-loop-holds : tie.Need-loop-holds Inv-loop μ-loop
-loop-holds c = search needs
-
-same-length : tie.Need-same-length Inv-loop μ-loop
-same-length c = search needs
-
 returns : tie.Need-returns Inv-loop μ-loop
 returns c =
     let c1 = c .before in
@@ -29,30 +23,6 @@ returns c =
     let a = c2 .before .before .before .args in
     topped (now (a .cells)) (a .d) (c2 .loop .rest) (c2 .loop .at) (c2 .loop .sizes) (c2 .loop .inv .0) (c1 .loop-test .taken)
     (c .if1 .taken)
-
-cast-word : tie.Need-cast-word Inv-loop μ-loop
-cast-word c = search needs
-
-word-requires : tie.Need-word-requires Inv-loop μ-loop
-word-requires c κs = search needs
-
-add-requires : tie.Need-add-requires Inv-loop μ-loop
-add-requires c κs = search needs
-
-cast-put-word : tie.Need-cast-put-word Inv-loop μ-loop
-cast-put-word c = search needs
-
-put-word-requires : tie.Need-put-word-requires Inv-loop μ-loop
-put-word-requires c κs = search needs
-
-get-requires : tie.Need-get-requires Inv-loop μ-loop
-get-requires c κs = search needs
-
-sub-rest : tie.Need-sub-rest Inv-loop μ-loop
-sub-rest c = search needs
-
-loop-less : tie.Need-loop-less Inv-loop μ-loop
-loop-less c = search needs
 
 loop-again : tie.Need-loop-again Inv-loop μ-loop
 loop-again c =
@@ -69,9 +39,6 @@ loop-again c =
       search needs,
     )
 
-same-length-2 : tie.Need-same-length-2 Inv-loop μ-loop
-same-length-2 c = search needs
-
 returns-2 : tie.Need-returns-2 Inv-loop μ-loop
 returns-2 c =
     let c1 = c .before in
@@ -82,19 +49,6 @@ pub climb-spec : {M : Type 1} → statement M
 climb-spec =
     tie.close
     (tie.spec
-    Inv-loop
-    μ-loop
-    loop-holds
-    same-length
-    returns
-    cast-word
-    word-requires
-    add-requires
-    cast-put-word
-    put-word-requires
-    get-requires
-    sub-rest
-    loop-less
-    loop-again
-    same-length-2
-    returns-2)
+    Inv-loop μ-loop (λ c. search needs) (λ c. search needs) returns (λ c. search needs) (λ c κs. search needs) (λ c κs. search needs)
+    (λ c. search needs) (λ c κs. search needs) (λ c κs. search needs) (λ c. search needs) (λ c. search needs) loop-again
+    (λ c. search needs) returns-2)

@@ -5,30 +5,6 @@ use borrow.Author.Needs.{needs}
 use Rattle.links.proofs.sizes.recount.Statement.{statement}
 use Rattle.links.proofs.sizes.recount.Tie as tie
 
-word-requires : tie.Need-word-requires
-word-requires c κs = search needs
-
-put-word-requires : tie.Need-put-word-requires
-put-word-requires c κs = search needs
-
-word-requires-2 : tie.Need-word-requires-2
-word-requires-2 c κs = search needs
-
-word-requires-3 : tie.Need-word-requires-3
-word-requires-3 c κs = search needs
-
-add-requires : tie.Need-add-requires
-add-requires c κs = search needs
-
-add-requires-2 : tie.Need-add-requires-2
-add-requires-2 c κs = search needs
-
-put-word-requires-2 : tie.Need-put-word-requires-2
-put-word-requires-2 c κs = search needs
-
-same-length : tie.Need-same-length
-same-length c = search needs
-
 returns : tie.Need-returns
 returns c =
     let c1 = c .before .before in
@@ -52,12 +28,5 @@ pub recount-spec : {M : Type 1} → statement M
 recount-spec =
     tie.close
     (tie.spec
-    word-requires
-    put-word-requires
-    word-requires-2
-    word-requires-3
-    add-requires
-    add-requires-2
-    put-word-requires-2
-    same-length
-    returns)
+    (λ c κs. search needs) (λ c κs. search needs) (λ c κs. search needs) (λ c κs. search needs) (λ c κs. search needs)
+    (λ c κs. search needs) (λ c κs. search needs) (λ c. search needs) returns)

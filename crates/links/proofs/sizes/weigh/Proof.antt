@@ -5,18 +5,6 @@ use borrow.Author.Needs.{needs}
 use Rattle.links.proofs.sizes.weigh.Statement.{statement}
 use Rattle.links.proofs.sizes.weigh.Tie as tie
 
-put-word-requires : tie.Need-put-word-requires
-put-word-requires c κs = search needs
-
-get-requires : tie.Need-get-requires
-get-requires c κs = search needs
-
-climb-requires : tie.Need-climb-requires
-climb-requires c κs = search needs
-
-same-length : tie.Need-same-length
-same-length c = search needs
-
 returns : tie.Need-returns
 returns c =
     let c1 = c .before .before in
@@ -29,4 +17,4 @@ returns c =
     (c1 .climb .ensures)
 
 pub weigh-spec : {M : Type 1} → statement M
-weigh-spec = tie.close (tie.spec put-word-requires get-requires climb-requires same-length returns)
+weigh-spec = tie.close (tie.spec (λ c κs. search needs) (λ c κs. search needs) (λ c κs. search needs) (λ c. search needs) returns)

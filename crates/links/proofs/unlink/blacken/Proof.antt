@@ -6,12 +6,6 @@ use borrow.Author.Needs.{needs}
 use Rattle.links.proofs.unlink.blacken.Statement.{statement}
 use Rattle.links.proofs.unlink.blacken.Tie as tie
 
-put-requires : tie.Need-put-requires
-put-requires c κs = search needs
-
-same-length : tie.Need-same-length
-same-length c = search needs
-
 returns : tie.Need-returns
 returns c =
     let c1 = c .before .before in
@@ -28,4 +22,4 @@ returns-2 c =
     (c .if1 .left)
 
 pub blacken-spec : {M : Type 1} → statement M
-blacken-spec = tie.close (tie.spec put-requires same-length returns returns-2)
+blacken-spec = tie.close (tie.spec (λ c κs. search needs) (λ c. search needs) returns returns-2)

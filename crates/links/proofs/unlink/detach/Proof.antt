@@ -6,18 +6,6 @@ use borrow.Author.Needs.{needs}
 use Rattle.links.proofs.unlink.detach.Statement.{statement}
 use Rattle.links.proofs.unlink.detach.Tie as tie
 
-get-requires : tie.Need-get-requires
-get-requires c κs = search needs
-
-replace-requires : tie.Need-replace-requires
-replace-requires c κs = search needs
-
-put-requires : tie.Need-put-requires
-put-requires c κs = search needs
-
-same-length : tie.Need-same-length
-same-length c = search needs
-
 returns : tie.Need-returns
 returns c =
     let c1 = c .before .before in
@@ -30,4 +18,4 @@ returns c =
     (c1 .put .ensures)
 
 pub detach-spec : {M : Type 1} → statement M
-detach-spec = tie.close (tie.spec get-requires replace-requires put-requires same-length returns)
+detach-spec = tie.close (tie.spec (λ c κs. search needs) (λ c κs. search needs) (λ c κs. search needs) (λ c. search needs) returns)

@@ -19,12 +19,6 @@ Inv-loop cells q budget at₀ rest₀ at rest =
 abbrev μ-loop : tie.MeasureT-loop
 μ-loop cells q budget at₀ rest₀ at rest = rest
 
-loop-holds : tie.Need-loop-holds Inv-loop μ-loop
-loop-holds c = search needs
-
-get-requires : tie.Need-get-requires Inv-loop μ-loop
-get-requires c κs = search needs
-
 returns : tie.Need-returns Inv-loop μ-loop
 returns c =
     let c1 = c .before in
@@ -33,12 +27,6 @@ returns c =
     let a = c3 .before .before .args in
     λ root sizes. ended (leftward (lentLinks (now (a .cells)) root sizes)) (c3 .loop .inv .0 root sizes) (c2 .loop-test .taken) refl
     (c1 .get .ensures) (c .if1 .taken)
-
-sub-rest : tie.Need-sub-rest Inv-loop μ-loop
-sub-rest c = search needs
-
-loop-less : tie.Need-loop-less Inv-loop μ-loop
-loop-less c = search needs
 
 loop-again : tie.Need-loop-again Inv-loop μ-loop
 loop-again c =
@@ -61,12 +49,4 @@ pub leftmost-spec : {M : Type 1} → statement M
 leftmost-spec =
     tie.close
     (tie.spec
-    Inv-loop
-    μ-loop
-    loop-holds
-    get-requires
-    returns
-    sub-rest
-    loop-less
-    loop-again
-    returns-2)
+    Inv-loop μ-loop (λ c. search needs) (λ c κs. search needs) returns (λ c. search needs) (λ c. search needs) loop-again returns-2)

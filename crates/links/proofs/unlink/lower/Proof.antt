@@ -5,15 +5,6 @@ use borrow.Author.Needs.{needs}
 use Rattle.links.proofs.unlink.lower.Statement.{statement}
 use Rattle.links.proofs.unlink.lower.Tie as tie
 
-put-requires : tie.Need-put-requires
-put-requires c κs = search needs
-
-put-requires-2 : tie.Need-put-requires-2
-put-requires-2 c κs = search needs
-
-same-length : tie.Need-same-length
-same-length c = search needs
-
 returns : tie.Need-returns
 returns c =
     let c1 = c .before .before in
@@ -24,21 +15,6 @@ returns c =
     (c3 .if1 .taken)
     (c2 .put .ensures)
     (c1 .put2 .ensures)
-
-put-requires-3 : tie.Need-put-requires-3
-put-requires-3 c κs = search needs
-
-relink-requires : tie.Need-relink-requires
-relink-requires c κs = search needs
-
-put-requires-4 : tie.Need-put-requires-4
-put-requires-4 c κs = search needs
-
-put-requires-5 : tie.Need-put-requires-5
-put-requires-5 c κs = search needs
-
-same-length-2 : tie.Need-same-length-2
-same-length-2 c = search needs
 
 returns-2 : tie.Need-returns-2
 returns-2 c =
@@ -59,13 +35,5 @@ pub lower-spec : {M : Type 1} → statement M
 lower-spec =
     tie.close
     (tie.spec
-    put-requires
-    put-requires-2
-    same-length
-    returns
-    put-requires-3
-    relink-requires
-    put-requires-4
-    put-requires-5
-    same-length-2
-    returns-2)
+    (λ c κs. search needs) (λ c κs. search needs) (λ c. search needs) returns (λ c κs. search needs) (λ c κs. search needs)
+    (λ c κs. search needs) (λ c κs. search needs) (λ c. search needs) returns-2)

@@ -6,15 +6,6 @@ use Rattle.links.proofs.unlink.rebalance.Tie as tie
 returns : tie.Need-returns
 returns c = rw (c .if1 .taken)
 
-balance-deletion-requires : tie.Need-balance-deletion-requires
-balance-deletion-requires c κs = search needs
-
-same-length : tie.Need-same-length
-same-length c = search needs
-
-same-length-2 : tie.Need-same-length-2
-same-length-2 c = search needs
-
 returns-2 : tie.Need-returns-2
 returns-2 c =
     let c1 = c .before .before .before .before in
@@ -22,5 +13,4 @@ returns-2 c =
     rw (c2 .if1 .left) (c1 .balance-deletion .ensures)
 
 pub rebalance-spec : {M : Type 1} → statement M
-rebalance-spec =
-    tie.close (tie.spec returns balance-deletion-requires same-length same-length-2 returns-2)
+rebalance-spec = tie.close (tie.spec returns (λ c κs. search needs) (λ c. search needs) (λ c. search needs) returns-2)

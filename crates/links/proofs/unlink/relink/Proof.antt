@@ -5,18 +5,6 @@ use borrow.Author.Needs.{needs}
 use Rattle.links.proofs.unlink.relink.Statement.{statement}
 use Rattle.links.proofs.unlink.relink.Tie as tie
 
-get-requires : tie.Need-get-requires
-get-requires c κs = search needs
-
-put-requires : tie.Need-put-requires
-put-requires c κs = search needs
-
-put-requires-2 : tie.Need-put-requires-2
-put-requires-2 c κs = search needs
-
-same-length : tie.Need-same-length
-same-length c = search needs
-
 returns : tie.Need-returns
 returns c =
     let c1 = c .before .before in
@@ -27,9 +15,6 @@ returns c =
     (c3 .get .ensures)
     (c2 .if1 .taken)
     (c1 .put .ensures)
-
-same-length-2 : tie.Need-same-length-2
-same-length-2 c = search needs
 
 returns-2 : tie.Need-returns-2
 returns-2 c =
@@ -45,4 +30,5 @@ returns-2 c =
 pub relink-spec : {M : Type 1} → statement M
 relink-spec =
     tie.close
-    (tie.spec get-requires put-requires put-requires-2 same-length returns same-length-2 returns-2)
+    (tie.spec
+    (λ c κs. search needs) (λ c κs. search needs) (λ c κs. search needs) (λ c. search needs) returns (λ c. search needs) returns-2)

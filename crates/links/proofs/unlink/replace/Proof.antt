@@ -12,12 +12,6 @@ returns c =
     λ sizes. rootward (lentLinks (now (a .cells)) (a .root) sizes) (a .q) (a .p) (a .x)
     (c .if1 .taken)
 
-relink-requires : tie.Need-relink-requires
-relink-requires c κs = search needs
-
-same-length : tie.Need-same-length
-same-length c = search needs
-
 returns-2 : tie.Need-returns-2
 returns-2 c =
     let c1 = c .before .before in
@@ -28,4 +22,4 @@ returns-2 c =
     (c1 .relink .ensures)
 
 pub replace-spec : {M : Type 1} → statement M
-replace-spec = tie.close (tie.spec returns relink-requires same-length returns-2)
+replace-spec = tie.close (tie.spec returns (λ c κs. search needs) (λ c. search needs) returns-2)

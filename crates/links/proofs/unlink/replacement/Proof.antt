@@ -5,12 +5,6 @@ use borrow.Author.Needs.{needs}
 use Rattle.links.proofs.unlink.replacement.Statement.{statement}
 use Rattle.links.proofs.unlink.replacement.Tie as tie
 
-get-requires : tie.Need-get-requires
-get-requires c κs = search needs
-
-get-requires-2 : tie.Need-get-requires-2
-get-requires-2 c κs = search needs
-
 returns : tie.Need-returns
 returns c =
     let c1 = c .before in
@@ -44,4 +38,4 @@ returns-3 c =
     (c .if1 .left)
 
 pub replacement-spec : {M : Type 1} → statement M
-replacement-spec = tie.close (tie.spec get-requires get-requires-2 returns returns-2 returns-3)
+replacement-spec = tie.close (tie.spec (λ c κs. search needs) (λ c κs. search needs) returns returns-2 returns-3)

@@ -7,60 +7,6 @@ use borrow.Author.Needs.{needs}
 use Rattle.links.proofs.unlink.trade.Statement.{statement}
 use Rattle.links.proofs.unlink.trade.Tie as tie
 
-colour-requires : tie.Need-colour-requires
-colour-requires c κs = search needs
-
-colour-requires-2 : tie.Need-colour-requires-2
-colour-requires-2 c κs = search needs
-
-get-requires : tie.Need-get-requires
-get-requires c κs = search needs
-
-get-requires-2 : tie.Need-get-requires-2
-get-requires-2 c κs = search needs
-
-get-requires-3 : tie.Need-get-requires-3
-get-requires-3 c κs = search needs
-
-get-requires-4 : tie.Need-get-requires-4
-get-requires-4 c κs = search needs
-
-get-requires-5 : tie.Need-get-requires-5
-get-requires-5 c κs = search needs
-
-put-requires : tie.Need-put-requires
-put-requires c κs = search needs
-
-put-requires-2 : tie.Need-put-requires-2
-put-requires-2 c κs = search needs
-
-lower-requires : tie.Need-lower-requires
-lower-requires c κs = search needs
-
-put-requires-3 : tie.Need-put-requires-3
-put-requires-3 c κs = search needs
-
-put-requires-4 : tie.Need-put-requires-4
-put-requires-4 c κs = search needs
-
-put-requires-5 : tie.Need-put-requires-5
-put-requires-5 c κs = search needs
-
-put-requires-6 : tie.Need-put-requires-6
-put-requires-6 c κs = search needs
-
-put-requires-7 : tie.Need-put-requires-7
-put-requires-7 c κs = search needs
-
-put-requires-8 : tie.Need-put-requires-8
-put-requires-8 c κs = search needs
-
-replace-requires : tie.Need-replace-requires
-replace-requires c κs = search needs
-
-exchange-requires : tie.Need-exchange-requires
-exchange-requires c κs = search needs
-
 same-length : tie.Need-same-length
 same-length c =
     let c1 = c .before .before .before .before .before .before in
@@ -83,9 +29,6 @@ same-length c =
     ∙ c8 .lower .kept .0
     ∙ c9 .put2 .kept .0
     ∙ c10 .put .kept .0
-
-same-length-2 : tie.Need-same-length-2
-same-length-2 c = search needs
 
 returns : tie.Need-returns
 returns c =
@@ -132,24 +75,7 @@ pub trade-spec : {M : Type 1} → statement M
 trade-spec =
     tie.close
     (tie.spec
-    colour-requires
-    colour-requires-2
-    get-requires
-    get-requires-2
-    get-requires-3
-    get-requires-4
-    get-requires-5
-    put-requires
-    put-requires-2
-    lower-requires
-    put-requires-3
-    put-requires-4
-    put-requires-5
-    put-requires-6
-    put-requires-7
-    put-requires-8
-    replace-requires
-    exchange-requires
-    same-length
-    same-length-2
-    returns)
+    (λ c κs. search needs) (λ c κs. search needs) (λ c κs. search needs) (λ c κs. search needs) (λ c κs. search needs)
+    (λ c κs. search needs) (λ c κs. search needs) (λ c κs. search needs) (λ c κs. search needs) (λ c κs. search needs)
+    (λ c κs. search needs) (λ c κs. search needs) (λ c κs. search needs) (λ c κs. search needs) (λ c κs. search needs)
+    (λ c κs. search needs) (λ c κs. search needs) (λ c κs. search needs) same-length (λ c. search needs) returns)

@@ -6,18 +6,6 @@ use borrow.Author.Needs.{needs}
 use Rattle.links.proofs.unlink.unlink_slot.Statement.{statement}
 use Rattle.links.proofs.unlink.unlink_slot.Tie as tie
 
-get-requires : tie.Need-get-requires
-get-requires c κs = search needs
-
-drop-slot-requires : tie.Need-drop-slot-requires
-drop-slot-requires c κs = search needs
-
-same-length : tie.Need-same-length
-same-length c = search needs
-
-same-length-2 : tie.Need-same-length-2
-same-length-2 c = search needs
-
 returns : tie.Need-returns
 returns c =
     let c1 = c .before .before .before .before in
@@ -28,18 +16,6 @@ returns c =
     (c3 .get .ensures)
     (c2 .if1 .taken)
     (c1 .drop-slot .ensures)
-
-get-requires-2 : tie.Need-get-requires-2
-get-requires-2 c κs = search needs
-
-drop-slot-requires-2 : tie.Need-drop-slot-requires-2
-drop-slot-requires-2 c κs = search needs
-
-same-length-3 : tie.Need-same-length-3
-same-length-3 c = search needs
-
-same-length-4 : tie.Need-same-length-4
-same-length-4 c = search needs
 
 returns-2 : tie.Need-returns-2
 returns-2 c =
@@ -55,21 +31,6 @@ returns-2 c =
     (c3 .get2 .ensures)
     (c2 .if2 .taken)
     (c1 .drop-slot2 .ensures)
-
-leftmost-requires : tie.Need-leftmost-requires
-leftmost-requires c κs = search needs
-
-trade-requires : tie.Need-trade-requires
-trade-requires c κs = search needs
-
-drop-slot-requires-3 : tie.Need-drop-slot-requires-3
-drop-slot-requires-3 c κs = search needs
-
-same-length-5 : tie.Need-same-length-5
-same-length-5 c = search needs
-
-same-length-6 : tie.Need-same-length-6
-same-length-6 c = search needs
 
 returns-3 : tie.Need-returns-3
 returns-3 c =
@@ -94,19 +55,6 @@ pub unlink-slot-spec : {M : Type 1} → statement M
 unlink-slot-spec =
     tie.close
     (tie.spec
-    get-requires
-    drop-slot-requires
-    same-length
-    same-length-2
-    returns
-    get-requires-2
-    drop-slot-requires-2
-    same-length-3
-    same-length-4
-    returns-2
-    leftmost-requires
-    trade-requires
-    drop-slot-requires-3
-    same-length-5
-    same-length-6
-    returns-3)
+    (λ c κs. search needs) (λ c κs. search needs) (λ c. search needs) (λ c. search needs) returns (λ c κs. search needs)
+    (λ c κs. search needs) (λ c. search needs) (λ c. search needs) returns-2 (λ c κs. search needs) (λ c κs. search needs)
+    (λ c κs. search needs) (λ c. search needs) (λ c. search needs) returns-3)

@@ -14,30 +14,6 @@ use Rattle.index_rules.specs.Sound.{isCleared}
 use Rattle.night.proofs.slot.is_cleared.Statement.{statement}
 use Rattle.night.proofs.slot.is_cleared.Tie as tie
 
-name-requires : tie.Need-name-requires
-name-requires c κs = search needs
-
-name-requires-2 : tie.Need-name-requires-2
-name-requires-2 c κs = search needs
-
-get-requires : tie.Need-get-requires
-get-requires c κs = search needs
-
-get-requires-2 : tie.Need-get-requires-2
-get-requires-2 c κs = search needs
-
-get-requires-3 : tie.Need-get-requires-3
-get-requires-3 c κs = search needs
-
-get-requires-4 : tie.Need-get-requires-4
-get-requires-4 c κs = search needs
-
-get-requires-5 : tie.Need-get-requires-5
-get-requires-5 c κs = search needs
-
-get-requires-6 : tie.Need-get-requires-6
-get-requires-6 c κs = search needs
-
 -- A read is asked as the word that it reads.
 read : {t : Bool} {r m : ℕ} (v : ℕ) → t ≡ eqb r v → r ≡ m → t ≡ eqb m v
 read v e h = e ∙ ap (λ (k : ℕ). eqb k v) h
@@ -72,13 +48,5 @@ pub is-cleared-spec : {M : Type 1} → statement M
 is-cleared-spec =
     tie.close
     (tie.spec
-    name-requires
-    name-requires-2
-    get-requires
-    get-requires-2
-    get-requires-3
-    get-requires-4
-    get-requires-5
-    get-requires-6
-    returns
-    returns-2)
+    (λ c κs. search needs) (λ c κs. search needs) (λ c κs. search needs) (λ c κs. search needs) (λ c κs. search needs)
+    (λ c κs. search needs) (λ c κs. search needs) (λ c κs. search needs) returns returns-2)

@@ -7,12 +7,9 @@ use Rattle.ranks.proofs.down.add.Reads as reads
 use Rattle.ranks.proofs.down.add.Lts as lts
 use Rattle.std.proofs.num.wrapping_add_u32.Reads as wrapping-add-u32-reads
 
-wrapping-add-u32-requires : tie.Need-wrapping-add-u32-requires
-wrapping-add-u32-requires c κs = search needs
-
 returns : tie.Need-returns
 unfolding sum
 returns c = c .wrapping-add-u32 .ensures
 
 pub add-spec : {M : Type 1} → statement M
-add-spec = tie.close (tie.spec wrapping-add-u32-requires returns)
+add-spec = tie.close (tie.spec (λ c κs. search needs) returns)

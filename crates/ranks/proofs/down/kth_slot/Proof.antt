@@ -21,18 +21,6 @@ abbrev μ-loop : tie.MeasureT-loop
 loop-holds : tie.Need-loop-holds Inv-loop μ-loop
 loop-holds c = (refl, search needs)
 
-sub-left : tie.Need-sub-left Inv-loop μ-loop
-sub-left c = search needs
-
-get-requires : tie.Need-get-requires Inv-loop μ-loop
-get-requires c κs = search needs
-
-cast-word : tie.Need-cast-word Inv-loop μ-loop
-cast-word c = search needs
-
-word-requires : tie.Need-word-requires Inv-loop μ-loop
-word-requires c κs = search needs
-
 returns : tie.Need-returns Inv-loop μ-loop
 returns c =
     let c1 = c .before in
@@ -41,9 +29,6 @@ returns c =
     let c4 = c3 .before in
     kth-here _ _ _ _ (c2 .get .ensures) (c1 .word .ensures) _ (c3 .loop-test .taken) (c .if1 .taken) ∙ c4 .loop .inv .0
 
-loop-less : tie.Need-loop-less Inv-loop μ-loop
-loop-less c = search needs
-
 loop-again : tie.Need-loop-again Inv-loop μ-loop
 loop-again c =
     let c2 = c .before .before in
@@ -51,15 +36,6 @@ loop-again c =
     let c4 = c3 .before in
     let c5 = c4 .before in
     (kth-left _ _ _ _ (c3 .get .ensures) (c2 .word .ensures) _ (c4 .loop-test .taken) (c .if2 .taken) ∙ c5 .loop .inv .0, search needs)
-
-get-requires-2 : tie.Need-get-requires-2 Inv-loop μ-loop
-get-requires-2 c κs = search needs
-
-sub-rest : tie.Need-sub-rest Inv-loop μ-loop
-sub-rest c = search needs
-
-loop-less-2 : tie.Need-loop-less-2 Inv-loop μ-loop
-loop-less-2 c = search needs
 
 loop-again-2 : tie.Need-loop-again-2 Inv-loop μ-loop
 loop-again-2 c =
@@ -81,18 +57,5 @@ pub kth-slot-spec : {M : Type 1} → statement M
 kth-slot-spec =
     tie.close
     (tie.spec
-    Inv-loop
-    μ-loop
-    loop-holds
-    sub-left
-    get-requires
-    cast-word
-    word-requires
-    returns
-    loop-less
-    loop-again
-    get-requires-2
-    sub-rest
-    loop-less-2
-    loop-again-2
-    returns-2)
+    Inv-loop μ-loop loop-holds (λ c. search needs) (λ c κs. search needs) (λ c. search needs) (λ c κs. search needs) returns
+    (λ c. search needs) loop-again (λ c κs. search needs) (λ c. search needs) (λ c. search needs) loop-again-2 returns-2)

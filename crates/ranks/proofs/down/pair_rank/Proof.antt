@@ -25,28 +25,10 @@ abbrev μ-loop : tie.MeasureT-loop
 loop-holds : tie.Need-loop-holds Inv-loop μ-loop
 loop-holds c = (refl, search needs)
 
-sub-left : tie.Need-sub-left Inv-loop μ-loop
-sub-left c = search needs
-
 returns : tie.Need-returns Inv-loop μ-loop
 returns c =
     let c1 = c .before in
     rank-null _ _ _ _ _ _ _ _ (c1 .loop-test .taken) (c .if1 .taken) ∙ c1 .before .loop .inv .0
-
-name-requires : tie.Need-name-requires Inv-loop μ-loop
-name-requires c κs = search needs
-
-name-requires-2 : tie.Need-name-requires-2 Inv-loop μ-loop
-name-requires-2 c κs = search needs
-
-get-requires : tie.Need-get-requires Inv-loop μ-loop
-get-requires c κs = search needs
-
-comes-before-requires : tie.Need-comes-before-requires Inv-loop μ-loop
-comes-before-requires c κs = search needs
-
-loop-less : tie.Need-loop-less Inv-loop μ-loop
-loop-less c = search needs
 
 loop-again : tie.Need-loop-again Inv-loop μ-loop
 loop-again c =
@@ -61,18 +43,6 @@ loop-again c =
           ∙ c6 .before .loop .inv .0,
       search needs,
     )
-
-cast-word : tie.Need-cast-word Inv-loop μ-loop
-cast-word c = search needs
-
-word-requires : tie.Need-word-requires Inv-loop μ-loop
-word-requires c κs = search needs
-
-comes-before-requires-2 : tie.Need-comes-before-requires-2 Inv-loop μ-loop
-comes-before-requires-2 c κs = search needs
-
-add-requires : tie.Need-add-requires Inv-loop μ-loop
-add-requires c κs = search needs
 
 returns-2 : tie.Need-returns-2 Inv-loop μ-loop
 returns-2 c =
@@ -90,18 +60,6 @@ returns-2 c =
     (c5 .comes-before .ensures) (c3 .word .ensures) (c2 .comes-before2 .ensures)
     (c4 .if2 .left) (not-true (c2 .comes-before2 .result) (c1 .if3 .taken)) (c .add .ensures)
     ∙ c10 .before .loop .inv .0
-
-add-requires-2 : tie.Need-add-requires-2 Inv-loop μ-loop
-add-requires-2 c κs = search needs
-
-add-requires-3 : tie.Need-add-requires-3 Inv-loop μ-loop
-add-requires-3 c κs = search needs
-
-get-requires-2 : tie.Need-get-requires-2 Inv-loop μ-loop
-get-requires-2 c κs = search needs
-
-loop-less-2 : tie.Need-loop-less-2 Inv-loop μ-loop
-loop-less-2 c = search needs
 
 loop-again-2 : tie.Need-loop-again-2 Inv-loop μ-loop
 loop-again-2 c =
@@ -131,25 +89,7 @@ pub pair-rank-spec : {M : Type 1} → statement M
 pair-rank-spec =
     tie.close
     (tie.spec
-    Inv-loop
-    μ-loop
-    loop-holds
-    sub-left
-    returns
-    name-requires
-    name-requires-2
-    get-requires
-    comes-before-requires
-    loop-less
-    loop-again
-    cast-word
-    word-requires
-    comes-before-requires-2
-    add-requires
-    returns-2
-    add-requires-2
-    add-requires-3
-    get-requires-2
-    loop-less-2
-    loop-again-2
+    Inv-loop μ-loop loop-holds (λ c. search needs) returns (λ c κs. search needs) (λ c κs. search needs) (λ c κs. search needs)
+    (λ c κs. search needs) (λ c. search needs) loop-again (λ c. search needs) (λ c κs. search needs) (λ c κs. search needs)
+    (λ c κs. search needs) returns-2 (λ c κs. search needs) (λ c κs. search needs) (λ c κs. search needs) (λ c. search needs) loop-again-2
     returns-3)

@@ -13,34 +13,10 @@ use Rattle.index.proofs.sound.sound.Reads as sound-reads
 use Rattle.ranks.proofs.down.pair_rank.Reads as pair-rank-reads
 use Rattle.slots.proofs.word.Reads as word-reads
 
-sound-requires : tie.Need-sound-requires
-sound-requires c κs = search needs
-
-enum-told : tie.Need-enum-told
-enum-told c = search needs
-
-enum-told-2 : tie.Need-enum-told-2
-enum-told-2 c = search needs
-
-enum-told-3 : tie.Need-enum-told-3
-enum-told-3 c = search needs
-
-word-requires : tie.Need-word-requires
-word-requires c κs = search needs
-
 cast-pair-rank : tie.Need-cast-pair-rank
 cast-pair-rank c =
     let c1 = c .before in
     omega (arith, few _ (ap soundOf (sym (c1 .enum-told3 .given .1)) ∙ c1 .before .before .sound .ensures))
-
-pair-rank-requires : tie.Need-pair-rank-requires
-pair-rank-requires c κs = search needs
-
-enum-known-rank : tie.Need-enum-known-rank
-enum-known-rank c = search needs
-
-enum-told-4 : tie.Need-enum-told-4
-enum-told-4 c = search needs
 
 returns : tie.Need-returns
 returns c = position-unfit _ _ _ (ap soundOf (sym (c .enum-told .given .1)) ∙ c .before .before .sound .ensures)
@@ -71,16 +47,5 @@ pub position-spec : {M : Type 1} → statement M
 position-spec =
     tie.close
     (tie.spec
-    sound-requires
-    enum-told
-    enum-told-2
-    enum-told-3
-    word-requires
-    cast-pair-rank
-    pair-rank-requires
-    enum-known-rank
-    enum-told-4
-    returns
-    returns-2
-    returns-3
-    returns-4)
+    (λ c κs. search needs) (λ c. search needs) (λ c. search needs) (λ c. search needs) (λ c κs. search needs) cast-pair-rank
+    (λ c κs. search needs) (λ c. search needs) (λ c. search needs) returns returns-2 returns-3 returns-4)

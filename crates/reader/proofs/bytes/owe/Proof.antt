@@ -5,9 +5,6 @@ use borrow.Author.Needs.{needs}
 use Rattle.reader.proofs.bytes.owe.Statement.{statement}
 use Rattle.reader.proofs.bytes.owe.Tie as tie
 
-add-t5 : tie.Need-add-t5
-add-t5 c = search needs
-
 returns : tie.Need-returns
 unfolding owing
 returns c =
@@ -19,9 +16,4 @@ unfolding owing
 returns-2 c = simp (ne-eqb _ _ (c .if1 .left))
 
 pub owe-spec : {M : Type 1} → statement M
-owe-spec =
-    tie.close
-    (tie.spec
-    add-t5
-    returns
-    returns-2)
+owe-spec = tie.close (tie.spec (λ c. search needs) returns returns-2)

@@ -4,17 +4,8 @@ use borrow.Author.Needs.{needs}
 use Rattle.reader.proofs.bytes.take_count.Statement.{statement}
 use Rattle.reader.proofs.bytes.take_count.Tie as tie
 
-mul-owed : tie.Need-mul-owed
-mul-owed c = search needs
-
-add-owed : tie.Need-add-owed
-add-owed c = search needs
-
 returns : tie.Need-returns
 returns c = count-low _ _ (c .if1 .taken)
-
-owe-requires : tie.Need-owe-requires
-owe-requires c κs = search needs
 
 returns-2 : tie.Need-returns-2
 returns-2 c =
@@ -22,11 +13,4 @@ returns-2 c =
     count-high _ _ (c1 .if1 .left) (c .owe .ensures)
 
 pub take-count-spec : {M : Type 1} → statement M
-take-count-spec =
-    tie.close
-    (tie.spec
-    mul-owed
-    add-owed
-    returns
-    owe-requires
-    returns-2)
+take-count-spec = tie.close (tie.spec (λ c. search needs) (λ c. search needs) returns (λ c κs. search needs) returns-2)

@@ -4,27 +4,6 @@ use borrow.Author.Needs.{needs}
 use Rattle.reader.proofs.enter.enter_sound.Statement.{statement}
 use Rattle.reader.proofs.enter.enter_sound.Tie as tie
 
-insert-sound-requires : tie.Need-insert-sound-requires
-insert-sound-requires c κs = search needs
-
-raise-requires : tie.Need-raise-requires
-raise-requires c κs = search needs
-
-same-length : tie.Need-same-length
-same-length c = search needs
-
-same-length-2 : tie.Need-same-length-2
-same-length-2 c = search needs
-
-same-length-3 : tie.Need-same-length-3
-same-length-3 c = search needs
-
-same-length-4 : tie.Need-same-length-4
-same-length-4 c = search needs
-
-same-length-5 : tie.Need-same-length-5
-same-length-5 c = search needs
-
 returns : tie.Need-returns
 returns c =
     let c1 = c .before .before .before .before .before .before .before .before .before .before .before in
@@ -35,11 +14,5 @@ pub enter-sound-spec : {M : Type 1} → statement M
 enter-sound-spec =
     tie.close
     (tie.spec
-    insert-sound-requires
-    raise-requires
-    same-length
-    same-length-2
-    same-length-3
-    same-length-4
-    same-length-5
-    returns)
+    (λ c κs. search needs) (λ c κs. search needs) (λ c. search needs) (λ c. search needs) (λ c. search needs) (λ c. search needs)
+    (λ c. search needs) returns)

@@ -6,17 +6,11 @@ use borrow.Author.Needs.{needs}
 use Rattle.reader.proofs.notes.plain_at.Statement.{statement}
 use Rattle.reader.proofs.notes.plain_at.Tie as tie
 
-known-reply-requires : tie.Need-known-reply-requires
-known-reply-requires c κs = search needs
-
 returns : tie.Need-returns
 unfolding plainAt
 returns c =
     let c1 = c .before in
     c .known-reply .ensures ∙ ap plainAt (sym (c1 .if1 .taken))
-
-known-reply-requires-2 : tie.Need-known-reply-requires-2
-known-reply-requires-2 c κs = search needs
 
 returns-2 : tie.Need-returns-2
 unfolding plainAt
@@ -24,17 +18,11 @@ returns-2 c =
     let c1 = c .before in
     c .known-reply2 .ensures ∙ ap plainAt (sym (c1 .if2 .taken))
 
-known-reply-requires-3 : tie.Need-known-reply-requires-3
-known-reply-requires-3 c κs = search needs
-
 returns-3 : tie.Need-returns-3
 unfolding plainAt
 returns-3 c =
     let c1 = c .before in
     c .known-reply3 .ensures ∙ ap plainAt (sym (c1 .if3 .taken))
-
-known-reply-requires-4 : tie.Need-known-reply-requires-4
-known-reply-requires-4 c κs = search needs
 
 returns-4 : tie.Need-returns-4
 unfolding plainAt
@@ -42,17 +30,11 @@ returns-4 c =
     let c1 = c .before in
     c .known-reply4 .ensures ∙ ap plainAt (sym (c1 .if4 .taken))
 
-known-reply-requires-5 : tie.Need-known-reply-requires-5
-known-reply-requires-5 c κs = search needs
-
 returns-5 : tie.Need-returns-5
 unfolding plainAt
 returns-5 c =
     let c1 = c .before in
     c .known-reply5 .ensures ∙ ap plainAt (sym (c1 .if5 .taken))
-
-known-reply-requires-6 : tie.Need-known-reply-requires-6
-known-reply-requires-6 c κs = search needs
 
 returns-6 : tie.Need-returns-6
 unfolding plainAt
@@ -60,26 +42,17 @@ returns-6 c =
     let c1 = c .before in
     c .known-reply6 .ensures ∙ ap plainAt (sym (c1 .if6 .taken))
 
-known-reply-requires-7 : tie.Need-known-reply-requires-7
-known-reply-requires-7 c κs = search needs
-
 returns-7 : tie.Need-returns-7
 unfolding plainAt
 returns-7 c =
     let c1 = c .before in
     c .known-reply7 .ensures ∙ ap plainAt (sym (c1 .if7 .taken))
 
-known-reply-requires-8 : tie.Need-known-reply-requires-8
-known-reply-requires-8 c κs = search needs
-
 returns-8 : tie.Need-returns-8
 unfolding plainAt
 returns-8 c =
     let c1 = c .before in
     c .known-reply8 .ensures ∙ ap plainAt (sym (c1 .if8 .taken))
-
-known-reply-requires-9 : tie.Need-known-reply-requires-9
-known-reply-requires-9 c κs = search needs
 
 returns-9 : tie.Need-returns-9
 unfolding plainAt
@@ -116,22 +89,6 @@ pub plain-at-spec : {M : Type 1} → statement M
 plain-at-spec =
     tie.close
     (tie.spec
-    known-reply-requires
-    returns
-    known-reply-requires-2
-    returns-2
-    known-reply-requires-3
-    returns-3
-    known-reply-requires-4
-    returns-4
-    known-reply-requires-5
-    returns-5
-    known-reply-requires-6
-    returns-6
-    known-reply-requires-7
-    returns-7
-    known-reply-requires-8
-    returns-8
-    known-reply-requires-9
-    returns-9
-    returns-10)
+    (λ c κs. search needs) returns (λ c κs. search needs) returns-2 (λ c κs. search needs) returns-3 (λ c κs. search needs) returns-4
+    (λ c κs. search needs) returns-5 (λ c κs. search needs) returns-6 (λ c κs. search needs) returns-7 (λ c κs. search needs) returns-8
+    (λ c κs. search needs) returns-9 returns-10)

@@ -8,72 +8,6 @@ use borrow.Author.Needs.{needs}
 use Rattle.reader.proofs.notes.reply_word.Statement.{statement}
 use Rattle.reader.proofs.notes.reply_word.Tie as tie
 
-enum-known-reply : tie.Need-enum-known-reply
-enum-known-reply c = search needs
-
-noted-requires : tie.Need-noted-requires
-noted-requires c κs = search needs
-
-enum-told : tie.Need-enum-told
-enum-told c = search needs
-
-noted-requires-2 : tie.Need-noted-requires-2
-noted-requires-2 c κs = search needs
-
-enum-told-2 : tie.Need-enum-told-2
-enum-told-2 c = search needs
-
-noted-requires-3 : tie.Need-noted-requires-3
-noted-requires-3 c κs = search needs
-
-enum-known-reply-2 : tie.Need-enum-known-reply-2
-enum-known-reply-2 c = search needs
-
-noted-requires-4 : tie.Need-noted-requires-4
-noted-requires-4 c κs = search needs
-
-enum-told-3 : tie.Need-enum-told-3
-enum-told-3 c = search needs
-
-noted-requires-5 : tie.Need-noted-requires-5
-noted-requires-5 c κs = search needs
-
-enum-told-4 : tie.Need-enum-told-4
-enum-told-4 c = search needs
-
-noted-requires-6 : tie.Need-noted-requires-6
-noted-requires-6 c κs = search needs
-
-enum-told-5 : tie.Need-enum-told-5
-enum-told-5 c = search needs
-
-noted-requires-7 : tie.Need-noted-requires-7
-noted-requires-7 c κs = search needs
-
-enum-told-6 : tie.Need-enum-told-6
-enum-told-6 c = search needs
-
-noted-requires-8 : tie.Need-noted-requires-8
-noted-requires-8 c κs = search needs
-
-enum-told-7 : tie.Need-enum-told-7
-enum-told-7 c = search needs
-
-noted-requires-9 : tie.Need-noted-requires-9
-noted-requires-9 c κs = search needs
-
-enum-told-8 : tie.Need-enum-told-8
-enum-told-8 c = search needs
-
-noted-requires-10 : tie.Need-noted-requires-10
-noted-requires-10 c κs = search needs
-
-enum-told-9 : tie.Need-enum-told-9
-enum-told-9 c = search needs
-
-noted-requires-11 : tie.Need-noted-requires-11
-noted-requires-11 c κs = search needs
-
 returns : tie.Need-returns
 unfolding answerWord
 returns c =
@@ -144,36 +78,8 @@ pub reply-word-spec : {M : Type 1} → statement M
 reply-word-spec =
     tie.close
     (tie.spec
-    enum-known-reply
-    noted-requires
-    enum-told
-    noted-requires-2
-    enum-told-2
-    noted-requires-3
-    enum-known-reply-2
-    noted-requires-4
-    enum-told-3
-    noted-requires-5
-    enum-told-4
-    noted-requires-6
-    enum-told-5
-    noted-requires-7
-    enum-told-6
-    noted-requires-8
-    enum-told-7
-    noted-requires-9
-    enum-told-8
-    noted-requires-10
-    enum-told-9
-    noted-requires-11
-    returns
-    returns-2
-    returns-3
-    returns-4
-    returns-5
-    returns-6
-    returns-7
-    returns-8
-    returns-9
-    returns-10
-    returns-11)
+    (λ c. search needs) (λ c κs. search needs) (λ c. search needs) (λ c κs. search needs) (λ c. search needs) (λ c κs. search needs)
+    (λ c. search needs) (λ c κs. search needs) (λ c. search needs) (λ c κs. search needs) (λ c. search needs) (λ c κs. search needs)
+    (λ c. search needs) (λ c κs. search needs) (λ c. search needs) (λ c κs. search needs) (λ c. search needs) (λ c κs. search needs)
+    (λ c. search needs) (λ c κs. search needs) (λ c. search needs) (λ c κs. search needs) returns returns-2 returns-3 returns-4 returns-5
+    returns-6 returns-7 returns-8 returns-9 returns-10 returns-11)

@@ -13,9 +13,6 @@ cast-t8 c =
     let h = few-taken (c1 .pre) in
     omega arith
 
-noting-requires : tie.Need-noting-requires
-noting-requires c κs = search needs
-
 returns : tie.Need-returns
 returns c =
     let c1 = c .before .before in
@@ -23,21 +20,6 @@ returns c =
 
 turn-down-requires : tie.Need-turn-down-requires
 turn-down-requires c κs = unchecked
-
-same-length : tie.Need-same-length
-same-length c = search needs
-
-same-length-2 : tie.Need-same-length-2
-same-length-2 c = search needs
-
-same-length-3 : tie.Need-same-length-3
-same-length-3 c = search needs
-
-same-length-4 : tie.Need-same-length-4
-same-length-4 c = search needs
-
-same-length-5 : tie.Need-same-length-5
-same-length-5 c = search needs
 
 returns-2 : tie.Need-returns-2
 returns-2 c =
@@ -49,13 +31,5 @@ pub close-spec : {M : Type 1} → statement M
 close-spec =
     tie.close
     (tie.spec
-    cast-t8
-    noting-requires
-    returns
-    turn-down-requires
-    same-length
-    same-length-2
-    same-length-3
-    same-length-4
-    same-length-5
-    returns-2)
+    cast-t8 (λ c κs. search needs) returns turn-down-requires (λ c. search needs) (λ c. search needs) (λ c. search needs)
+    (λ c. search needs) (λ c. search needs) returns-2)

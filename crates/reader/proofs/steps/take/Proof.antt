@@ -11,21 +11,6 @@ turn-down-requires c κs =
     let c1 = c .before .before .before .before .before .before .before .before .before .before .before .before .before in
     passes-of (c1 .pre .1)
 
-same-length : tie.Need-same-length
-same-length c = search needs
-
-same-length-2 : tie.Need-same-length-2
-same-length-2 c = search needs
-
-same-length-3 : tie.Need-same-length-3
-same-length-3 c = search needs
-
-same-length-4 : tie.Need-same-length-4
-same-length-4 c = search needs
-
-same-length-5 : tie.Need-same-length-5
-same-length-5 c = search needs
-
 returns : tie.Need-returns
 returns c =
     let c1 = c .before .before .before .before .before .before .before .before .before .before in
@@ -36,21 +21,6 @@ take-kind-requires : tie.Need-take-kind-requires
 take-kind-requires c κs =
     let c1 = c .before .before .before .before .before .before .before .before .before .before .before .before .before .before .before in
     ((let s = c1 .pre .0 .sections in omega arith), c1 .pre .1)
-
-same-length-6 : tie.Need-same-length-6
-same-length-6 c = search needs
-
-same-length-7 : tie.Need-same-length-7
-same-length-7 c = search needs
-
-same-length-8 : tie.Need-same-length-8
-same-length-8 c = search needs
-
-same-length-9 : tie.Need-same-length-9
-same-length-9 c = search needs
-
-same-length-10 : tie.Need-same-length-10
-same-length-10 c = search needs
 
 returns-2 : tie.Need-returns-2
 returns-2 c =
@@ -96,21 +66,6 @@ take-last-requires c κs =
     let c2 = c1 .before .before .before .before .before .before .before .before .before .before .before .before in
     (c2 .pre .0, (c1 .if3 .left, c2 .pre .1))
 
-same-length-11 : tie.Need-same-length-11
-same-length-11 c = search needs
-
-same-length-12 : tie.Need-same-length-12
-same-length-12 c = search needs
-
-same-length-13 : tie.Need-same-length-13
-same-length-13 c = search needs
-
-same-length-14 : tie.Need-same-length-14
-same-length-14 c = search needs
-
-same-length-15 : tie.Need-same-length-15
-same-length-15 c = search needs
-
 returns-5 : tie.Need-returns-5
 returns-5 c =
     let c1 = c .before .before .before .before .before .before .before .before .before .before in
@@ -124,28 +79,7 @@ pub take-spec : {M : Type 1} → statement M
 take-spec =
     tie.close
     (tie.spec
-    turn-down-requires
-    same-length
-    same-length-2
-    same-length-3
-    same-length-4
-    same-length-5
-    returns
-    take-kind-requires
-    same-length-6
-    same-length-7
-    same-length-8
-    same-length-9
-    same-length-10
-    returns-2
-    take-count-requires
-    returns-3
-    take-entry-requires
-    returns-4
-    take-last-requires
-    same-length-11
-    same-length-12
-    same-length-13
-    same-length-14
-    same-length-15
-    returns-5)
+    turn-down-requires (λ c. search needs) (λ c. search needs) (λ c. search needs) (λ c. search needs) (λ c. search needs) returns
+    take-kind-requires (λ c. search needs) (λ c. search needs) (λ c. search needs) (λ c. search needs) (λ c. search needs) returns-2
+    take-count-requires returns-3 take-entry-requires returns-4 take-last-requires (λ c. search needs) (λ c. search needs)
+    (λ c. search needs) (λ c. search needs) (λ c. search needs) returns-5)

@@ -5,9 +5,6 @@ use borrow.Author.Needs.{needs}
 use Rattle.reader.proofs.steps.take_kind.Statement.{statement}
 use Rattle.reader.proofs.steps.take_kind.Tie as tie
 
-add-if1 : tie.Need-add-if1
-add-if1 c = search needs
-
 returns : tie.Need-returns
 returns c =
     let c1 = c .before .before .before .before .before .before .before .before in
@@ -17,21 +14,6 @@ turn-down-requires : tie.Need-turn-down-requires
 turn-down-requires c κs =
     let c1 = c .before .before .before .before .before .before .before .before .before .before .before .before .before in
     passes-of (c1 .pre .1)
-
-same-length : tie.Need-same-length
-same-length c = search needs
-
-same-length-2 : tie.Need-same-length-2
-same-length-2 c = search needs
-
-same-length-3 : tie.Need-same-length-3
-same-length-3 c = search needs
-
-same-length-4 : tie.Need-same-length-4
-same-length-4 c = search needs
-
-same-length-5 : tie.Need-same-length-5
-same-length-5 c = search needs
 
 returns-2 : tie.Need-returns-2
 returns-2 c =
@@ -43,12 +25,5 @@ pub take-kind-spec : {M : Type 1} → statement M
 take-kind-spec =
     tie.close
     (tie.spec
-    add-if1
-    returns
-    turn-down-requires
-    same-length
-    same-length-2
-    same-length-3
-    same-length-4
-    same-length-5
-    returns-2)
+    (λ c. search needs) returns turn-down-requires (λ c. search needs) (λ c. search needs) (λ c. search needs) (λ c. search needs)
+    (λ c. search needs) returns-2)

@@ -12,9 +12,6 @@ use borrow.Author.Needs.{needs}
 use Rattle.reader.proofs.steps.take_last.Statement.{statement}
 use Rattle.reader.proofs.steps.take_last.Tie as tie
 
-name-byte-requires : tie.Need-name-byte-requires
-name-byte-requires c κs = search needs
-
 mul-place : tie.Need-mul-place
 mul-place c =
     let c1 = c .before .before .before .before .before .before .before .before in
@@ -55,30 +52,6 @@ enter-requires c κs =
     let c1 = c .before .before .before .before .before .before .before .before .before .before .before .before .before .before in
     c1 .pre .1 .1
 
-enum-told : tie.Need-enum-told
-enum-told c = search needs
-
-of-inserted-requires : tie.Need-of-inserted-requires
-of-inserted-requires c κs = search needs
-
-noting-requires : tie.Need-noting-requires
-noting-requires c κs = search needs
-
-same-length : tie.Need-same-length
-same-length c = search needs
-
-same-length-2 : tie.Need-same-length-2
-same-length-2 c = search needs
-
-same-length-3 : tie.Need-same-length-3
-same-length-3 c = search needs
-
-same-length-4 : tie.Need-same-length-4
-same-length-4 c = search needs
-
-same-length-5 : tie.Need-same-length-5
-same-length-5 c = search needs
-
 returns : tie.Need-returns
 returns c =
     let c1 = c .before in
@@ -94,21 +67,6 @@ turn-down-requires c κs =
     let c1 = c .before .before .before .before .before in
     let c2 = c1 .before .before .before .before .before .before .before .before .before .before .before .before .before .before in
     λ z. c2 .enter .ensures .ready (not-false (c2 .enter .result .checked) (c1 .if1 .left)) .passes
-
-same-length-6 : tie.Need-same-length-6
-same-length-6 c = search needs
-
-same-length-7 : tie.Need-same-length-7
-same-length-7 c = search needs
-
-same-length-8 : tie.Need-same-length-8
-same-length-8 c = search needs
-
-same-length-9 : tie.Need-same-length-9
-same-length-9 c = search needs
-
-same-length-10 : tie.Need-same-length-10
-same-length-10 c = search needs
 
 returns-2 : tie.Need-returns-2
 returns-2 c =
@@ -148,21 +106,6 @@ owe-requires c κs =
     let s = c1 .pre .0 .sections in
     omega arith
 
-same-length-11 : tie.Need-same-length-11
-same-length-11 c = search needs
-
-same-length-12 : tie.Need-same-length-12
-same-length-12 c = search needs
-
-same-length-13 : tie.Need-same-length-13
-same-length-13 c = search needs
-
-same-length-14 : tie.Need-same-length-14
-same-length-14 c = search needs
-
-same-length-15 : tie.Need-same-length-15
-same-length-15 c = search needs
-
 returns-3 : tie.Need-returns-3
 returns-3 c =
     let c1 = c .before .before .before in
@@ -178,35 +121,8 @@ pub take-last-spec : {M : Type 1} → statement M
 take-last-spec =
     tie.close
     (tie.spec
-    name-byte-requires
-    mul-place
-    add-place
-    mul-place-2
-    add-place-2
-    cast-enter
-    enter-requires
-    enum-told
-    of-inserted-requires
-    noting-requires
-    same-length
-    same-length-2
-    same-length-3
-    same-length-4
-    same-length-5
-    returns
-    turn-down-requires
-    same-length-6
-    same-length-7
-    same-length-8
-    same-length-9
-    same-length-10
-    returns-2
-    sub-owe
-    add-owe
-    owe-requires
-    same-length-11
-    same-length-12
-    same-length-13
-    same-length-14
-    same-length-15
-    returns-3)
+    (λ c κs. search needs) mul-place add-place mul-place-2 add-place-2 cast-enter enter-requires (λ c. search needs)
+    (λ c κs. search needs) (λ c κs. search needs) (λ c. search needs) (λ c. search needs) (λ c. search needs) (λ c. search needs)
+    (λ c. search needs) returns turn-down-requires (λ c. search needs) (λ c. search needs) (λ c. search needs) (λ c. search needs)
+    (λ c. search needs) returns-2 sub-owe add-owe owe-requires (λ c. search needs) (λ c. search needs) (λ c. search needs)
+    (λ c. search needs) (λ c. search needs) returns-3)

@@ -11,20 +11,11 @@ returns c = out-of-range _ (λ h. omega arith)
 returns-2 : tie.Need-returns-2
 returns-2 c = out-of-range _ (λ h. omega arith)
 
-mul-if3 : tie.Need-mul-if3
-mul-if3 c = search needs
-
-add-if3 : tie.Need-add-if3
-add-if3 c = search needs
-
 returns-3 : tie.Need-returns-3
 returns-3 c = out-of-range _ (λ h. omega arith)
 
 returns-4 : tie.Need-returns-4
 returns-4 c = out-of-range _ (λ h. omega arith)
-
-mul-result : tie.Need-mul-result
-mul-result c = search needs
 
 returns-5 : tie.Need-returns-5
 returns-5 c = header-range _ (omega arith) (omega arith) (omega arith) (omega arith)
@@ -35,15 +26,6 @@ returns-6 c = out-of-range _ (λ h. let e = h .entries (omega arith) in let f = 
 returns-7 : tie.Need-returns-7
 returns-7 c = out-of-range _ (λ h. let e = h .entries (omega arith) in let f = e .0 in let g = e .1 in omega arith)
 
-add-result : tie.Need-add-result
-add-result c = search needs
-
-add-result-2 : tie.Need-add-result-2
-add-result-2 c = search needs
-
-mul-result-2 : tie.Need-mul-result-2
-mul-result-2 c = search needs
-
 returns-8 : tie.Need-returns-8
 returns-8 c = entry-range _ (omega arith) (omega arith) (omega arith) (omega arith) (omega arith)
 
@@ -51,17 +33,5 @@ pub fits-reader-spec : {M : Type 1} → statement M
 fits-reader-spec =
     tie.close
     (tie.spec
-    returns
-    returns-2
-    mul-if3
-    add-if3
-    returns-3
-    returns-4
-    mul-result
-    returns-5
-    returns-6
-    returns-7
-    add-result
-    add-result-2
-    mul-result-2
-    returns-8)
+    returns returns-2 (λ c. search needs) (λ c. search needs) returns-3 returns-4 (λ c. search needs) returns-5 returns-6 returns-7
+    (λ c. search needs) (λ c. search needs) (λ c. search needs) returns-8)

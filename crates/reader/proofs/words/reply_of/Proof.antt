@@ -9,12 +9,6 @@ use borrow.Author.Needs.{needs}
 use Rattle.reader.proofs.words.reply_of.Statement.{statement}
 use Rattle.reader.proofs.words.reply_of.Tie as tie
 
-enum-known-note : tie.Need-enum-known-note
-enum-known-note c = search needs
-
-enum-told : tie.Need-enum-told
-enum-told c = search needs
-
 cast-t4 : tie.Need-cast-t4
 cast-t4 c =
     let c1 = c .before .before .before in
@@ -27,15 +21,5 @@ returns c =
     let c2 = c1 .before .before in
     ap (λ (n : Note). noteAnswer (noteOf n) (c2 .args .r .taken)) (sym (c1 .enum-told .given .1))
 
-returns-2 : tie.Need-returns-2
-returns-2 c = search needs
-
 pub reply-of-spec : {M : Type 1} → statement M
-reply-of-spec =
-    tie.close
-    (tie.spec
-    enum-known-note
-    enum-told
-    cast-t4
-    returns
-    returns-2)
+reply-of-spec = tie.close (tie.spec (λ c. search needs) (λ c. search needs) cast-t4 returns (λ c. search needs))

@@ -6,9 +6,6 @@ use borrow.Author.Needs.{needs}
 use Rattle.sets.proofs.accept.accept.Statement.{statement}
 use Rattle.sets.proofs.accept.accept.Tie as tie
 
-fit-set-requires : tie.Need-fit-set-requires
-fit-set-requires c κs = search needs
-
 returns : tie.Need-returns
 unfolding accepts
 returns c =
@@ -47,5 +44,4 @@ returns-3 c =
     )
 
 pub accept-spec : {M : Type 1} → statement M
-accept-spec =
-    tie.close (tie.spec fit-set-requires returns is-accepted-requires returns-2 returns-3)
+accept-spec = tie.close (tie.spec (λ c κs. search needs) returns is-accepted-requires returns-2 returns-3)

@@ -10,15 +10,6 @@ use borrow.Author.Needs.{needs}
 use Rattle.sets.proofs.accept.all_held.Statement.{statement}
 use Rattle.sets.proofs.accept.all_held.Tie as tie
 
-table-fine-requires : tie.Need-table-fine-requires
-table-fine-requires c κs = search needs
-
-enum-known-walk : tie.Need-enum-known-walk
-enum-known-walk c = search needs
-
-enum-told : tie.Need-enum-told
-enum-told c = search needs
-
 returns : tie.Need-returns
 unfolding allHeld
 returns c =
@@ -30,9 +21,6 @@ cast-used-slots c =
     let at-start = c .before .before .before .before .before .before .before .before .before in
     let fit = fits-fit _ (at-start .pre) in
     omega (arith, fit .two, fit .slots-most)
-
-used-slots-requires : tie.Need-used-slots-requires
-used-slots-requires c κs = search needs
 
 sub-result : tie.Need-sub-result
 sub-result c =
@@ -47,9 +35,6 @@ sub-result c =
       cells = now (at-start .args .cells);
     }) (at-start .pre) _ _ _ (sym (at-table .table-fine .ensures) ∙ ap restOf (at-walk .walk .given .1))
 
-cast-result : tie.Need-cast-result
-cast-result c = search needs
-
 returns-2 : tie.Need-returns-2
 unfolding allHeld
 returns-2 c =
@@ -61,12 +46,5 @@ pub all-held-spec : {M : Type 1} → statement M
 all-held-spec =
     tie.close
     (tie.spec
-    table-fine-requires
-    enum-known-walk
-    enum-told
-    returns
-    cast-used-slots
-    used-slots-requires
-    sub-result
-    cast-result
-    returns-2)
+    (λ c κs. search needs) (λ c. search needs) (λ c. search needs) returns cast-used-slots (λ c κs. search needs) sub-result
+    (λ c. search needs) returns-2)

@@ -14,20 +14,11 @@ cast-slots-fine c =
     let fit = fits-fit _ (at-start .pre) in
     omega (arith, fit .two, fit .slots-most)
 
-slots-fine-requires : tie.Need-slots-fine-requires
-slots-fine-requires c κs = search needs
-
 cast-headers-fine : tie.Need-cast-headers-fine
 cast-headers-fine c =
     let at-start = c .before .before .before .before .before .before .before in
     let fit = fits-fit _ (at-start .pre) in
     omega (arith, fit .three, fit .headers-most)
-
-headers-fine-requires : tie.Need-headers-fine-requires
-headers-fine-requires c κs = search needs
-
-all-held-requires : tie.Need-all-held-requires
-all-held-requires c κs = search needs
 
 returns : tie.Need-returns
 unfolding accepted
@@ -48,10 +39,4 @@ pub is-accepted-spec : {M : Type 1} → statement M
 is-accepted-spec =
     tie.close
     (tie.spec
-    cast-slots-fine
-    slots-fine-requires
-    cast-headers-fine
-    headers-fine-requires
-    all-held-requires
-    returns
-    returns-2)
+    cast-slots-fine (λ c κs. search needs) cast-headers-fine (λ c κs. search needs) (λ c κs. search needs) returns returns-2)

@@ -33,9 +33,6 @@ sub-left c =
     let fit = fits-fit _ (at-start .pre) in
     omega (arith, fit .least)
 
-length-at-requires : tie.Need-length-at-requires Inv-loop μ-loop
-length-at-requires c κs = search needs
-
 loop-holds : tie.Need-loop-holds Inv-loop μ-loop
 loop-holds c =
     let a = c .before .before .before .before .before .before .args in (
@@ -50,9 +47,6 @@ loop-holds c =
       search needs,
     )
 
-sub-i : tie.Need-sub-i Inv-loop μ-loop
-sub-i c = search needs
-
 bin-fine-requires : tie.Need-bin-fine-requires Inv-loop μ-loop
 bin-fine-requires c κs =
     let at-loop = c .before in
@@ -65,12 +59,6 @@ bin-fine-requires c κs =
       cells = now (at-start .args .cells);
     }) (at-start .pre) (at-loop .loop .i) (at-loop .loop .inv .1)
 
-enum-known-walk : tie.Need-enum-known-walk Inv-loop μ-loop
-enum-known-walk c = search needs
-
-enum-told : tie.Need-enum-told Inv-loop μ-loop
-enum-told c = search needs
-
 returns : tie.Need-returns Inv-loop μ-loop
 returns c =
     let at-bin = c .before .before in
@@ -81,9 +69,6 @@ returns c =
     (at-loop .loop .i) (at-loop .loop .rest) (at-bin .before .loop-test .taken)
     (sym (ap restOf (c .enum-told .given .1)) ∙ at-bin .bin-fine .ensures)
     ∙ at-loop .loop .inv .0
-
-loop-less : tie.Need-loop-less Inv-loop μ-loop
-loop-less c = search needs
 
 loop-again : tie.Need-loop-again Inv-loop μ-loop
 loop-again c =
@@ -120,17 +105,5 @@ pub table-fine-spec : {M : Type 1} → statement M
 table-fine-spec =
     tie.close
     (tie.spec
-    Inv-loop
-    μ-loop
-    cast-left
-    sub-left
-    length-at-requires
-    loop-holds
-    sub-i
-    bin-fine-requires
-    enum-known-walk
-    enum-told
-    returns
-    loop-less
-    loop-again
-    returns-2)
+    Inv-loop μ-loop cast-left sub-left (λ c κs. search needs) loop-holds (λ c. search needs) bin-fine-requires (λ c. search needs)
+    (λ c. search needs) returns (λ c. search needs) loop-again returns-2)

@@ -59,12 +59,6 @@ bin-fine-calls t = (
   two-below.Post,
 )
 
-bin-fine-bin-at-requires : (t : ℕ) → bin-fine-lts.Need-bin-at-requires (bin-fine-calls t) (bin-fine-at t) bin-fine.Post
-bin-fine-bin-at-requires t c κs = search needs
-
-bin-fine-placed-requires : (t : ℕ) → bin-fine-lts.Need-placed-requires (bin-fine-calls t) (bin-fine-at t) bin-fine.Post
-bin-fine-placed-requires t c κs = search needs
-
 bin-fine-returns : (t : ℕ) → bin-fine-lts.Need-returns (bin-fine-calls t) (bin-fine-at t) bin-fine.Post
 bin-fine-returns t c =
     let c1 = c .before in
@@ -78,18 +72,6 @@ bin-fine-returns t c =
       cells = now (c3 .args .cells);
     }) (c3 .args .left) (c3 .args .k) (c3 .args .i) (c3 .args .may) (c3 .args .visits) (c2 .bin-at .ensures) (c1 .placed .ensures)
     (not-true (c1 .placed .result) (c .if1 .taken))
-
-bin-fine-length-at-requires : (t : ℕ) → bin-fine-lts.Need-length-at-requires (bin-fine-calls t) (bin-fine-at t) bin-fine.Post
-bin-fine-length-at-requires t c κs = search needs
-
-bin-fine-own-fine-requires : (t : ℕ) → bin-fine-lts.Need-own-fine-requires (bin-fine-calls t) (bin-fine-at t) bin-fine.Post
-bin-fine-own-fine-requires t c κs = search needs
-
-bin-fine-enum-known-own : (t : ℕ) → bin-fine-lts.Need-enum-known-own (bin-fine-calls t) (bin-fine-at t) bin-fine.Post
-bin-fine-enum-known-own t c = search needs
-
-bin-fine-enum-told : (t : ℕ) → bin-fine-lts.Need-enum-told (bin-fine-calls t) (bin-fine-at t) bin-fine.Post
-bin-fine-enum-told t c = search needs
 
 bin-fine-returns-2 : (t : ℕ) → bin-fine-lts.Need-returns-2 (bin-fine-calls t) (bin-fine-at t) bin-fine.Post
 bin-fine-returns-2 t c =
@@ -109,9 +91,6 @@ bin-fine-returns-2 t c =
     }) (c7 .args .left) (c7 .args .k) (c7 .args .i) (c7 .args .may) (c7 .args .visits) (c6 .bin-at .ensures) (c5 .placed .ensures)
     (not-false (c5 .placed .result) (c4 .if1 .left)) (c3 .length-at .ensures)
     (sym (ap restOf (c .enum-told .given .1)) ∙ c2 .own-fine .ensures)
-
-bin-fine-is-moved-requires : (t : ℕ) → bin-fine-lts.Need-is-moved-requires (bin-fine-calls t) (bin-fine-at t) bin-fine.Post
-bin-fine-is-moved-requires t c κs = search needs
 
 bin-fine-two-below-requires : (t : ℕ) → bin-fine-lts.Need-two-below-requires (bin-fine-calls t) (bin-fine-at t) bin-fine.Post
 bin-fine-two-below-requires t c κs =
@@ -167,9 +146,6 @@ two-below-returns t c =
       cells = now (c1 .args .cells);
     }) (c1 .args .left) (c1 .args .k) (c1 .args .i) (c1 .args .may) (c1 .args .visits) (c .if1 .taken)
 
-two-below-length-at-requires : (t : ℕ) → two-below-lts.Need-length-at-requires (two-below-calls t) (two-below-at t) two-below.Post
-two-below-length-at-requires t c κs = search needs
-
 two-below-sub-bin-fine : (t : ℕ) → two-below-lts.Need-sub-bin-fine (two-below-calls t) (two-below-at t) two-below.Post
 two-below-sub-bin-fine t c =
     let c1 = c .before in
@@ -187,12 +163,6 @@ two-below-bin-fine-requires t c κs =
     let c1 = c .before in
     let c2 = c1 .before .before .before .before .before .before in
     (omega (arith, c2 .pre .0, c1 .if1 .left), room-near (c2 .pre .1) (c1 .if1 .left))
-
-two-below-enum-known-near : (t : ℕ) → two-below-lts.Need-enum-known-near (two-below-calls t) (two-below-at t) two-below.Post
-two-below-enum-known-near t c = search needs
-
-two-below-enum-told : (t : ℕ) → two-below-lts.Need-enum-told (two-below-calls t) (two-below-at t) two-below.Post
-two-below-enum-told t c = search needs
 
 two-below-returns-2 : (t : ℕ) → two-below-lts.Need-returns-2 (two-below-calls t) (two-below-at t) two-below.Post
 two-below-returns-2 t c =
@@ -272,15 +242,15 @@ pub +bin-fine+two-below-spec : {M : Type 1} → statement M
 +bin-fine+two-below-spec = close μ-bin-fine μ-two-below (λ t. bin-fine-lts.spec (bin-fine-calls t)
     (bin-fine-at t)
     bin-fine.Post
-    (bin-fine-bin-at-requires t)
-    (bin-fine-placed-requires t)
+    (λ c κs. search needs)
+    (λ c κs. search needs)
     (bin-fine-returns t)
-    (bin-fine-length-at-requires t)
-    (bin-fine-own-fine-requires t)
-    (bin-fine-enum-known-own t)
-    (bin-fine-enum-told t)
+    (λ c κs. search needs)
+    (λ c κs. search needs)
+    (λ c. search needs)
+    (λ c. search needs)
     (bin-fine-returns-2 t)
-    (bin-fine-is-moved-requires t)
+    (λ c κs. search needs)
     (bin-fine-two-below-requires t)
     (bin-fine-returns-3 t))
     λ t. two-below-lts.spec
@@ -288,12 +258,12 @@ pub +bin-fine+two-below-spec : {M : Type 1} → statement M
     (two-below-at t)
     two-below.Post
     (two-below-returns t)
-    (two-below-length-at-requires t)
+    (λ c κs. search needs)
     (two-below-sub-bin-fine t)
     (two-below-add-bin-fine t)
     (two-below-bin-fine-requires t)
-    (two-below-enum-known-near t)
-    (two-below-enum-told t)
+    (λ c. search needs)
+    (λ c. search needs)
     (two-below-returns-2 t)
     (two-below-sub-bin-fine-2 t)
     (two-below-add-bin-fine-2 t)

@@ -8,36 +8,6 @@ use borrow.Author.Needs.{needs}
 use Rattle.sets.proofs.below.own_fine.Statement.{statement}
 use Rattle.sets.proofs.below.own_fine.Tie as tie
 
-enum-known-bin : tie.Need-enum-known-bin
-enum-known-bin c = search needs
-
-list-fine-requires : tie.Need-list-fine-requires
-list-fine-requires c κs = search needs
-
-enum-known-bin-2 : tie.Need-enum-known-bin-2
-enum-known-bin-2 c = search needs
-
-header-requires : tie.Need-header-requires
-header-requires c κs = search needs
-
-header-requires-2 : tie.Need-header-requires-2
-header-requires-2 c κs = search needs
-
-header-requires-3 : tie.Need-header-requires-3
-header-requires-3 c κs = search needs
-
-tree-fine-requires : tie.Need-tree-fine-requires
-tree-fine-requires c κs = search needs
-
-enum-told : tie.Need-enum-told
-enum-told c = search needs
-
-enum-told-2 : tie.Need-enum-told-2
-enum-told-2 c = search needs
-
-enum-told-3 : tie.Need-enum-told-3
-enum-told-3 c = search needs
-
 returns : tie.Need-returns
 unfolding ownFine
 returns c = rw (c .before .before .bin .given .1) (c .list-fine .ensures)
@@ -71,18 +41,5 @@ pub own-fine-spec : {M : Type 1} → statement M
 own-fine-spec =
     tie.close
     (tie.spec
-    enum-known-bin
-    list-fine-requires
-    enum-known-bin-2
-    header-requires
-    header-requires-2
-    header-requires-3
-    tree-fine-requires
-    enum-told
-    enum-told-2
-    enum-told-3
-    returns
-    returns-2
-    returns-3
-    returns-4
-    returns-5)
+    (λ c. search needs) (λ c κs. search needs) (λ c. search needs) (λ c κs. search needs) (λ c κs. search needs) (λ c κs. search needs)
+    (λ c κs. search needs) (λ c. search needs) (λ c. search needs) (λ c. search needs) returns returns-2 returns-3 returns-4 returns-5)

@@ -4,18 +4,6 @@ use Rattle.sets.proofs.Binned.{zero-empty, one-moved, low-list, low-bad
 use Rattle.sets.proofs.bin.bin_of.Statement.{statement}
 use Rattle.sets.proofs.bin.bin_of.Tie as tie
 
-sub-if2 : tie.Need-sub-if2
-sub-if2 c = search needs
-
-cast-if2 : tie.Need-cast-if2
-cast-if2 c = search needs
-
-sub-t10 : tie.Need-sub-t10
-sub-t10 c = search needs
-
-cast-if4 : tie.Need-cast-if4
-cast-if4 c = search needs
-
 returns : tie.Need-returns
 returns c = zero-empty _ _ _ (c .match .keys1)
 
@@ -53,14 +41,5 @@ pub bin-of-spec : {M : Type 1} → statement M
 bin-of-spec =
     tie.close
     (tie.spec
-    sub-if2
-    cast-if2
-    sub-t10
-    cast-if4
-    returns
-    returns-2
-    returns-3
-    returns-4
-    returns-5
-    returns-6
-    returns-7)
+    (λ c. search needs) (λ c. search needs) (λ c. search needs) (λ c. search needs) returns returns-2 returns-3 returns-4 returns-5
+    returns-6 returns-7)

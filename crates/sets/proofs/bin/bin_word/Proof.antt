@@ -9,18 +9,12 @@ use Rattle.set_rules.specs.Words.{binsBefore}
 use Rattle.sets.proofs.bin.bin_word.Statement.{statement}
 use Rattle.sets.proofs.bin.bin_word.Tie as tie
 
-bins-before-requires : tie.Need-bins-before-requires
-bins-before-requires c κs = search needs
-
 returns : tie.Need-returns
 returns c =
     let a = c .before .before .before .before .args in
     let h : length (now (a .bins)) ≤ binsBefore (now (a .lengths)) (a .k) + a .i =
     omega (arith, c .if1 .taken, c .before .bins-before .ensures) in
     sym (List·getD-eq-default (now (a .bins)) 0 h)
-
-sub-if2 : tie.Need-sub-if2
-sub-if2 c = search needs
 
 returns-2 : tie.Need-returns-2
 returns-2 c =
@@ -29,15 +23,6 @@ returns-2 c =
     let h : length (now (a .bins)) ≤ binsBefore (now (a .lengths)) (a .k) + a .i =
     omega (arith, c .if2 .taken, at-from .bins-before .ensures) in
     sym (List·getD-eq-default (now (a .bins)) 0 h)
-
-add-result : tie.Need-add-result
-add-result c = search needs
-
-mul-result : tie.Need-mul-result
-mul-result c = search needs
-
-shared-slice-read-result : tie.Need-shared-slice-read-result
-shared-slice-read-result c = search needs
 
 returns-3 : tie.Need-returns-3
 returns-3 c =
@@ -49,11 +34,4 @@ pub bin-word-spec : {M : Type 1} → statement M
 bin-word-spec =
     tie.close
     (tie.spec
-    bins-before-requires
-    returns
-    sub-if2
-    returns-2
-    add-result
-    mul-result
-    shared-slice-read-result
-    returns-3)
+    (λ c κs. search needs) returns (λ c. search needs) returns-2 (λ c. search needs) (λ c. search needs) (λ c. search needs) returns-3)

@@ -13,9 +13,6 @@ returns : tie.Need-returns
 unfolding binis
 returns c = simp (eq-eqb _ _ (c .if1 .taken))
 
-sub-mask : tie.Need-sub-mask
-sub-mask c = search needs
-
 cast-t6 : tie.Need-cast-t6
 cast-t6 c =
     let a = c .before .args in
@@ -26,4 +23,4 @@ unfolding binis bini
 returns-2 c = simp (ne-eqb _ _ (c .if1 .left))
 
 pub bini-spec : {M : Type 1} → statement M
-bini-spec = tie.close (tie.spec returns sub-mask cast-t6 returns-2)
+bini-spec = tie.close (tie.spec returns (λ c. search needs) cast-t6 returns-2)

@@ -19,29 +19,11 @@ loop-holds : tie.Need-loop-holds Inv-loop μ-loop
 unfolding binsBefore
 loop-holds c = search needs
 
-cast-if1 : tie.Need-cast-if1 Inv-loop μ-loop
-cast-if1 c = search needs
-
 returns : tie.Need-returns Inv-loop μ-loop
 returns c =
     let at-loop = c .before .before in
     let a = at-loop .before .before .args in
     at-loop .loop .inv .0 ∙ sym (begins-past (now (a .lengths)) (at-loop .loop .j) (c .if1 .taken) (a .k) (at-loop .loop .inv .2))
-
-length-at-requires : tie.Need-length-at-requires Inv-loop μ-loop
-length-at-requires c κs = search needs
-
-cast-sum : tie.Need-cast-sum Inv-loop μ-loop
-cast-sum c = search needs
-
-add-sum : tie.Need-add-sum Inv-loop μ-loop
-add-sum c = search needs
-
-add-j : tie.Need-add-j Inv-loop μ-loop
-add-j c = search needs
-
-loop-less : tie.Need-loop-less Inv-loop μ-loop
-loop-less c = search needs
 
 loop-again : tie.Need-loop-again Inv-loop μ-loop
 loop-again c =
@@ -61,15 +43,5 @@ pub bins-before-spec : {M : Type 1} → statement M
 bins-before-spec =
     tie.close
     (tie.spec
-    Inv-loop
-    μ-loop
-    loop-holds
-    cast-if1
-    returns
-    length-at-requires
-    cast-sum
-    add-sum
-    add-j
-    loop-less
-    loop-again
-    returns-2)
+    Inv-loop μ-loop loop-holds (λ c. search needs) returns (λ c κs. search needs) (λ c. search needs) (λ c. search needs)
+    (λ c. search needs) (λ c. search needs) loop-again returns-2)

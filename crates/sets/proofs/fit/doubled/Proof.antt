@@ -17,27 +17,6 @@ Inv-loop lengths last k₀ k = (doubled k lengths ≡ doubled last lengths) × (
 abbrev μ-loop : tie.MeasureT-loop
 μ-loop lengths last k₀ k = k
 
-loop-holds : tie.Need-loop-holds Inv-loop μ-loop
-loop-holds c = search needs
-
-length-at-requires : tie.Need-length-at-requires Inv-loop μ-loop
-length-at-requires c κs = search needs
-
-cast-long : tie.Need-cast-long Inv-loop μ-loop
-cast-long c = search needs
-
-sub-k : tie.Need-sub-k Inv-loop μ-loop
-sub-k c = search needs
-
-length-at-requires-2 : tie.Need-length-at-requires-2 Inv-loop μ-loop
-length-at-requires-2 c κs = search needs
-
-cast-short : tie.Need-cast-short Inv-loop μ-loop
-cast-short c = search needs
-
-mul-if1 : tie.Need-mul-if1 Inv-loop μ-loop
-mul-if1 c = search needs
-
 returns : tie.Need-returns Inv-loop μ-loop
 returns c =
     let at-short = c .before in
@@ -48,9 +27,6 @@ returns c =
     let n : getD (now (a .lengths)) (at-loop .loop .k) 0 ≢ 2 * getD (now (a .lengths)) (at-loop .loop .k - 1) 0 =
     omega (arith, c .if1 .taken, at-short .length-at2 .ensures, at-long .length-at .ensures) in
     sym (doubled-no (now (a .lengths)) (at-loop .loop .k) (at-test .loop-test .taken) n) ∙ at-loop .loop .inv .0
-
-loop-less : tie.Need-loop-less Inv-loop μ-loop
-loop-less c = search needs
 
 loop-again : tie.Need-loop-again Inv-loop μ-loop
 loop-again c =
@@ -70,16 +46,5 @@ pub doubled-spec : {M : Type 1} → statement M
 doubled-spec =
     tie.close
     (tie.spec
-    Inv-loop
-    μ-loop
-    loop-holds
-    length-at-requires
-    cast-long
-    sub-k
-    length-at-requires-2
-    cast-short
-    mul-if1
-    returns
-    loop-less
-    loop-again
-    returns-2)
+    Inv-loop μ-loop (λ c. search needs) (λ c κs. search needs) (λ c. search needs) (λ c. search needs) (λ c κs. search needs)
+    (λ c. search needs) (λ c. search needs) returns (λ c. search needs) loop-again returns-2)

@@ -12,20 +12,11 @@ use Rattle.sets.proofs.Sized.{few}
 use Rattle.sets.proofs.fit.fit_set.Statement.{statement}
 use Rattle.sets.proofs.fit.fit_set.Tie as tie
 
-fit-tables-requires : tie.Need-fit-tables-requires
-fit-tables-requires c κs = search needs
-
 cast-bins-before : tie.Need-cast-bins-before
 cast-bins-before c =
     let at-tables = c .before in
     let a = at-tables .before .before .before .before .before .before .args in
     omega (arith, few (now (a .lengths)) (sym (at-tables .fit-tables .ensures) ∙ c .if1 .taken))
-
-bins-before-requires : tie.Need-bins-before-requires
-bins-before-requires c κs = search needs
-
-fit-slots-requires : tie.Need-fit-slots-requires
-fit-slots-requires c κs = search needs
 
 returns : tie.Need-returns
 unfolding fits fitSlots
@@ -47,12 +38,4 @@ returns-2 c =
     (rw (c .if2 .left)))
 
 pub fit-set-spec : {M : Type 1} → statement M
-fit-set-spec =
-    tie.close
-    (tie.spec
-    fit-tables-requires
-    cast-bins-before
-    bins-before-requires
-    fit-slots-requires
-    returns
-    returns-2)
+fit-set-spec = tie.close (tie.spec (λ c κs. search needs) cast-bins-before (λ c κs. search needs) (λ c κs. search needs) returns returns-2)

@@ -11,14 +11,8 @@ use Rattle.sets.specs.Bins.{fitSlots}
 use Rattle.sets.proofs.fit.fit_slots.Statement.{statement}
 use Rattle.sets.proofs.fit.fit_slots.Tie as tie
 
-mul-if2 : tie.Need-mul-if2
-mul-if2 c = search needs
-
 mul-if3 : tie.Need-mul-if3
 mul-if3 c = omega (arith, and-held (c .if2 .taken) (c .before .if1 .came) (λ w. w .1 ∙ lt-leb _ _ (w .0 .left)) .0 .taken)
-
-mul-result : tie.Need-mul-result
-mul-result c = search needs
 
 -- What is asked of the lengths is what the last `&&` is asked.
 asked : (c : tie.Joined3)
@@ -37,4 +31,4 @@ returns-2 : tie.Need-returns-2
 returns-2 c = rw (← asked (c .before), c .if4 .left)
 
 pub fit-slots-spec : {M : Type 1} → statement M
-fit-slots-spec = tie.close (tie.spec mul-if2 mul-if3 mul-result returns returns-2)
+fit-slots-spec = tie.close (tie.spec (λ c. search needs) mul-if3 (λ c. search needs) returns returns-2)

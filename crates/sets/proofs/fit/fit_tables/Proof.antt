@@ -12,24 +12,6 @@ use Rattle.sets.proofs.fit.fit_tables.Tie as tie
 returns : tie.Need-returns
 returns c = ⊎-elim (λ w. no-table _ (w .taken)) (λ w. too-many _ (w .0 .left) (ltb-true _ _ (w .1 .taken))) (c .if1 .came)
 
-cast-last : tie.Need-cast-last
-cast-last c = search needs
-
-sub-last : tie.Need-sub-last
-sub-last c = search needs
-
-length-at-requires : tie.Need-length-at-requires
-length-at-requires c κs = search needs
-
-is-power-requires : tie.Need-is-power-requires
-is-power-requires c κs = search needs
-
-doubled-requires : tie.Need-doubled-requires
-doubled-requires c κs = search needs
-
-length-at-requires-2 : tie.Need-length-at-requires-2
-length-at-requires-2 c κs = search needs
-
 returns-2 : tie.Need-returns-2
 unfolding fitTables
 returns-2 c =
@@ -66,12 +48,5 @@ pub fit-tables-spec : {M : Type 1} → statement M
 fit-tables-spec =
     tie.close
     (tie.spec
-    returns
-    cast-last
-    sub-last
-    length-at-requires
-    is-power-requires
-    doubled-requires
-    length-at-requires-2
-    returns-2
-    returns-3)
+    returns (λ c. search needs) (λ c. search needs) (λ c κs. search needs) (λ c κs. search needs) (λ c κs. search needs)
+    (λ c κs. search needs) returns-2 returns-3)

@@ -5,18 +5,6 @@ use Rattle.sets.proofs.Steps.{filled-read}
 use Rattle.sets.proofs.headers.filled_header.Statement.{statement}
 use Rattle.sets.proofs.headers.filled_header.Tie as tie
 
-header-requires : tie.Need-header-requires
-header-requires c κs = search needs
-
-header-requires-2 : tie.Need-header-requires-2
-header-requires-2 c κs = search needs
-
-header-requires-3 : tie.Need-header-requires-3
-header-requires-3 c κs = search needs
-
-is-blank-requires : tie.Need-is-blank-requires
-is-blank-requires c κs = search needs
-
 returns : tie.Need-returns
 returns c =
     let at-blank = c .before in
@@ -41,9 +29,4 @@ pub filled-header-spec : {M : Type 1} → statement M
 filled-header-spec =
     tie.close
     (tie.spec
-    header-requires
-    header-requires-2
-    header-requires-3
-    is-blank-requires
-    returns
-    returns-2)
+    (λ c κs. search needs) (λ c κs. search needs) (λ c κs. search needs) (λ c κs. search needs) returns returns-2)

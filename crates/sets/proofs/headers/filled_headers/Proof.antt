@@ -17,23 +17,11 @@ Inv-loop heads n count₀ h₀ count h = (count + tally h (filled heads) ≡ tal
 abbrev μ-loop : tie.MeasureT-loop
 μ-loop heads n count₀ h₀ count h = h
 
-loop-holds : tie.Need-loop-holds Inv-loop μ-loop
-loop-holds c = search needs
-
-sub-h : tie.Need-sub-h Inv-loop μ-loop
-sub-h c = search needs
-
-filled-header-requires : tie.Need-filled-header-requires Inv-loop μ-loop
-filled-header-requires c κs = search needs
-
 add-count : tie.Need-add-count Inv-loop μ-loop
 add-count c =
     let at-loop = c .before .before in
     let a = at-loop .before .before .args in
     omega (arith, filled-one (now (a .heads)) (at-loop .loop .h - 1), c .filled-header .ensures)
-
-loop-less : tie.Need-loop-less Inv-loop μ-loop
-loop-less c = search needs
 
 loop-again : tie.Need-loop-again Inv-loop μ-loop
 loop-again c =
@@ -55,12 +43,4 @@ pub filled-headers-spec : {M : Type 1} → statement M
 filled-headers-spec =
     tie.close
     (tie.spec
-    Inv-loop
-    μ-loop
-    loop-holds
-    sub-h
-    filled-header-requires
-    add-count
-    loop-less
-    loop-again
-    returns)
+    Inv-loop μ-loop (λ c. search needs) (λ c. search needs) (λ c κs. search needs) add-count (λ c. search needs) loop-again returns)

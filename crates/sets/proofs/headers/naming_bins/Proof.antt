@@ -20,29 +20,8 @@ Inv-loop bins n h count₀ p₀ count p =
 abbrev μ-loop : tie.MeasureT-loop
 μ-loop bins n h count₀ p₀ count p = p
 
-loop-holds : tie.Need-loop-holds Inv-loop μ-loop
-loop-holds c = search needs
-
-sub-p : tie.Need-sub-p Inv-loop μ-loop
-sub-p c = search needs
-
-mul-bin-of : tie.Need-mul-bin-of Inv-loop μ-loop
-mul-bin-of c = search needs
-
-shared-slice-read-bin-of : tie.Need-shared-slice-read-bin-of Inv-loop μ-loop
-shared-slice-read-bin-of c = search needs
-
-bin-of-requires : tie.Need-bin-of-requires Inv-loop μ-loop
-bin-of-requires c κs = search needs
-
-names-header-requires : tie.Need-names-header-requires Inv-loop μ-loop
-names-header-requires c κs = search needs
-
 add-count : tie.Need-add-count Inv-loop μ-loop
 add-count c = omega (arith, names-one (binAs (c .before .bin-of .result)), c .names-header .ensures)
-
-loop-less : tie.Need-loop-less Inv-loop μ-loop
-loop-less c = search needs
 
 loop-again : tie.Need-loop-again Inv-loop μ-loop
 loop-again c =
@@ -65,15 +44,5 @@ pub naming-bins-spec : {M : Type 1} → statement M
 naming-bins-spec =
     tie.close
     (tie.spec
-    Inv-loop
-    μ-loop
-    loop-holds
-    sub-p
-    mul-bin-of
-    shared-slice-read-bin-of
-    bin-of-requires
-    names-header-requires
-    add-count
-    loop-less
-    loop-again
-    returns)
+    Inv-loop μ-loop (λ c. search needs) (λ c. search needs) (λ c. search needs) (λ c. search needs) (λ c κs. search needs)
+    (λ c κs. search needs) add-count (λ c. search needs) loop-again returns)

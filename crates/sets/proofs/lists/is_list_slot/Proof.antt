@@ -10,21 +10,6 @@ use Rattle.set_rules.specs.Accepting.{isListSlot}
 use Rattle.sets.proofs.lists.is_list_slot.Statement.{statement}
 use Rattle.sets.proofs.lists.is_list_slot.Tie as tie
 
-get-requires : tie.Need-get-requires
-get-requires c κs = search needs
-
-get-requires-2 : tie.Need-get-requires-2
-get-requires-2 c κs = search needs
-
-get-requires-3 : tie.Need-get-requires-3
-get-requires-3 c κs = search needs
-
-get-requires-4 : tie.Need-get-requires-4
-get-requires-4 c κs = search needs
-
-get-requires-5 : tie.Need-get-requires-5
-get-requires-5 c κs = search needs
-
 -- What is asked of the slot is what the last `&&` is asked.
 asked : (c : tie.Joined3)
     → let c5 = c .before .before .before in
@@ -51,10 +36,4 @@ pub is-list-slot-spec : {M : Type 1} → statement M
 is-list-slot-spec =
     tie.close
     (tie.spec
-    get-requires
-    get-requires-2
-    get-requires-3
-    get-requires-4
-    get-requires-5
-    returns
-    returns-2)
+    (λ c κs. search needs) (λ c κs. search needs) (λ c κs. search needs) (λ c κs. search needs) (λ c κs. search needs) returns returns-2)

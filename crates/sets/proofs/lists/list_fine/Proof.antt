@@ -16,9 +16,6 @@ Inv-loop names cells length i first visits x₀ left₀ x left =
 abbrev μ-loop : tie.MeasureT-loop
 μ-loop names cells length i first visits x₀ left₀ x left = left
 
-loop-holds : tie.Need-loop-holds Inv-loop μ-loop
-loop-holds c = search needs
-
 returns : tie.Need-returns Inv-loop μ-loop
 returns c =
     let at-loop = c .before .before in
@@ -26,12 +23,6 @@ returns c =
     list-spent (now (a .names)) (now (a .cells)) (a .length) (a .i) (at-loop .loop .x) (at-loop .loop .left) (c .before .loop-test .taken)
     (c .if1 .taken)
     ∙ at-loop .loop .inv .0
-
-sub-left : tie.Need-sub-left Inv-loop μ-loop
-sub-left c = search needs
-
-list-slot-fine-requires : tie.Need-list-slot-fine-requires Inv-loop μ-loop
-list-slot-fine-requires c κs = search needs
 
 returns-2 : tie.Need-returns-2 Inv-loop μ-loop
 returns-2 c =
@@ -44,12 +35,6 @@ returns-2 c =
     (at-visits .if1 .left) (at-slot .list-slot-fine .ensures)
     (not-true (at-slot .list-slot-fine .result) (c .if2 .taken))
     ∙ at-loop .loop .inv .0
-
-get-requires : tie.Need-get-requires Inv-loop μ-loop
-get-requires c κs = search needs
-
-loop-less : tie.Need-loop-less Inv-loop μ-loop
-loop-less c = search needs
 
 loop-again : tie.Need-loop-again Inv-loop μ-loop
 loop-again c =
@@ -78,14 +63,5 @@ pub list-fine-spec : {M : Type 1} → statement M
 list-fine-spec =
     tie.close
     (tie.spec
-    Inv-loop
-    μ-loop
-    loop-holds
-    returns
-    sub-left
-    list-slot-fine-requires
-    returns-2
-    get-requires
-    loop-less
-    loop-again
-    returns-3)
+    Inv-loop μ-loop (λ c. search needs) returns (λ c. search needs) (λ c κs. search needs) returns-2 (λ c κs. search needs)
+    (λ c. search needs) loop-again returns-3)

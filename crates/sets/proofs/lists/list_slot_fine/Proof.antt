@@ -10,18 +10,6 @@ use Rattle.set_rules.specs.Accepting.{unlike, listSlotFine}
 use Rattle.sets.proofs.lists.list_slot_fine.Statement.{statement}
 use Rattle.sets.proofs.lists.list_slot_fine.Tie as tie
 
-is-list-slot-requires : tie.Need-is-list-slot-requires
-is-list-slot-requires c κs = search needs
-
-is-home-requires : tie.Need-is-home-requires
-is-home-requires c κs = search needs
-
-get-requires : tie.Need-get-requires
-get-requires c κs = search needs
-
-unlike-requires : tie.Need-unlike-requires
-unlike-requires c κs = search needs
-
 -- What is asked of the slot is what the last `&&` is asked.
 asked : (c : tie.Joined2) {s : Bool}
     → let a = c .before .before .before .before .args in
@@ -45,9 +33,4 @@ pub list-slot-fine-spec : {M : Type 1} → statement M
 list-slot-fine-spec =
     tie.close
     (tie.spec
-    is-list-slot-requires
-    is-home-requires
-    get-requires
-    unlike-requires
-    returns
-    returns-2)
+    (λ c κs. search needs) (λ c κs. search needs) (λ c κs. search needs) (λ c κs. search needs) returns returns-2)

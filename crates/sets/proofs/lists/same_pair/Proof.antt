@@ -5,18 +5,6 @@ use borrow.Author.Needs.{needs}
 use Rattle.sets.proofs.lists.same_pair.Statement.{statement}
 use Rattle.sets.proofs.lists.same_pair.Tie as tie
 
-name-requires : tie.Need-name-requires
-name-requires c κs = search needs
-
-name-requires-2 : tie.Need-name-requires-2
-name-requires-2 c κs = search needs
-
-name-requires-3 : tie.Need-name-requires-3
-name-requires-3 c κs = search needs
-
-name-requires-4 : tie.Need-name-requires-4
-name-requires-4 c κs = search needs
-
 returns : tie.Need-returns
 unfolding samePair
 returns c =
@@ -34,4 +22,5 @@ returns-2 c =
 pub same-pair-spec : {M : Type 1} → statement M
 same-pair-spec =
     tie.close
-    (tie.spec name-requires name-requires-2 name-requires-3 name-requires-4 returns returns-2)
+    (tie.spec
+    (λ c κs. search needs) (λ c κs. search needs) (λ c κs. search needs) (λ c κs. search needs) returns returns-2)

@@ -15,9 +15,6 @@ Inv-loop names cells x first most y₀ left₀ y left =
 abbrev μ-loop : tie.MeasureT-loop
 μ-loop names cells x first most y₀ left₀ y left = left
 
-loop-holds : tie.Need-loop-holds Inv-loop μ-loop
-loop-holds c = search needs
-
 returns : tie.Need-returns Inv-loop μ-loop
 returns c =
     let at-loop = c .before .before in
@@ -25,9 +22,6 @@ returns c =
     unlike-spent (now (a .names)) (now (a .cells)) (a .x) (at-loop .loop .y) (at-loop .loop .left) (c .before .loop-test .taken)
     (c .if1 .taken)
     ∙ at-loop .loop .inv .0
-
-same-pair-requires : tie.Need-same-pair-requires Inv-loop μ-loop
-same-pair-requires c κs = search needs
 
 returns-2 : tie.Need-returns-2 Inv-loop μ-loop
 returns-2 c =
@@ -38,15 +32,6 @@ returns-2 c =
     unlike-same (now (a .names)) (now (a .cells)) (a .x) (at-loop .loop .y) (at-loop .loop .left) (at-visits .before .loop-test .taken)
     (at-visits .if1 .left) (at-same .same-pair .ensures) (c .if2 .taken)
     ∙ at-loop .loop .inv .0
-
-get-requires : tie.Need-get-requires Inv-loop μ-loop
-get-requires c κs = search needs
-
-sub-left : tie.Need-sub-left Inv-loop μ-loop
-sub-left c = search needs
-
-loop-less : tie.Need-loop-less Inv-loop μ-loop
-loop-less c = search needs
 
 loop-again : tie.Need-loop-again Inv-loop μ-loop
 loop-again c =
@@ -74,14 +59,5 @@ pub unlike-spec : {M : Type 1} → statement M
 unlike-spec =
     tie.close
     (tie.spec
-    Inv-loop
-    μ-loop
-    loop-holds
-    returns
-    same-pair-requires
-    returns-2
-    get-requires
-    sub-left
-    loop-less
-    loop-again
-    returns-3)
+    Inv-loop μ-loop (λ c. search needs) returns (λ c κs. search needs) returns-2 (λ c κs. search needs) (λ c. search needs)
+    (λ c. search needs) loop-again returns-3)

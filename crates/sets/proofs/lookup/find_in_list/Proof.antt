@@ -29,12 +29,6 @@ loop-holds c =
     let a = c .before .before .args in
     (begun _ (soughtInList (now (a .names)) (now (a .cells)) _ (a .first) (a .hash) (a .key)), search needs, search needs, search needs)
 
-cast-if1 : tie.Need-cast-if1 Inv-loop μ-loop
-cast-if1 c = search needs
-
-sub-looks : tie.Need-sub-looks Inv-loop μ-loop
-sub-looks c = search needs
-
 returns : tie.Need-returns Inv-loop μ-loop
 returns c =
     let at-loop = c .before .before in
@@ -49,15 +43,6 @@ returns-2 c =
     let a = at-loop .before .before .before .args in
     wanting (list-runs (now (a .names)) (now (a .cells)) (a .hash) (a .key)) (at-loop .loop .p) (at-loop .loop .visits)
     (at-loop .loop .inv .0) (in-loop .loop-test .taken) (c .if2 .taken)
-
-sub-visits : tie.Need-sub-visits Inv-loop μ-loop
-sub-visits c = search needs
-
-has-pair-requires : tie.Need-has-pair-requires Inv-loop μ-loop
-has-pair-requires c κs = search needs
-
-sub-looks-2 : tie.Need-sub-looks-2 Inv-loop μ-loop
-sub-looks-2 c = search needs
 
 returns-3 : tie.Need-returns-3 Inv-loop μ-loop
 returns-3 c =
@@ -76,12 +61,6 @@ returns-3 c =
     (at-if2 .if2 .left)
     (at-loop .loop .inv .2)
     (read-here _ _ _ _ _ (at-pair .has-pair .ensures) (c .if3 .taken))
-
-get-requires : tie.Need-get-requires Inv-loop μ-loop
-get-requires c κs = search needs
-
-loop-less : tie.Need-loop-less Inv-loop μ-loop
-loop-less c = search needs
 
 loop-again : tie.Need-loop-again Inv-loop μ-loop
 loop-again c =
@@ -106,9 +85,6 @@ loop-again c =
       search needs,
     )
 
-sub-looks-3 : tie.Need-sub-looks-3 Inv-loop μ-loop
-sub-looks-3 c = search needs
-
 returns-4 : tie.Need-returns-4 Inv-loop μ-loop
 returns-4 c =
     let at-loop = c .before in
@@ -120,19 +96,5 @@ pub find-in-list-spec : {M : Type 1} → statement M
 find-in-list-spec =
     tie.close
     (tie.spec
-    Inv-loop
-    μ-loop
-    loop-holds
-    cast-if1
-    sub-looks
-    returns
-    returns-2
-    sub-visits
-    has-pair-requires
-    sub-looks-2
-    returns-3
-    get-requires
-    loop-less
-    loop-again
-    sub-looks-3
-    returns-4)
+    Inv-loop μ-loop loop-holds (λ c. search needs) (λ c. search needs) returns returns-2 (λ c. search needs) (λ c κs. search needs)
+    (λ c. search needs) returns-3 (λ c κs. search needs) (λ c. search needs) loop-again (λ c. search needs) returns-4)

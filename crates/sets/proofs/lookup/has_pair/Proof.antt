@@ -5,12 +5,6 @@ use Rattle.set_rules.specs.Lookup.{hasPair}
 use Rattle.sets.proofs.lookup.has_pair.Statement.{statement}
 use Rattle.sets.proofs.lookup.has_pair.Tie as tie
 
-name-requires : tie.Need-name-requires
-name-requires c κs = search needs
-
-name-requires-2 : tie.Need-name-requires-2
-name-requires-2 c κs = search needs
-
 returns : tie.Need-returns
 unfolding hasPair
 returns c =
@@ -22,4 +16,4 @@ unfolding hasPair
 returns-2 c = rw (← c .before .name .ensures, ne-eqb _ _ (c .if1 .left))
 
 pub has-pair-spec : {M : Type 1} → statement M
-has-pair-spec = tie.close (tie.spec name-requires name-requires-2 returns returns-2)
+has-pair-spec = tie.close (tie.spec (λ c κs. search needs) (λ c κs. search needs) returns returns-2)

@@ -4,18 +4,6 @@ use borrow.Author.Needs.{needs}
 use Rattle.sets.proofs.lookup.home_bin.Statement.{statement}
 use Rattle.sets.proofs.lookup.home_bin.Tie as tie
 
-length-at-requires : tie.Need-length-at-requires
-length-at-requires c κs = search needs
-
-index-requires : tie.Need-index-requires
-index-requires c κs = search needs
-
-bin-word-requires : tie.Need-bin-word-requires
-bin-word-requires c κs = search needs
-
-bin-of-requires : tie.Need-bin-of-requires
-bin-of-requires c κs = search needs
-
 returns : tie.Need-returns
 returns c =
     let at-word = c .before in
@@ -23,6 +11,4 @@ returns c =
     rw (c .bin-of .ensures, at-word .bin-word .ensures, at-index .index .ensures, at-index .before .length-at .ensures) refl
 
 pub home-bin-spec : {M : Type 1} → statement M
-home-bin-spec =
-    tie.close
-    (tie.spec length-at-requires index-requires bin-word-requires bin-of-requires returns)
+home-bin-spec = tie.close (tie.spec (λ c κs. search needs) (λ c κs. search needs) (λ c κs. search needs) (λ c κs. search needs) returns)

@@ -10,9 +10,6 @@ use Rattle.sets.proofs.Looking.{unfit, unknown, searched, looks-word}
 use Rattle.sets.proofs.lookup.lookup.Statement.{statement}
 use Rattle.sets.proofs.lookup.lookup.Tie as tie
 
-fit-set-requires : tie.Need-fit-set-requires
-fit-set-requires c κs = search needs
-
 returns : tie.Need-returns
 returns c =
     let at-fit = c .before in
@@ -28,9 +25,6 @@ search-requires c κs =
     let at-fit = c .before .before in
     (fits-few _ (sym (at-fit .fit-set .ensures) ∙ not-false (at-fit .fit-set .result) (c .before .if1 .left)), c .if2 .left)
 
-enum-known-found : tie.Need-enum-known-found
-enum-known-found c = search needs
-
 cast-count : tie.Need-cast-count
 cast-count c =
     let at-search = c .before .before .before in
@@ -44,9 +38,6 @@ cast-count c =
           (ap searchedOf (sym (c .before .found .given .1)) ∙ at-search .search .ensures)),
     )
 
-enum-known-found-2 : tie.Need-enum-known-found-2
-enum-known-found-2 c = search needs
-
 cast-count-2 : tie.Need-cast-count-2
 cast-count-2 c =
     let at-search = c .before .before .before in
@@ -59,9 +50,6 @@ cast-count-2 c =
           (searched _ _ _ _ (at-fit .fit-set .ensures) fine (at-table .if2 .left)
           (ap searchedOf (sym (c .before .found2 .given .1)) ∙ at-search .search .ensures)),
     )
-
-enum-known-found-3 : tie.Need-enum-known-found-3
-enum-known-found-3 c = search needs
 
 cast-count-3 : tie.Need-cast-count-3
 cast-count-3 c =
@@ -125,16 +113,5 @@ pub lookup-spec : {M : Type 1} → statement M
 lookup-spec =
     tie.close
     (tie.spec
-    fit-set-requires
-    returns
-    returns-2
-    search-requires
-    enum-known-found
-    cast-count
-    enum-known-found-2
-    cast-count-2
-    enum-known-found-3
-    cast-count-3
-    returns-3
-    returns-4
-    returns-5)
+    (λ c κs. search needs) returns returns-2 search-requires (λ c. search needs) cast-count (λ c. search needs) cast-count-2
+    (λ c. search needs) cast-count-3 returns-3 returns-4 returns-5)

@@ -24,30 +24,6 @@ Inv-loop lengths bins heads names cells table hash key n h k₀ k =
 abbrev μ-loop : tie.MeasureT-loop
 μ-loop lengths bins heads names cells table hash key n h k₀ k = length lengths - k
 
-loop-holds : tie.Need-loop-holds Inv-loop μ-loop
-loop-holds c = search needs
-
-home-bin-requires : tie.Need-home-bin-requires Inv-loop μ-loop
-home-bin-requires c κs = search needs
-
-enum-told : tie.Need-enum-told Inv-loop μ-loop
-enum-told c = search needs
-
-enum-told-2 : tie.Need-enum-told-2 Inv-loop μ-loop
-enum-told-2 c = search needs
-
-cast-if1 : tie.Need-cast-if1 Inv-loop μ-loop
-cast-if1 c = search needs
-
-add-if1 : tie.Need-add-if1 Inv-loop μ-loop
-add-if1 c = search needs
-
-add-k : tie.Need-add-k Inv-loop μ-loop
-add-k c = search needs
-
-loop-less : tie.Need-loop-less Inv-loop μ-loop
-loop-less c = search needs
-
 loop-again : tie.Need-loop-again Inv-loop μ-loop
 loop-again c =
     let at-bin = c .before .before .before in
@@ -71,24 +47,6 @@ loop-again c =
       search needs,
       search needs,
     )
-
-enum-known-bin : tie.Need-enum-known-bin Inv-loop μ-loop
-enum-known-bin c = search needs
-
-find-in-list-requires : tie.Need-find-in-list-requires Inv-loop μ-loop
-find-in-list-requires c κs = search needs
-
-enum-known-bin-2 : tie.Need-enum-known-bin-2 Inv-loop μ-loop
-enum-known-bin-2 c = search needs
-
-header-requires : tie.Need-header-requires Inv-loop μ-loop
-header-requires c κs = search needs
-
-find-tree-node-requires : tie.Need-find-tree-node-requires Inv-loop μ-loop
-find-tree-node-requires c κs = search needs
-
-enum-told-3 : tie.Need-enum-told-3 Inv-loop μ-loop
-enum-told-3 c = search needs
 
 returns : tie.Need-returns Inv-loop μ-loop
 returns c =
@@ -170,25 +128,6 @@ pub search-spec : {M : Type 1} → statement M
 search-spec =
     tie.close
     (tie.spec
-    Inv-loop
-    μ-loop
-    loop-holds
-    home-bin-requires
-    enum-told
-    enum-told-2
-    cast-if1
-    add-if1
-    add-k
-    loop-less
-    loop-again
-    enum-known-bin
-    find-in-list-requires
-    enum-known-bin-2
-    header-requires
-    find-tree-node-requires
-    enum-told-3
-    returns
-    returns-2
-    returns-3
-    returns-4
-    returns-5)
+    Inv-loop μ-loop (λ c. search needs) (λ c κs. search needs) (λ c. search needs) (λ c. search needs) (λ c. search needs)
+    (λ c. search needs) (λ c. search needs) (λ c. search needs) loop-again (λ c. search needs) (λ c κs. search needs) (λ c. search needs)
+    (λ c κs. search needs) (λ c κs. search needs) (λ c. search needs) returns returns-2 returns-3 returns-4 returns-5)

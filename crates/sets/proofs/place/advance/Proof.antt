@@ -17,45 +17,6 @@ Inv-loop lengths base depth indexes₀ d₀ indexes d =
 abbrev μ-loop : tie.MeasureT-loop
 μ-loop lengths base depth indexes₀ d₀ indexes d = d
 
-loop-holds : tie.Need-loop-holds Inv-loop μ-loop
-loop-holds c = search needs
-
-add-length-at : tie.Need-add-length-at Inv-loop μ-loop
-add-length-at c = search needs
-
-length-at-requires : tie.Need-length-at-requires Inv-loop μ-loop
-length-at-requires c κs = search needs
-
-cast-lower : tie.Need-cast-lower Inv-loop μ-loop
-cast-lower c = search needs
-
-sub-length-at : tie.Need-sub-length-at Inv-loop μ-loop
-sub-length-at c = search needs
-
-add-length-at-2 : tie.Need-add-length-at-2 Inv-loop μ-loop
-add-length-at-2 c = search needs
-
-length-at-requires-2 : tie.Need-length-at-requires-2 Inv-loop μ-loop
-length-at-requires-2 c κs = search needs
-
-cast-upper : tie.Need-cast-upper Inv-loop μ-loop
-cast-upper c = search needs
-
-index-at-requires : tie.Need-index-at-requires Inv-loop μ-loop
-index-at-requires c κs = search needs
-
-cast-on : tie.Need-cast-on Inv-loop μ-loop
-cast-on c = search needs
-
-add-on : tie.Need-add-on Inv-loop μ-loop
-add-on c = search needs
-
-cast-set-index : tie.Need-cast-set-index Inv-loop μ-loop
-cast-set-index c = search needs
-
-set-index-requires : tie.Need-set-index-requires Inv-loop μ-loop
-set-index-requires c κs = search needs
-
 returns : tie.Need-returns Inv-loop μ-loop
 returns c =
     let at-if = c .before .before in
@@ -77,15 +38,6 @@ returns c =
     (at-i .index-at .ensures)
     (at-if .if1 .taken)
     (c .set-index .ensures)
-
-set-index-requires-2 : tie.Need-set-index-requires-2 Inv-loop μ-loop
-set-index-requires-2 c κs = search needs
-
-sub-d : tie.Need-sub-d Inv-loop μ-loop
-sub-d c = search needs
-
-loop-less : tie.Need-loop-less Inv-loop μ-loop
-loop-less c = search needs
 
 loop-again : tie.Need-loop-again Inv-loop μ-loop
 loop-again c =
@@ -116,15 +68,6 @@ loop-again c =
       ),
     )
 
-index-at-requires-2 : tie.Need-index-at-requires-2 Inv-loop μ-loop
-index-at-requires-2 c κs = search needs
-
-add-set-index : tie.Need-add-set-index Inv-loop μ-loop
-add-set-index c = search needs
-
-set-index-requires-3 : tie.Need-set-index-requires-3 Inv-loop μ-loop
-set-index-requires-3 c κs = search needs
-
 returns-2 : tie.Need-returns-2 Inv-loop μ-loop
 returns-2 c =
     let at-first = c .before .before in
@@ -145,27 +88,7 @@ pub advance-spec : {M : Type 1} → statement M
 advance-spec =
     tie.close
     (tie.spec
-    Inv-loop
-    μ-loop
-    loop-holds
-    add-length-at
-    length-at-requires
-    cast-lower
-    sub-length-at
-    add-length-at-2
-    length-at-requires-2
-    cast-upper
-    index-at-requires
-    cast-on
-    add-on
-    cast-set-index
-    set-index-requires
-    returns
-    set-index-requires-2
-    sub-d
-    loop-less
-    loop-again
-    index-at-requires-2
-    add-set-index
-    set-index-requires-3
-    returns-2)
+    Inv-loop μ-loop (λ c. search needs) (λ c. search needs) (λ c κs. search needs) (λ c. search needs) (λ c. search needs)
+    (λ c. search needs) (λ c κs. search needs) (λ c. search needs) (λ c κs. search needs) (λ c. search needs) (λ c. search needs)
+    (λ c. search needs) (λ c κs. search needs) returns (λ c κs. search needs) (λ c. search needs) (λ c. search needs) loop-again
+    (λ c κs. search needs) (λ c. search needs) (λ c κs. search needs) returns-2)

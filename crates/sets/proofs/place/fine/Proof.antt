@@ -13,25 +13,10 @@ use Rattle.set_rules.specs.Cursor.{baseFine, fine}
 use Rattle.sets.proofs.place.fine.Statement.{statement}
 use Rattle.sets.proofs.place.fine.Tie as tie
 
-add-table : tie.Need-add-table
-add-table c = search needs
-
-length-at-requires : tie.Need-length-at-requires
-length-at-requires c κs = search needs
-
-index-at-requires : tie.Need-index-at-requires
-index-at-requires c κs = search needs
-
-base-fine-requires : tie.Need-base-fine-requires
-base-fine-requires c κs = search needs
-
 levels-fine-requires : tie.Need-levels-fine-requires
 levels-fine-requires c κs =
     let c1 = c .before in
     omega (arith, and-held (c .if2 .taken) (c1 .if1 .came) (λ w. w .1 ∙ le-ltb _ _ (w .0 .left)) .0 .taken, c1 .before .before .pre)
-
-in-range-requires : tie.Need-in-range-requires
-in-range-requires c κs = search needs
 
 -- What is asked of the cursor is what the last `&&` is asked.
 asked : (c : tie.Joined2) {s : Bool}
@@ -56,11 +41,5 @@ pub fine-spec : {M : Type 1} → statement M
 fine-spec =
     tie.close
     (tie.spec
-    add-table
-    length-at-requires
-    index-at-requires
-    base-fine-requires
-    levels-fine-requires
-    in-range-requires
-    returns
-    returns-2)
+    (λ c. search needs) (λ c κs. search needs) (λ c κs. search needs) (λ c κs. search needs) levels-fine-requires (λ c κs. search needs)
+    returns returns-2)

@@ -9,12 +9,9 @@ returns : tie.Need-returns
 unfolding kept
 returns c = simp (lt-leb _ _ (c .if1 .taken))
 
-index-at-requires : tie.Need-index-at-requires
-index-at-requires c κs = search needs
-
 returns-2 : tie.Need-returns-2
 unfolding kept
 returns-2 c = simp (le-leb _ _ (c .before .if1 .left), c .index-at .ensures)
 
 pub keep-spec : {M : Type 1} → statement M
-keep-spec = tie.close (tie.spec returns index-at-requires returns-2)
+keep-spec = tie.close (tie.spec returns (λ c κs. search needs) returns-2)

@@ -5,9 +5,6 @@ use borrow.Author.Needs.{needs}
 use Rattle.sets.proofs.place.level_fine.Statement.{statement}
 use Rattle.sets.proofs.place.level_fine.Tie as tie
 
-add-result : tie.Need-add-result
-add-result c = search needs
-
 returns : tie.Need-returns
 unfolding levelFine
 returns c = simp (lt-ltb _ _ (c .before .if1 .taken), eq-eqb _ _ (c .if2 .taken))
@@ -21,4 +18,4 @@ unfolding levelFine
 returns-3 c = simp (le-ltb _ _ (c .if1 .left))
 
 pub level-fine-spec : {M : Type 1} → statement M
-level-fine-spec = tie.close (tie.spec add-result returns returns-2 returns-3)
+level-fine-spec = tie.close (tie.spec (λ c. search needs) returns returns-2 returns-3)

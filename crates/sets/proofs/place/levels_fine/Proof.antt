@@ -15,33 +15,6 @@ Inv-loop lengths base depth indexes d₀ d = (levelsFine d lengths base indexes 
 abbrev μ-loop : tie.MeasureT-loop
 μ-loop lengths base depth indexes d₀ d = d
 
-loop-holds : tie.Need-loop-holds Inv-loop μ-loop
-loop-holds c = search needs
-
-add-length-at : tie.Need-add-length-at Inv-loop μ-loop
-add-length-at c = search needs
-
-length-at-requires : tie.Need-length-at-requires Inv-loop μ-loop
-length-at-requires c κs = search needs
-
-index-at-requires : tie.Need-index-at-requires Inv-loop μ-loop
-index-at-requires c κs = search needs
-
-sub-d : tie.Need-sub-d Inv-loop μ-loop
-sub-d c = search needs
-
-add-length-at-2 : tie.Need-add-length-at-2 Inv-loop μ-loop
-add-length-at-2 c = search needs
-
-length-at-requires-2 : tie.Need-length-at-requires-2 Inv-loop μ-loop
-length-at-requires-2 c κs = search needs
-
-index-at-requires-2 : tie.Need-index-at-requires-2 Inv-loop μ-loop
-index-at-requires-2 c κs = search needs
-
-level-fine-requires : tie.Need-level-fine-requires Inv-loop μ-loop
-level-fine-requires c κs = search needs
-
 returns : tie.Need-returns Inv-loop μ-loop
 returns c =
     let at-fine = c .before in
@@ -65,9 +38,6 @@ returns c =
     (at-i .index-at2 .ensures)
     (at-fine .level-fine .ensures)
     (not-true (at-fine .level-fine .result) (c .if1 .taken))
-
-loop-less : tie.Need-loop-less Inv-loop μ-loop
-loop-less c = search needs
 
 loop-again : tie.Need-loop-again Inv-loop μ-loop
 loop-again c =
@@ -102,18 +72,6 @@ pub levels-fine-spec : {M : Type 1} → statement M
 levels-fine-spec =
     tie.close
     (tie.spec
-    Inv-loop
-    μ-loop
-    loop-holds
-    add-length-at
-    length-at-requires
-    index-at-requires
-    sub-d
-    add-length-at-2
-    length-at-requires-2
-    index-at-requires-2
-    level-fine-requires
-    returns
-    loop-less
-    loop-again
+    Inv-loop μ-loop (λ c. search needs) (λ c. search needs) (λ c κs. search needs) (λ c κs. search needs) (λ c. search needs)
+    (λ c. search needs) (λ c κs. search needs) (λ c κs. search needs) (λ c κs. search needs) returns (λ c. search needs) loop-again
     returns-2)

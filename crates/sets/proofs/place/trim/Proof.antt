@@ -3,30 +3,6 @@ use borrow.Author.Needs.{needs}
 use Rattle.sets.proofs.place.trim.Statement.{statement}
 use Rattle.sets.proofs.place.trim.Tie as tie
 
-keep-requires : tie.Need-keep-requires
-keep-requires c κs = search needs
-
-keep-requires-2 : tie.Need-keep-requires-2
-keep-requires-2 c κs = search needs
-
-keep-requires-3 : tie.Need-keep-requires-3
-keep-requires-3 c κs = search needs
-
-keep-requires-4 : tie.Need-keep-requires-4
-keep-requires-4 c κs = search needs
-
-keep-requires-5 : tie.Need-keep-requires-5
-keep-requires-5 c κs = search needs
-
-keep-requires-6 : tie.Need-keep-requires-6
-keep-requires-6 c κs = search needs
-
-keep-requires-7 : tie.Need-keep-requires-7
-keep-requires-7 c κs = search needs
-
-keep-requires-8 : tie.Need-keep-requires-8
-keep-requires-8 c κs = search needs
-
 returns : tie.Need-returns
 returns c =
     let c1 = c .before in
@@ -51,12 +27,5 @@ pub trim-spec : {M : Type 1} → statement M
 trim-spec =
     tie.close
     (tie.spec
-    keep-requires
-    keep-requires-2
-    keep-requires-3
-    keep-requires-4
-    keep-requires-5
-    keep-requires-6
-    keep-requires-7
-    keep-requires-8
-    returns)
+    (λ c κs. search needs) (λ c κs. search needs) (λ c κs. search needs) (λ c κs. search needs) (λ c κs. search needs)
+    (λ c κs. search needs) (λ c κs. search needs) (λ c κs. search needs) returns)

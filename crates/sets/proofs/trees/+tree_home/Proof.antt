@@ -50,15 +50,6 @@ tree-home-returns-2 t c =
     home-zero (now (c2 .args .names)) (now (c2 .args .cells)) (c2 .args .length) (c2 .args .i) (c2 .args .x) (c2 .args .depth)
     (c1 .if1 .left) (c .if2 .taken)
 
-tree-home-is-home-requires : (t : ℕ) → tree-home-lts.Need-is-home-requires (tree-home-calls t) (tree-home-at t) tree-home.Post
-tree-home-is-home-requires t c κs = search needs
-
-tree-home-get-requires : (t : ℕ) → tree-home-lts.Need-get-requires (tree-home-calls t) (tree-home-at t) tree-home.Post
-tree-home-get-requires t c κs = search needs
-
-tree-home-sub-tree-home : (t : ℕ) → tree-home-lts.Need-sub-tree-home (tree-home-calls t) (tree-home-at t) tree-home.Post
-tree-home-sub-tree-home t c = search needs
-
 tree-home-tree-home-requires : (t : ℕ) → tree-home-lts.Need-tree-home-requires (tree-home-calls t) (tree-home-at t) tree-home.Post
 tree-home-tree-home-requires t c κs =
     let c1 = c .before in
@@ -67,12 +58,6 @@ tree-home-tree-home-requires t c κs =
     let c4 = c3 .before in
     let c5 = c4 .before .before .before in
     omega (arith, c5 .pre .0, c3 .if2 .left)
-
-tree-home-get-requires-2 : (t : ℕ) → tree-home-lts.Need-get-requires-2 (tree-home-calls t) (tree-home-at t) tree-home.Post
-tree-home-get-requires-2 t c κs = search needs
-
-tree-home-sub-tree-home-2 : (t : ℕ) → tree-home-lts.Need-sub-tree-home-2 (tree-home-calls t) (tree-home-at t) tree-home.Post
-tree-home-sub-tree-home-2 t c = search needs
 
 tree-home-tree-home-requires-2 : (t : ℕ) → tree-home-lts.Need-tree-home-requires-2 (tree-home-calls t) (tree-home-at t) tree-home.Post
 tree-home-tree-home-requires-2 t c κs =
@@ -121,12 +106,12 @@ pub +tree-home-spec : {M : Type 1} → statement M
     tree-home.Post
     (tree-home-returns t)
     (tree-home-returns-2 t)
-    (tree-home-is-home-requires t)
-    (tree-home-get-requires t)
-    (tree-home-sub-tree-home t)
+    (λ c κs. search needs)
+    (λ c κs. search needs)
+    (λ c. search needs)
     (tree-home-tree-home-requires t)
-    (tree-home-get-requires-2 t)
-    (tree-home-sub-tree-home-2 t)
+    (λ c κs. search needs)
+    (λ c. search needs)
     (tree-home-tree-home-requires-2 t)
     (tree-home-returns-3 t)
     (tree-home-returns-4 t)

@@ -8,15 +8,6 @@ use borrow.Author.Needs.{needs}
 use Rattle.sets.proofs.trees.chain_fine.Statement.{statement}
 use Rattle.sets.proofs.trees.chain_fine.Tie as tie
 
-chain-requires : tie.Need-chain-requires
-chain-requires c κs = search needs
-
-enum-known-walk : tie.Need-enum-known-walk
-enum-known-walk c = search needs
-
-enum-told : tie.Need-enum-told
-enum-told c = search needs
-
 returns : tie.Need-returns
 returns c =
     let c1 = c .before in
@@ -39,5 +30,4 @@ returns-2 c =
     rw (← c3 .chain .ensures, c1 .walk .given .1)
 
 pub chain-fine-spec : {M : Type 1} → statement M
-chain-fine-spec =
-    tie.close (tie.spec chain-requires enum-known-walk enum-told returns sub-result returns-2)
+chain-fine-spec = tie.close (tie.spec (λ c κs. search needs) (λ c. search needs) (λ c. search needs) returns sub-result returns-2)

@@ -16,9 +16,6 @@ Inv-loop names cells length i first most x₀ left₀ x left =
 abbrev μ-loop : tie.MeasureT-loop
 μ-loop names cells length i first most x₀ left₀ x left = left
 
-loop-holds : tie.Need-loop-holds Inv-loop μ-loop
-loop-holds c = search needs
-
 returns : tie.Need-returns Inv-loop μ-loop
 returns c =
     let at-loop = c .before .before in
@@ -26,9 +23,6 @@ returns c =
     own-spent (now (a .names)) (now (a .cells)) (a .length) (a .i) (at-loop .loop .x) (at-loop .loop .left) (c .before .loop-test .taken)
     (c .if1 .taken)
     ∙ at-loop .loop .inv .0
-
-is-own-requires : tie.Need-is-own-requires Inv-loop μ-loop
-is-own-requires c κs = search needs
 
 returns-2 : tie.Need-returns-2 Inv-loop μ-loop
 returns-2 c =
@@ -40,15 +34,6 @@ returns-2 c =
     (at-visits .before .loop-test .taken) (at-visits .if1 .left) (at-own .is-own .ensures)
     (not-true (at-own .is-own .result) (c .if2 .taken))
     ∙ at-loop .loop .inv .0
-
-get-requires : tie.Need-get-requires Inv-loop μ-loop
-get-requires c κs = search needs
-
-sub-left : tie.Need-sub-left Inv-loop μ-loop
-sub-left c = search needs
-
-loop-less : tie.Need-loop-less Inv-loop μ-loop
-loop-less c = search needs
 
 loop-again : tie.Need-loop-again Inv-loop μ-loop
 loop-again c =
@@ -77,14 +62,5 @@ pub chain-own-spec : {M : Type 1} → statement M
 chain-own-spec =
     tie.close
     (tie.spec
-    Inv-loop
-    μ-loop
-    loop-holds
-    returns
-    is-own-requires
-    returns-2
-    get-requires
-    sub-left
-    loop-less
-    loop-again
-    returns-3)
+    Inv-loop μ-loop (λ c. search needs) returns (λ c κs. search needs) returns-2 (λ c κs. search needs) (λ c. search needs)
+    (λ c. search needs) loop-again returns-3)

@@ -5,12 +5,6 @@ use borrow.Author.Needs.{needs}
 use Rattle.sets.proofs.trees.is_own.Statement.{statement}
 use Rattle.sets.proofs.trees.is_own.Tie as tie
 
-get-requires : tie.Need-get-requires
-get-requires c κs = search needs
-
-is-home-requires : tie.Need-is-home-requires
-is-home-requires c κs = search needs
-
 returns : tie.Need-returns
 unfolding isOwn
 returns c =
@@ -22,4 +16,4 @@ unfolding isOwn
 returns-2 c = rw (← c .before .get .ensures, eq-eqb _ _ (c .if1 .left))
 
 pub is-own-spec : {M : Type 1} → statement M
-is-own-spec = tie.close (tie.spec get-requires is-home-requires returns returns-2)
+is-own-spec = tie.close (tie.spec (λ c κs. search needs) (λ c κs. search needs) returns returns-2)

@@ -9,15 +9,6 @@ use borrow.Author.Needs.{needs}
 use Rattle.sets.proofs.trees.tree_fine.Statement.{statement}
 use Rattle.sets.proofs.trees.tree_fine.Tie as tie
 
-survey-requires : tie.Need-survey-requires
-survey-requires c κs = search needs
-
-enum-known-walk : tie.Need-enum-known-walk
-enum-known-walk c = search needs
-
-enum-told : tie.Need-enum-told
-enum-told c = search needs
-
 returns : tie.Need-returns
 unfolding treeFine
 returns c =
@@ -32,9 +23,6 @@ sub-tree-good c =
     let a = at-survey .before .before .before .args in
     obeyed-within (now (a .names)) (now (a .cells)) (a .root) (a .visits)
     (ap restOf (sym (at-told .walk .given .1)) ∙ at-survey .survey .ensures)
-
-tree-good-requires : tie.Need-tree-good-requires
-tree-good-requires c κs = search needs
 
 returns-2 : tie.Need-returns-2
 unfolding treeFine
@@ -60,11 +48,4 @@ pub tree-fine-spec : {M : Type 1} → statement M
 tree-fine-spec =
     tie.close
     (tie.spec
-    survey-requires
-    enum-known-walk
-    enum-told
-    returns
-    sub-tree-good
-    tree-good-requires
-    returns-2
-    returns-3)
+    (λ c κs. search needs) (λ c. search needs) (λ c. search needs) returns sub-tree-good (λ c κs. search needs) returns-2 returns-3)

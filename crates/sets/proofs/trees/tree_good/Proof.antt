@@ -12,15 +12,6 @@ use Rattle.set_rules.specs.Accepting.{treeHome, treeGood}
 use Rattle.sets.proofs.trees.tree_good.Statement.{statement}
 use Rattle.sets.proofs.trees.tree_good.Tie as tie
 
-chain-fine-requires : tie.Need-chain-fine-requires
-chain-fine-requires c κs = search needs
-
-chain-own-requires : tie.Need-chain-own-requires
-chain-own-requires c κs = search needs
-
-tree-home-requires : tie.Need-tree-home-requires
-tree-home-requires c κs = search needs
-
 -- What is asked of the tree is what the last `&&` is asked.
 asked : (c : tie.Joined4) {s : Bool}
     → let a = c .before .before .before .before .before .before .args in
@@ -44,6 +35,4 @@ returns-2 : tie.Need-returns-2
 returns-2 c = asked (c .before) (rw (c .if5 .left))
 
 pub tree-good-spec : {M : Type 1} → statement M
-tree-good-spec =
-    tie.close
-    (tie.spec chain-fine-requires chain-own-requires tree-home-requires returns returns-2)
+tree-good-spec = tie.close (tie.spec (λ c κs. search needs) (λ c κs. search needs) (λ c κs. search needs) returns returns-2)

@@ -36,18 +36,6 @@ add-length-at c =
     let g = c .before .before .loop .inv .0 .good in
     omega (arith, g .deep, g .few)
 
-length-at-requires : tie.Need-length-at-requires Inv-loop μ-loop
-length-at-requires c κs = search needs
-
-add-bin-at : tie.Need-add-bin-at Inv-loop μ-loop
-add-bin-at c = search needs
-
-bin-at-requires : tie.Need-bin-at-requires Inv-loop μ-loop
-bin-at-requires c κs = search needs
-
-enum-told : tie.Need-enum-told Inv-loop μ-loop
-enum-told c = search needs
-
 advance-requires : tie.Need-advance-requires Inv-loop μ-loop
 advance-requires c κs =
     let at-told = c .before in
@@ -119,24 +107,6 @@ loop-again c =
       search needs,
     )
 
-enum-told-2 : tie.Need-enum-told-2 Inv-loop μ-loop
-enum-told-2 c = search needs
-
-add-if2 : tie.Need-add-if2 Inv-loop μ-loop
-add-if2 c = search needs
-
-cast-if2 : tie.Need-cast-if2 Inv-loop μ-loop
-cast-if2 c = search needs
-
-add-if2-2 : tie.Need-add-if2-2 Inv-loop μ-loop
-add-if2-2 c = search needs
-
-add-d : tie.Need-add-d Inv-loop μ-loop
-add-d c = search needs
-
-set-index-requires : tie.Need-set-index-requires Inv-loop μ-loop
-set-index-requires c κs = search needs
-
 loop-less-2 : tie.Need-loop-less-2 Inv-loop μ-loop
 loop-less-2 c =
     let at-if2 = c .before .before in
@@ -194,9 +164,6 @@ loop-again-2 c =
       search needs,
     )
 
-enum-known-bin : tie.Need-enum-known-bin Inv-loop μ-loop
-enum-known-bin c = search needs
-
 advance-requires-2 : tie.Need-advance-requires-2 Inv-loop μ-loop
 advance-requires-2 c κs =
     let at-told = c .before in
@@ -215,15 +182,6 @@ advance-requires-2 c κs =
     (at-index .index-at .ensures) (at-length .length-at .ensures) (at-here .if1 .left) (at-bin .bin-at .ensures) in
     let most = at-loop .before .before .before .before .shared-slice-known .given (a .base) in
     (omega (arith, g .deep, g .few), omega (arith, g .deep, g .few), omega (arith, more, most))
-
-enum-known-bin-2 : tie.Need-enum-known-bin-2 Inv-loop μ-loop
-enum-known-bin-2 c = search needs
-
-header-requires : tie.Need-header-requires Inv-loop μ-loop
-header-requires c κs = search needs
-
-cast-if3 : tie.Need-cast-if3 Inv-loop μ-loop
-cast-if3 c = search needs
 
 advance-requires-3 : tie.Need-advance-requires-3 Inv-loop μ-loop
 advance-requires-3 c κs =
@@ -245,9 +203,6 @@ advance-requires-3 c κs =
     (at-index .index-at .ensures) (at-length .length-at .ensures) (at-here .if1 .left) (at-bin .bin-at .ensures) in
     let most = at-loop .before .before .before .before .shared-slice-known .given (a .base) in
     (omega (arith, g .deep, g .few), omega (arith, g .deep, g .few), omega (arith, more, most))
-
-enum-told-3 : tie.Need-enum-told-3 Inv-loop μ-loop
-enum-told-3 c = search needs
 
 returns : tie.Need-returns Inv-loop μ-loop
 returns c =
@@ -403,36 +358,8 @@ pub seek-spec : {M : Type 1} → statement M
 seek-spec =
     tie.close
     (tie.spec
-    Inv-loop
-    μ-loop
-    loop-holds
-    index-at-requires
-    add-length-at
-    length-at-requires
-    add-bin-at
-    bin-at-requires
-    enum-told
-    advance-requires
-    loop-less
-    loop-again
-    enum-told-2
-    add-if2
-    cast-if2
-    add-if2-2
-    add-d
-    set-index-requires
-    loop-less-2
-    loop-again-2
-    enum-known-bin
-    advance-requires-2
-    enum-known-bin-2
-    header-requires
-    cast-if3
-    advance-requires-3
-    enum-told-3
-    returns
-    returns-2
-    returns-3
-    returns-4
-    returns-5
-    returns-6)
+    Inv-loop μ-loop loop-holds index-at-requires add-length-at (λ c κs. search needs) (λ c. search needs) (λ c κs. search needs)
+    (λ c. search needs) advance-requires loop-less loop-again (λ c. search needs) (λ c. search needs) (λ c. search needs)
+    (λ c. search needs) (λ c. search needs) (λ c κs. search needs) loop-less-2 loop-again-2 (λ c. search needs) advance-requires-2
+    (λ c. search needs) (λ c κs. search needs) (λ c. search needs) advance-requires-3 (λ c. search needs) returns returns-2 returns-3
+    returns-4 returns-5 returns-6)

@@ -9,15 +9,6 @@ use borrow.Author.Needs.{needs}
 use Rattle.sets.proofs.walk.walk.Statement.{statement}
 use Rattle.sets.proofs.walk.walk.Tie as tie
 
-trim-requires : tie.Need-trim-requires
-trim-requires c κs = search needs
-
-get-requires : tie.Need-get-requires
-get-requires c κs = search needs
-
-cast-if2 : tie.Need-cast-if2
-cast-if2 c = search needs
-
 returns : tie.Need-returns
 returns c =
     let at-link = c .before in
@@ -48,18 +39,6 @@ seek-requires c κs =
     record { lengths = now (a .lengths); bins = now (a .bins); heads = now (a .heads); names = now (a .names); cells = now (a .cells) } in
     let pre = at-trim .before .before .before .before .before .before .before .before .pre in
     rw (at-trim .trim .ensures) pre
-
-enum-known-sought : tie.Need-enum-known-sought
-enum-known-sought c = search needs
-
-enum-told : tie.Need-enum-told
-enum-told c = search needs
-
-length-at-requires : tie.Need-length-at-requires
-length-at-requires c κs = search needs
-
-enum-told-2 : tie.Need-enum-told-2
-enum-told-2 c = search needs
 
 returns-3 : tie.Need-returns-3
 returns-3 c =
@@ -123,16 +102,5 @@ pub walk-spec : {M : Type 1} → statement M
 walk-spec =
     tie.close
     (tie.spec
-    trim-requires
-    get-requires
-    cast-if2
-    returns
-    returns-2
-    seek-requires
-    enum-known-sought
-    enum-told
-    length-at-requires
-    enum-told-2
-    returns-3
-    returns-4
-    returns-5)
+    (λ c κs. search needs) (λ c κs. search needs) (λ c. search needs) returns returns-2 seek-requires (λ c. search needs)
+    (λ c. search needs) (λ c κs. search needs) (λ c. search needs) returns-3 returns-4 returns-5)

@@ -4,12 +4,9 @@ use borrow.Author.Needs.{needs}
 use Rattle.slots.proofs.answer.answer_word.Statement.{statement}
 use Rattle.slots.proofs.answer.answer_word.Tie as tie
 
-word-with-requires : tie.Need-word-with-requires
-word-with-requires c κs = search needs
-
 returns : tie.Need-returns
 unfolding answerWord
 returns c = search needs
 
 pub answer-word-spec : {M : Type 1} → statement M
-answer-word-spec = tie.close (tie.spec word-with-requires returns)
+answer-word-spec = tie.close (tie.spec (λ c κs. search needs) returns)

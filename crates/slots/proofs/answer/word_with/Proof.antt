@@ -17,21 +17,6 @@ bare-beside bare n e = rw e
 zero-beside : (bare n : ℕ) → n ≢ 0 → 0 + 4294967296 * n ≡ pick (eqb n 0) bare 0 + 4294967296 * n
 zero-beside bare n h = rw (ne-eqb _ _ h)
 
-enum-known-value : tie.Need-enum-known-value
-enum-known-value c = search needs
-
-packed-requires : tie.Need-packed-requires
-packed-requires c κs = search needs
-
-enum-told : tie.Need-enum-told
-enum-told c = search needs
-
-packed-requires-2 : tie.Need-packed-requires-2
-packed-requires-2 c κs = search needs
-
-packed-requires-3 : tie.Need-packed-requires-3
-packed-requires-3 c κs = search needs
-
 returns : tie.Need-returns
 returns c =
     let c2 = c .before .before in
@@ -55,4 +40,7 @@ returns-3 c =
 
 pub word-with-spec : {M : Type 1} → statement M
 word-with-spec =
-    tie.close (tie.spec enum-known-value packed-requires enum-told packed-requires-2 packed-requires-3 returns returns-2 returns-3)
+    tie.close
+    (tie.spec
+    (λ c. search needs) (λ c κs. search needs) (λ c. search needs) (λ c κs. search needs) (λ c κs. search needs) returns returns-2
+    returns-3)

@@ -17,12 +17,6 @@ Inv-loop n cells first q₀ i₀ visits₀ q i visits =
 abbrev μ-loop : tie.MeasureT-loop
 μ-loop n cells first q₀ i₀ visits₀ q i visits = visits
 
-loop-holds : tie.Need-loop-holds Inv-loop μ-loop
-loop-holds c = search needs
-
-cast-if1 : tie.Need-cast-if1 Inv-loop μ-loop
-cast-if1 c = search needs
-
 returns : tie.Need-returns Inv-loop μ-loop
 returns c =
     let at-loop = c .before .before in
@@ -39,9 +33,6 @@ returns-2 c =
     (c .if2 .taken)
     ∙ at-loop .loop .inv .0
 
-get-requires : tie.Need-get-requires Inv-loop μ-loop
-get-requires c κs = search needs
-
 returns-3 : tie.Need-returns-3 Inv-loop μ-loop
 returns-3 c =
     let at-range = c .before .before .before in
@@ -50,15 +41,6 @@ returns-3 c =
     chain-astray (a .n) (now (a .cells)) (at-loop .loop .q) (at-loop .loop .i) (at-loop .loop .visits) (at-range .before .loop-test .taken)
     (at-range .if1 .left) (c .before .get .ensures) (c .if3 .taken)
     ∙ at-loop .loop .inv .0
-
-get-requires-2 : tie.Need-get-requires-2 Inv-loop μ-loop
-get-requires-2 c κs = search needs
-
-sub-visits : tie.Need-sub-visits Inv-loop μ-loop
-sub-visits c = search needs
-
-loop-less : tie.Need-loop-less Inv-loop μ-loop
-loop-less c = search needs
 
 one-less : (v n : ℕ) → v ≤ n → v - 1 ≤ n
 one-less v n h = omega arith
@@ -100,16 +82,5 @@ pub chain-spec : {M : Type 1} → statement M
 chain-spec =
     tie.close
     (tie.spec
-    Inv-loop
-    μ-loop
-    loop-holds
-    cast-if1
-    returns
-    returns-2
-    get-requires
-    returns-3
-    get-requires-2
-    sub-visits
-    loop-less
-    loop-again
-    returns-4)
+    Inv-loop μ-loop (λ c. search needs) (λ c. search needs) returns returns-2 (λ c κs. search needs) returns-3 (λ c κs. search needs)
+    (λ c. search needs) (λ c. search needs) loop-again returns-4)

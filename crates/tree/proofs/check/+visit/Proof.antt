@@ -15,7 +15,7 @@ use Rattle.tree.proofs.check.visit.Kinds as visit-kinds
 use Rattle.tree.proofs.check.+visit.Lts-visit as visit-lts
 use Rattle.slots.proofs.get.Reads as get-reads
 use Rattle.tree.proofs.check.first_failing.Reads as first-failing-reads
-use Rattle.tree.proofs.check.links_in.Reads as links-in-reads
+use Rattle.tree.proofs.check.links_read.Reads as links-read-reads
 use Rattle.tree.proofs.check.+visit.{statement}
 use Rattle.tree.proofs.check.+visit.Tie.{close}
 
@@ -30,8 +30,8 @@ visit-below t = and 2 visit-kinds.ps (falls 2 visit-kinds.ps _<_ μ-visit t) vis
 
 abbrev visit-calls : ℕ → visit-lts.Claims
 visit-calls t = (
-  links-in-reads.Asked,
-  links-in-reads.Learnt,
+  links-read-reads.Asked,
+  links-read-reads.Learnt,
   first-failing-reads.Asked,
   first-failing-reads.Learnt,
   get-reads.Asked,
@@ -57,9 +57,6 @@ visit-returns-3 t c =
     let a = at-null .before .before .before .args in
     spent (now (a .names)) (now (a .cells)) (a .i) (a .visits) (at-null .if1 .left) (c .if3 .taken)
 
-visit-links-in-requires : (t : ℕ) → visit-lts.Need-links-in-requires (visit-calls t) (visit-at t) visit.Post
-visit-links-in-requires t c κs = search needs
-
 visit-returns-4 : (t : ℕ) → visit-lts.Need-returns-4 (visit-calls t) (visit-at t) visit.Post
 visit-returns-4 t c =
     let at-links = c .before in
@@ -68,10 +65,7 @@ visit-returns-4 t c =
     let at-null = at-range .before in
     let a = at-null .before .before .before .args in
     loose (now (a .names)) (now (a .cells)) (a .i) (a .visits) (at-null .if1 .left) (at-range .if2 .left) (at-visits .if3 .left)
-    (at-links .links-in .ensures) (not-true (at-links .links-in .result) (c .if4 .taken))
-
-visit-first-failing-requires : (t : ℕ) → visit-lts.Need-first-failing-requires (visit-calls t) (visit-at t) visit.Post
-visit-first-failing-requires t c κs = search needs
+    (at-links .links-read .ensures) (not-true (at-links .links-read .result) (c .if4 .taken))
 
 visit-returns-5 : (t : ℕ) → visit-lts.Need-returns-5 (visit-calls t) (visit-at t) visit.Post
 visit-returns-5 t c =
@@ -87,27 +81,15 @@ visit-returns-5 t c =
     (at-null .if1 .left)
     (at-range .if2 .left)
     (at-visits .if3 .left)
-    (at-links .links-in .ensures)
-    (not-false (at-links .links-in .result) (at-named .if4 .left))
+    (at-links .links-read .ensures)
+    (not-false (at-links .links-read .result) (at-named .if4 .left))
     (at-tests .first-failing .ensures)
     (c .if5 .taken)
-
-visit-get-requires : (t : ℕ) → visit-lts.Need-get-requires (visit-calls t) (visit-at t) visit.Post
-visit-get-requires t c κs = search needs
-
-visit-sub-visit : (t : ℕ) → visit-lts.Need-sub-visit (visit-calls t) (visit-at t) visit.Post
-visit-sub-visit t c = search needs
 
 visit-visit-requires : (t : ℕ) → visit-lts.Need-visit-requires (visit-calls t) (visit-at t) visit.Post
 visit-visit-requires t c κs =
     let at-visits = c .before .before .before .before .before in
     omega (arith, at-visits .before .before .before .before .before .pre .0, at-visits .if3 .left)
-
-visit-enum-known-left : (t : ℕ) → visit-lts.Need-enum-known-left (visit-calls t) (visit-at t) visit.Post
-visit-enum-known-left t c = search needs
-
-visit-get-requires-2 : (t : ℕ) → visit-lts.Need-get-requires-2 (visit-calls t) (visit-at t) visit.Post
-visit-get-requires-2 t c κs = search needs
 
 visit-visit-requires-2 : (t : ℕ) → visit-lts.Need-visit-requires-2 (visit-calls t) (visit-at t) visit.Post
 visit-visit-requires-2 t c κs =
@@ -131,12 +113,6 @@ visit-visit-requires-2 t c κs =
       at-visits .if3 .left,
     )
 
-visit-enum-known-left-2 : (t : ℕ) → visit-lts.Need-enum-known-left-2 (visit-calls t) (visit-at t) visit.Post
-visit-enum-known-left-2 t c = search needs
-
-visit-enum-told : (t : ℕ) → visit-lts.Need-enum-told (visit-calls t) (visit-at t) visit.Post
-visit-enum-told t c = search needs
-
 visit-returns-6 : (t : ℕ) → visit-lts.Need-returns-6 (visit-calls t) (visit-at t) visit.Post
 visit-returns-6 t c =
     let at-right = c .before in
@@ -156,8 +132,8 @@ visit-returns-6 t c =
     (at-null .if1 .left)
     (at-range .if2 .left)
     (at-visits .if3 .left)
-    (at-links .links-in .ensures)
-    (not-false (at-links .links-in .result) (at-named .if4 .left))
+    (at-links .links-read .ensures)
+    (not-false (at-links .links-read .result) (at-named .if4 .left))
     (at-tests .first-failing .ensures)
     (at-zero .if5 .left)
     (at-left .get .ensures)
@@ -183,8 +159,8 @@ visit-returns-7 t c =
     (at-null .if1 .left)
     (at-range .if2 .left)
     (at-visits .if3 .left)
-    (at-links .links-in .ensures)
-    (not-false (at-links .links-in .result) (at-named .if4 .left))
+    (at-links .links-read .ensures)
+    (not-false (at-links .links-read .result) (at-named .if4 .left))
     (at-tests .first-failing .ensures)
     (at-zero .if5 .left)
     (at-left .get .ensures)
@@ -207,8 +183,8 @@ visit-returns-8 t c =
     (at-null .if1 .left)
     (at-range .if2 .left)
     (at-visits .if3 .left)
-    (at-links .links-in .ensures)
-    (not-false (at-links .links-in .result) (at-named .if4 .left))
+    (at-links .links-read .ensures)
+    (not-false (at-links .links-read .result) (at-named .if4 .left))
     (at-tests .first-failing .ensures)
     (at-zero .if5 .left)
     (at-left .get .ensures)
@@ -221,18 +197,18 @@ pub +visit-spec : {M : Type 1} → statement M
     (visit-returns t)
     (visit-returns-2 t)
     (visit-returns-3 t)
-    (visit-links-in-requires t)
+    (λ c κs. search needs)
     (visit-returns-4 t)
-    (visit-first-failing-requires t)
+    (λ c κs. search needs)
     (visit-returns-5 t)
-    (visit-get-requires t)
-    (visit-sub-visit t)
+    (λ c κs. search needs)
+    (λ c. search needs)
     (visit-visit-requires t)
-    (visit-enum-known-left t)
-    (visit-get-requires-2 t)
+    (λ c. search needs)
+    (λ c κs. search needs)
     (visit-visit-requires-2 t)
-    (visit-enum-known-left-2 t)
-    (visit-enum-told t)
+    (λ c. search needs)
+    (λ c. search needs)
     (visit-returns-6 t)
     (visit-returns-7 t)
     (visit-returns-8 t)

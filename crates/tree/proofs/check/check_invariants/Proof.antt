@@ -6,18 +6,6 @@ use borrow.Author.Needs.{needs}
 use Rattle.tree.proofs.check.check_invariants.Statement.{statement}
 use Rattle.tree.proofs.check.check_invariants.Tie as tie
 
-visit-requires : tie.Need-visit-requires
-visit-requires c κs = search needs
-
-enum-told : tie.Need-enum-told
-enum-told c = search needs
-
-enum-known-walk : tie.Need-enum-known-walk
-enum-known-walk c = search needs
-
-enum-told-2 : tie.Need-enum-told-2
-enum-told-2 c = search needs
-
 returns : tie.Need-returns
 unfolding checked
 returns c =
@@ -36,4 +24,5 @@ returns-3 c =
 pub check-invariants-spec : {M : Type 1} → statement M
 check-invariants-spec =
     tie.close
-    (tie.spec visit-requires enum-told enum-known-walk enum-told-2 returns returns-2 returns-3)
+    (tie.spec
+    (λ c κs. search needs) (λ c. search needs) (λ c. search needs) (λ c. search needs) returns returns-2 returns-3)

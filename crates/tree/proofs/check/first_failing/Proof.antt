@@ -5,17 +5,11 @@ use borrow.Author.Needs.{needs}
 use Rattle.tree.proofs.check.first_failing.Statement.{statement}
 use Rattle.tree.proofs.check.first_failing.Tie as tie
 
-points-back-requires : tie.Need-points-back-requires
-points-back-requires c κs = search needs
-
 returns : tie.Need-returns
 unfolding firstFailing firstFrom test
 returns c =
     let c1 = c .before in
     rw (← c1 .points-back .ensures, not-true (c1 .points-back .result) (c .if1 .taken))
-
-points-back-requires-2 : tie.Need-points-back-requires-2
-points-back-requires-2 c κs = search needs
 
 returns-2 : tie.Need-returns-2
 unfolding firstFailing firstFrom test
@@ -29,9 +23,6 @@ returns-2 c =
       ← c1 .points-back2 .ensures,
       not-true (c1 .points-back2 .result) (c .if2 .taken),
     )
-
-is-child-requires : tie.Need-is-child-requires
-is-child-requires c κs = search needs
 
 returns-3 : tie.Need-returns-3
 unfolding firstFailing firstFrom test
@@ -49,9 +40,6 @@ returns-3 c =
       ← c1 .is-child .ensures,
       not-true (c1 .is-child .result) (c .if3 .taken),
     )
-
-points-back-requires-3 : tie.Need-points-back-requires-3
-points-back-requires-3 c κs = search needs
 
 returns-4 : tie.Need-returns-4
 unfolding firstFailing firstFrom test
@@ -73,9 +61,6 @@ returns-4 c =
       ← c1 .points-back3 .ensures,
       not-true (c1 .points-back3 .result) (c .if4 .taken),
     )
-
-left-hash-requires : tie.Need-left-hash-requires
-left-hash-requires c κs = search needs
 
 returns-5 : tie.Need-returns-5
 unfolding firstFailing firstFrom test
@@ -101,9 +86,6 @@ returns-5 c =
       ← c1 .left-hash .ensures,
       not-true (c1 .left-hash .result) (c .if5 .taken),
     )
-
-points-back-requires-4 : tie.Need-points-back-requires-4
-points-back-requires-4 c κs = search needs
 
 returns-6 : tie.Need-returns-6
 unfolding firstFailing firstFrom test
@@ -133,9 +115,6 @@ returns-6 c =
       ← c1 .points-back4 .ensures,
       not-true (c1 .points-back4 .result) (c .if6 .taken),
     )
-
-right-hash-requires : tie.Need-right-hash-requires
-right-hash-requires c κs = search needs
 
 returns-7 : tie.Need-returns-7
 unfolding firstFailing firstFrom test
@@ -169,9 +148,6 @@ returns-7 c =
       ← c1 .right-hash .ensures,
       not-true (c1 .right-hash .result) (c .if7 .taken),
     )
-
-not-all-red-requires : tie.Need-not-all-red-requires
-not-all-red-requires c κs = search needs
 
 returns-8 : tie.Need-returns-8
 unfolding firstFailing firstFrom test
@@ -251,20 +227,6 @@ pub first-failing-spec : {M : Type 1} → statement M
 first-failing-spec =
     tie.close
     (tie.spec
-    points-back-requires
-    returns
-    points-back-requires-2
-    returns-2
-    is-child-requires
-    returns-3
-    points-back-requires-3
-    returns-4
-    left-hash-requires
-    returns-5
-    points-back-requires-4
-    returns-6
-    right-hash-requires
-    returns-7
-    not-all-red-requires
-    returns-8
+    (λ c κs. search needs) returns (λ c κs. search needs) returns-2 (λ c κs. search needs) returns-3 (λ c κs. search needs) returns-4
+    (λ c κs. search needs) returns-5 (λ c κs. search needs) returns-6 (λ c κs. search needs) returns-7 (λ c κs. search needs) returns-8
     returns-9)

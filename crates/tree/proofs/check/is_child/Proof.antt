@@ -5,15 +5,6 @@ use borrow.Author.Needs.{needs}
 use Rattle.tree.proofs.check.is_child.Statement.{statement}
 use Rattle.tree.proofs.check.is_child.Tie as tie
 
-get-requires : tie.Need-get-requires
-get-requires c κs = search needs
-
-get-requires-2 : tie.Need-get-requires-2
-get-requires-2 c κs = search needs
-
-get-requires-3 : tie.Need-get-requires-3
-get-requires-3 c κs = search needs
-
 returns : tie.Need-returns
 unfolding isChild
 returns c = rw (← c .before .get .ensures, eq-eqb _ _ (c .if1 .taken))
@@ -34,5 +25,4 @@ returns-3 c =
     rw (← c3 .before .get .ensures, ne-eqb _ _ (c3 .if1 .left), ← c2 .get2 .ensures, ne-eqb _ _ (c1 .if2 .left), ← c .get3 .ensures)
 
 pub is-child-spec : {M : Type 1} → statement M
-is-child-spec =
-    tie.close (tie.spec get-requires get-requires-2 get-requires-3 returns returns-2 returns-3)
+is-child-spec = tie.close (tie.spec (λ c κs. search needs) (λ c κs. search needs) (λ c κs. search needs) returns returns-2 returns-3)

@@ -9,21 +9,6 @@ use Rattle.slots.proofs.Laws.{not-is, pick-not, or-next}
 use Rattle.tree.proofs.check.not_all_red.Statement.{statement}
 use Rattle.tree.proofs.check.not_all_red.Tie as tie
 
-get-requires : tie.Need-get-requires
-get-requires c κs = search needs
-
-get-requires-2 : tie.Need-get-requires-2
-get-requires-2 c κs = search needs
-
-is-red-requires : tie.Need-is-red-requires
-is-red-requires c κs = search needs
-
-is-red-requires-2 : tie.Need-is-red-requires-2
-is-red-requires-2 c κs = search needs
-
-is-red-requires-3 : tie.Need-is-red-requires-3
-is-red-requires-3 c κs = search needs
-
 -- What is asked of the slot is what the last `||` is asked.
 asked : (c : tie.Joined3) {s : Bool}
     → let a = c .before .before .before .before .before .before .before .args in
@@ -57,10 +42,4 @@ pub not-all-red-spec : {M : Type 1} → statement M
 not-all-red-spec =
     tie.close
     (tie.spec
-    get-requires
-    get-requires-2
-    is-red-requires
-    is-red-requires-2
-    is-red-requires-3
-    returns
-    returns-2)
+    (λ c κs. search needs) (λ c κs. search needs) (λ c κs. search needs) (λ c κs. search needs) (λ c κs. search needs) returns returns-2)

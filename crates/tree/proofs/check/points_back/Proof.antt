@@ -5,12 +5,6 @@ use borrow.Author.Needs.{needs}
 use Rattle.tree.proofs.check.points_back.Statement.{statement}
 use Rattle.tree.proofs.check.points_back.Tie as tie
 
-get-requires : tie.Need-get-requires
-get-requires c κs = search needs
-
-get-requires-2 : tie.Need-get-requires-2
-get-requires-2 c κs = search needs
-
 returns : tie.Need-returns
 unfolding pointsBack
 returns c = rw (← c .before .get .ensures, eq-eqb _ _ (c .if1 .taken))
@@ -22,4 +16,4 @@ returns-2 c =
     rw (← c1 .before .get .ensures, ne-eqb _ _ (c1 .if1 .left), ← c .get2 .ensures)
 
 pub points-back-spec : {M : Type 1} → statement M
-points-back-spec = tie.close (tie.spec get-requires get-requires-2 returns returns-2)
+points-back-spec = tie.close (tie.spec (λ c κs. search needs) (λ c κs. search needs) returns returns-2)

@@ -5,15 +5,6 @@ use borrow.Author.Needs.{needs}
 use Rattle.tree.proofs.check.right_hash.Statement.{statement}
 use Rattle.tree.proofs.check.right_hash.Tie as tie
 
-get-requires : tie.Need-get-requires
-get-requires c κs = search needs
-
-name-requires : tie.Need-name-requires
-name-requires c κs = search needs
-
-name-requires-2 : tie.Need-name-requires-2
-name-requires-2 c κs = search needs
-
 returns : tie.Need-returns
 unfolding rightHash
 returns c = rw (← c .before .get .ensures, eq-eqb _ _ (c .if1 .taken))
@@ -26,4 +17,4 @@ returns-2 c =
     rw (← c2 .before .get .ensures, ne-eqb _ _ (c2 .if1 .left), ← c1 .name .ensures, ← c .name2 .ensures)
 
 pub right-hash-spec : {M : Type 1} → statement M
-right-hash-spec = tie.close (tie.spec get-requires name-requires name-requires-2 returns returns-2)
+right-hash-spec = tie.close (tie.spec (λ c κs. search needs) (λ c κs. search needs) (λ c κs. search needs) returns returns-2)

@@ -27,15 +27,6 @@ loop-holds c =
     let a = c .before .before .args in
     (begun _ (found (now (a .names)) (now (a .cells)) (a .root) (a .hash) (a .key)), search needs, search needs, search needs)
 
-cast-if1 : tie.Need-cast-if1 Inv-loop μ-loop
-cast-if1 c = search needs
-
-sub-looks : tie.Need-sub-looks Inv-loop μ-loop
-sub-looks c = search needs
-
-off-requires : tie.Need-off-requires Inv-loop μ-loop
-off-requires c κs = search needs
-
 returns : tie.Need-returns Inv-loop μ-loop
 returns c =
     let at-range = c .before in
@@ -44,30 +35,12 @@ returns c =
     outside (tree-runs (now (a .names)) (now (a .cells)) (a .hash) (a .key)) (at-loop .loop .p) (at-loop .loop .visits)
     (at-loop .loop .inv .0) (at-range .if1 .taken) (c .off .ensures)
 
-sub-looks-2 : tie.Need-sub-looks-2 Inv-loop μ-loop
-sub-looks-2 c = search needs
-
 returns-2 : tie.Need-returns-2 Inv-loop μ-loop
 returns-2 c =
     let at-loop = c .before .before .before in
     let a = at-loop .before .before .before .args in
     ended (tree-runs (now (a .names)) (now (a .cells)) (a .hash) (a .key)) (at-loop .loop .p) (at-loop .loop .visits)
     (at-loop .loop .inv .0) (c .if2 .taken)
-
-sub-visits : tie.Need-sub-visits Inv-loop μ-loop
-sub-visits c = search needs
-
-look-requires : tie.Need-look-requires Inv-loop μ-loop
-look-requires c κs = search needs
-
-enum-known-seen : tie.Need-enum-known-seen Inv-loop μ-loop
-enum-known-seen c = search needs
-
-enum-told : tie.Need-enum-told Inv-loop μ-loop
-enum-told c = search needs
-
-sub-looks-3 : tie.Need-sub-looks-3 Inv-loop μ-loop
-sub-looks-3 c = search needs
 
 returns-3 : tie.Need-returns-3 Inv-loop μ-loop
 returns-3 c =
@@ -87,9 +60,6 @@ returns-3 c =
     (at-visits .loop-test .taken)
     (at-loop .loop .inv .2)
     (ap seenOf (sym (c .enum-told .given .1)) ∙ at-look .look .ensures)
-
-loop-less : tie.Need-loop-less Inv-loop μ-loop
-loop-less c = search needs
 
 loop-again : tie.Need-loop-again Inv-loop μ-loop
 loop-again c =
@@ -115,9 +85,6 @@ loop-again c =
       search needs,
     )
 
-off-requires-2 : tie.Need-off-requires-2 Inv-loop μ-loop
-off-requires-2 c κs = search needs
-
 returns-4 : tie.Need-returns-4 Inv-loop μ-loop
 returns-4 c =
     let at-loop = c .before .before in
@@ -129,22 +96,6 @@ pub find-tree-node-spec : {M : Type 1} → statement M
 find-tree-node-spec =
     tie.close
     (tie.spec
-    Inv-loop
-    μ-loop
-    loop-holds
-    cast-if1
-    sub-looks
-    off-requires
-    returns
-    sub-looks-2
-    returns-2
-    sub-visits
-    look-requires
-    enum-known-seen
-    enum-told
-    sub-looks-3
-    returns-3
-    loop-less
-    loop-again
-    off-requires-2
-    returns-4)
+    Inv-loop μ-loop loop-holds (λ c. search needs) (λ c. search needs) (λ c κs. search needs) returns (λ c. search needs) returns-2
+    (λ c. search needs) (λ c κs. search needs) (λ c. search needs) (λ c. search needs) (λ c. search needs) returns-3 (λ c. search needs)
+    loop-again (λ c κs. search needs) returns-4)

@@ -6,18 +6,6 @@ use borrow.Author.Needs.{needs}
 use Rattle.tree.proofs.find.look.Statement.{statement}
 use Rattle.tree.proofs.find.look.Tie as tie
 
-name-of-requires : tie.Need-name-of-requires
-name-of-requires c κs = search needs
-
-get-requires : tie.Need-get-requires
-get-requires c κs = search needs
-
-get-requires-2 : tie.Need-get-requires-2
-get-requires-2 c κs = search needs
-
-by-hash-requires : tie.Need-by-hash-requires
-by-hash-requires c κs = search needs
-
 returns : tie.Need-returns
 returns c =
     let at-test = c .before in
@@ -27,12 +15,6 @@ returns c =
     let a = at-name .before .before .before .args in
     rw (c .by-hash .ensures, at-name .name-of .ensures, at-left .get .ensures, at-right .get2 .ensures)
     (aside (now (a .names)) (now (a .cells)) (a .p) (a .hash) (a .key) (λ z. at-test .if1 .taken (at-name .name-of .ensures ∙ z)))
-
-name-of-requires-2 : tie.Need-name-of-requires-2
-name-of-requires-2 c κs = search needs
-
-by-key-requires : tie.Need-by-key-requires
-by-key-requires c κs = search needs
 
 returns-2 : tie.Need-returns-2
 returns-2 c =
@@ -49,11 +31,5 @@ pub look-spec : {M : Type 1} → statement M
 look-spec =
     tie.close
     (tie.spec
-    name-of-requires
-    get-requires
-    get-requires-2
-    by-hash-requires
-    returns
-    name-of-requires-2
-    by-key-requires
-    returns-2)
+    (λ c κs. search needs) (λ c κs. search needs) (λ c κs. search needs) (λ c κs. search needs) returns (λ c κs. search needs)
+    (λ c κs. search needs) returns-2)

@@ -1,11 +1,12 @@
 -- Each way out is a law of one visit; the depth falls with each call.
-use mathlib.Core.Path.{sym, ap, _∙_}
+use mathlib.Core.Path.{_≡_, sym, ap, _∙_}
+use mathlib.Core.Logic.{⊎-elim}
 use denote.Ref.{now}
 use native.Mathlib.Omega.{arith}
 use borrow.Author.Needs.{needs}
 use borrow.Author.Tests.{not-true, not-false}
 use Prim.Native.Nat.{_-_}
-use Rattle.tree.specs.Rules.{partOf}
+use Rattle.tree.specs.Rules.{partOf, judged}
 use Rattle.tree.proofs.Judging.{walk-null, walk-outside, walk-spent, walk-deep, walk-wrong, walk-loud, Visit, walk-left-breaks}
 use Rattle.tree.proofs.Judging.{walk-falls, walk-right-breaks, BothParts, both-parts, walk-uneven, walk-missized, walk-red}
 use Rattle.tree.proofs.Judging.{walk-black}
@@ -98,9 +99,6 @@ walk-returns-4 t c =
     walk-deep (now (a .names)) (now (a .cells)) (now (a .sizes)) (a .q) (a .last) (a .i) (a .depth) (a .visits) (at-null .if1 .left)
     (c .if4 .taken)
 
-walk-stand-requires : (t : ℕ) → walk-lts.Need-stand-requires (walk-calls t) (walk-at t) walk.Post
-walk-stand-requires t c κs = search needs
-
 walk-returns-5 : (t : ℕ) → walk-lts.Need-returns-5 (walk-calls t) (walk-at t) walk.Post
 walk-returns-5 t c =
     let at-stand = c .before in
@@ -113,9 +111,6 @@ walk-returns-5 t c =
     (at-null .if1 .left) (at-range .if2 .left) (at-visits .if3 .left) (at-deep .if4 .left)
     (at-stand .stand .ensures)
     (not-true (at-stand .stand .result) (c .if5 .taken))
-
-walk-is-calm-requires : (t : ℕ) → walk-lts.Need-is-calm-requires (walk-calls t) (walk-at t) walk.Post
-walk-is-calm-requires t c κs = search needs
 
 walk-returns-6 : (t : ℕ) → walk-lts.Need-returns-6 (walk-calls t) (walk-at t) walk.Post
 walk-returns-6 t c =
@@ -132,26 +127,25 @@ walk-returns-6 t c =
     (at-asked .is-calm .ensures)
     (not-true (at-asked .is-calm .result) (c .if6 .taken))
 
-walk-get-requires : (t : ℕ) → walk-lts.Need-get-requires (walk-calls t) (walk-at t) walk.Post
-walk-get-requires t c κs = search needs
-
-walk-sub-walk : (t : ℕ) → walk-lts.Need-sub-walk (walk-calls t) (walk-at t) walk.Post
-walk-sub-walk t c = search needs
-
-walk-sub-walk-2 : (t : ℕ) → walk-lts.Need-sub-walk-2 (walk-calls t) (walk-at t) walk.Post
-walk-sub-walk-2 t c = search needs
-
 walk-walk-requires : (t : ℕ) → walk-lts.Need-walk-requires (walk-calls t) (walk-at t) walk.Post
 walk-walk-requires t c κs =
-    let at-deep = c .before .before .before .before .before in
+    let at-deep = c .before .before .before .before .before .before in
     let at-null = at-deep .before .before .before in
     omega (arith, at-null .before .before .before .before .pre .0, at-deep .if4 .left)
 
-walk-enum-known-lefts : (t : ℕ) → walk-lts.Need-enum-known-lefts (walk-calls t) (walk-at t) walk.Post
-walk-enum-known-lefts t c = search needs
-
-walk-enum-told : (t : ℕ) → walk-lts.Need-enum-told (walk-calls t) (walk-at t) walk.Post
-walk-enum-told t c = search needs
+-- What the left part comes to, asked or null.
+lefts-are : (t : ℕ) (c : walk-lts.Joined7 (walk-calls t) (walk-at t) walk.Post)
+    → let a = c .before .before .before .before .before .before .before .before .before .before .before .before .before .args in
+    partOf (c .if7 .lefts)
+    ≡ judged (now (a .names)) (now (a .cells)) (now (a .sizes)) (a .i) (a .last) (c .before .get .result) (a .depth - 1) (a .visits - 1)
+lefts-are t c =
+    let a = c .before .before .before .before .before .before .before .before .before .before .before .before .before .args in
+    ⊎-elim
+    (λ w. ap partOf (w .1)
+    ∙ walk-null (now (a .names)) (now (a .cells)) (now (a .sizes)) (a .i) (a .last) (c .before .get .result) (a .depth - 1) (a .visits - 1)
+    (w .0 .taken))
+    (λ w. ap partOf (w .2) ∙ w .1 .ensures)
+    (c .if7 .came)
 
 walk-returns-7 : (t : ℕ) → walk-lts.Need-returns-7 (walk-calls t) (walk-at t) walk.Post
 walk-returns-7 t c =
@@ -161,10 +155,7 @@ walk-returns-7 t c =
     walk-left-breaks (now (a .names)) (now (a .cells)) (now (a .sizes)) (a .q) (a .last) (a .i) (a .depth) (a .visits)
     (visit t (at-left .before))
     (at-left .get .ensures)
-    (ap partOf (sym (c .enum-told .given .1)) ∙ at-walk .walk .ensures)
-
-walk-follow-requires : (t : ℕ) → walk-lts.Need-follow-requires (walk-calls t) (walk-at t) walk.Post
-walk-follow-requires t c κs = search needs
+    (ap partOf (sym (c .enum-told .given .1)) ∙ lefts-are t at-walk)
 
 walk-returns-8 : (t : ℕ) → walk-lts.Need-returns-8 (walk-calls t) (walk-at t) walk.Post
 walk-returns-8 t c =
@@ -175,28 +166,16 @@ walk-returns-8 t c =
     let a = at-left .before .before .before .before .before .before .before .before .before .before .before .before .args in
     walk-falls (now (a .names)) (now (a .cells)) (now (a .sizes)) (a .q) (a .last) (a .i) (a .depth) (a .visits) (visit t (at-left .before))
     (at-left .get .ensures)
-    (ap partOf (sym (at-lefts .lefts .given .1)) ∙ at-walk .walk .ensures)
+    (ap partOf (sym (at-lefts .lefts .given .1)) ∙ lefts-are t at-walk)
     (at-follow .follow .ensures)
-    (not-true (at-follow .follow .result) (c .if7 .taken))
-
-walk-get-requires-2 : (t : ℕ) → walk-lts.Need-get-requires-2 (walk-calls t) (walk-at t) walk.Post
-walk-get-requires-2 t c κs = search needs
-
-walk-sub-walk-3 : (t : ℕ) → walk-lts.Need-sub-walk-3 (walk-calls t) (walk-at t) walk.Post
-walk-sub-walk-3 t c = search needs
+    (not-true (at-follow .follow .result) (c .if8 .taken))
 
 walk-walk-requires-2 : (t : ℕ) → walk-lts.Need-walk-requires-2 (walk-calls t) (walk-at t) walk.Post
 walk-walk-requires-2 t c κs =
-    let at-left = c .before .before .before .before .before .before .before in
+    let at-left = c .before .before .before .before .before .before .before .before in
     let at-deep = at-left .before .before .before .before .before in
     let at-null = at-deep .before .before .before in
     omega (arith, at-null .before .before .before .before .pre .0, at-deep .if4 .left)
-
-walk-enum-known-rights : (t : ℕ) → walk-lts.Need-enum-known-rights (walk-calls t) (walk-at t) walk.Post
-walk-enum-known-rights t c = search needs
-
-walk-enum-told-2 : (t : ℕ) → walk-lts.Need-enum-told-2 (walk-calls t) (walk-at t) walk.Post
-walk-enum-told-2 t c = search needs
 
 walk-returns-9 : (t : ℕ) → walk-lts.Need-returns-9 (walk-calls t) (walk-at t) walk.Post
 walk-returns-9 t c =
@@ -211,11 +190,15 @@ walk-returns-9 t c =
     walk-right-breaks (now (a .names)) (now (a .cells)) (now (a .sizes)) (a .q) (a .last) (a .i) (a .depth) (a .visits)
     (visit t (at-left .before))
     (at-left .get .ensures)
-    (ap partOf (sym (at-lefts .lefts .given .1)) ∙ at-walk .walk .ensures)
+    (ap partOf (sym (at-lefts .lefts .given .1)) ∙ lefts-are t at-walk)
     (at-follow .follow .ensures)
-    (not-false (at-follow .follow .result) (at-rising .if7 .left))
+    (not-false (at-follow .follow .result) (at-rising .if8 .left))
     (at-right .get2 .ensures)
-    (ap partOf (sym (c .enum-told2 .given .1)) ∙ at-walk2 .walk2 .ensures)
+    (ap partOf (sym (c .enum-told2 .given .1)) ∙ (⊎-elim
+    (λ w. ap partOf (w .1)
+    ∙ walk-null (now (a .names)) (now (a .cells)) (now (a .sizes)) (a .i) (a .i) (at-right .get2 .result) (a .depth - 1) _ (w .0 .taken))
+    (λ w. ap partOf (w .2) ∙ w .1 .ensures)
+    (at-walk2 .if9 .came)))
 
 -- Past both of its parts.
 abbrev both : (t : ℕ) (c : walk-lts.After-known-told2 (walk-calls t) (walk-at t) walk.Post)
@@ -234,30 +217,28 @@ both t c =
     let a = at-left .before .before .before .before .before .before .before .before .before .before .before .before .args in
     both-parts (now (a .names)) (now (a .cells)) (now (a .sizes)) (a .q) (a .last) (a .i) (a .depth) (a .visits) (visit t (at-left .before))
     (at-left .get .ensures)
-    (ap partOf (sym (at-lefts .lefts .given .1)) ∙ at-walk .walk .ensures)
+    (ap partOf (sym (at-lefts .lefts .given .1)) ∙ lefts-are t at-walk)
     (at-follow .follow .ensures)
-    (not-false (at-follow .follow .result) (at-rising .if7 .left))
+    (not-false (at-follow .follow .result) (at-rising .if8 .left))
     (at-right .get2 .ensures)
-    (ap partOf (sym (at-rights .rights .given .1)) ∙ at-walk2 .walk2 .ensures)
+    (ap partOf (sym (at-rights .rights .given .1)) ∙ (⊎-elim
+    (λ w. ap partOf (w .1)
+    ∙ walk-null (now (a .names)) (now (a .cells)) (now (a .sizes)) (a .i) (a .i) (at-right .get2 .result) (a .depth - 1) _ (w .0 .taken))
+    (λ w. ap partOf (w .2) ∙ w .1 .ensures)
+    (at-walk2 .if9 .came)))
 
 walk-returns-10 : (t : ℕ) → walk-lts.Need-returns-10 (walk-calls t) (walk-at t) walk.Post
-walk-returns-10 t c = walk-uneven (both t (c .before)) (c .if8 .taken)
+walk-returns-10 t c = walk-uneven (both t (c .before)) (c .if10 .taken)
 
 walk-sub-has-size : (t : ℕ) → walk-lts.Need-sub-has-size (walk-calls t) (walk-at t) walk.Post
 walk-sub-has-size t c = let w = both t (c .before) in omega (arith, w .first, w .second)
-
-walk-has-size-requires : (t : ℕ) → walk-lts.Need-has-size-requires (walk-calls t) (walk-at t) walk.Post
-walk-has-size-requires t c κs = search needs
 
 walk-returns-11 : (t : ℕ) → walk-lts.Need-returns-11 (walk-calls t) (walk-at t) walk.Post
 walk-returns-11 t c =
     let at-size = c .before in
     let at-even = at-size .before in
-    walk-missized (both t (at-even .before)) (at-even .if8 .left) (at-size .has-size .ensures)
-    (not-true (at-size .has-size .result) (c .if9 .taken))
-
-walk-is-red-requires : (t : ℕ) → walk-lts.Need-is-red-requires (walk-calls t) (walk-at t) walk.Post
-walk-is-red-requires t c κs = search needs
+    walk-missized (both t (at-even .before)) (at-even .if10 .left) (at-size .has-size .ensures)
+    (not-true (at-size .has-size .result) (c .if11 .taken))
 
 walk-returns-12 : (t : ℕ) → walk-lts.Need-returns-12 (walk-calls t) (walk-at t) walk.Post
 walk-returns-12 t c =
@@ -265,14 +246,14 @@ walk-returns-12 t c =
     let at-sized = at-is-red .before in
     let at-size = at-sized .before in
     let at-even = at-size .before in
-    walk-red (both t (at-even .before)) (at-even .if8 .left)
+    walk-red (both t (at-even .before)) (at-even .if10 .left)
     (at-size .has-size .ensures)
-    (not-false (at-size .has-size .result) (at-sized .if9 .left))
+    (not-false (at-size .has-size .result) (at-sized .if11 .left))
     (at-is-red .is-red .ensures)
-    (c .if10 .taken)
+    (c .if12 .taken)
 
-walk-add-t26 : (t : ℕ) → walk-lts.Need-add-t26 (walk-calls t) (walk-at t) walk.Post
-walk-add-t26 t c =
+walk-add-t25 : (t : ℕ) → walk-lts.Need-add-t25 (walk-calls t) (walk-at t) walk.Post
+walk-add-t25 t c =
     let at-known = c .before .before .before .before .before in
     let at-left = at-known .before .before .before .before .before .before .before .before .before .before .before in
     let at-deep = at-left .before .before .before .before .before in
@@ -285,11 +266,11 @@ walk-returns-13 t c =
     let at-sized = at-is-red .before in
     let at-size = at-sized .before in
     let at-even = at-size .before in
-    walk-black (both t (at-even .before)) (at-even .if8 .left)
+    walk-black (both t (at-even .before)) (at-even .if10 .left)
     (at-size .has-size .ensures)
-    (not-false (at-size .has-size .result) (at-sized .if9 .left))
+    (not-false (at-size .has-size .result) (at-sized .if11 .left))
     (at-is-red .is-red .ensures)
-    (c .if10 .left)
+    (c .if12 .left)
 
 pub +walk-spec : {M : Type 1} → statement M
 +walk-spec = close μ-walk λ t. walk-lts.spec (walk-calls t)
@@ -299,30 +280,31 @@ pub +walk-spec : {M : Type 1} → statement M
     (walk-returns-2 t)
     (walk-returns-3 t)
     (walk-returns-4 t)
-    (walk-stand-requires t)
+    (λ c κs. search needs)
     (walk-returns-5 t)
-    (walk-is-calm-requires t)
+    (λ c κs. search needs)
     (walk-returns-6 t)
-    (walk-get-requires t)
-    (walk-sub-walk t)
-    (walk-sub-walk-2 t)
+    (λ c κs. search needs)
+    (λ c. search needs)
+    (λ c. search needs)
+    (λ c. search needs)
     (walk-walk-requires t)
-    (walk-enum-known-lefts t)
-    (walk-enum-told t)
+    (λ c. search needs)
+    (λ c. search needs)
     (walk-returns-7 t)
-    (walk-follow-requires t)
+    (λ c κs. search needs)
     (walk-returns-8 t)
-    (walk-get-requires-2 t)
-    (walk-sub-walk-3 t)
+    (λ c κs. search needs)
+    (λ c. search needs)
     (walk-walk-requires-2 t)
-    (walk-enum-known-rights t)
-    (walk-enum-told-2 t)
+    (λ c. search needs)
+    (λ c. search needs)
     (walk-returns-9 t)
     (walk-returns-10 t)
     (walk-sub-has-size t)
-    (walk-has-size-requires t)
+    (λ c κs. search needs)
     (walk-returns-11 t)
-    (walk-is-red-requires t)
+    (λ c κs. search needs)
     (walk-returns-12 t)
-    (walk-add-t26 t)
+    (walk-add-t25 t)
     (walk-returns-13 t)

@@ -5,21 +5,6 @@ use borrow.Author.Needs.{needs}
 use Rattle.tree.proofs.rules.follow.Statement.{statement}
 use Rattle.tree.proofs.rules.follow.Tie as tie
 
-name-requires : tie.Need-name-requires
-name-requires c κs = search needs
-
-name-requires-2 : tie.Need-name-requires-2
-name-requires-2 c κs = search needs
-
-name-requires-3 : tie.Need-name-requires-3
-name-requires-3 c κs = search needs
-
-name-requires-4 : tie.Need-name-requires-4
-name-requires-4 c κs = search needs
-
-comes-before-requires : tie.Need-comes-before-requires
-comes-before-requires c κs = search needs
-
 returns : tie.Need-returns
 unfolding follows
 returns c = rw (eq-eqb _ _ (c .if1 .taken))
@@ -44,10 +29,4 @@ pub follow-spec : {M : Type 1} → statement M
 follow-spec =
     tie.close
     (tie.spec
-    name-requires
-    name-requires-2
-    name-requires-3
-    name-requires-4
-    comes-before-requires
-    returns
-    returns-2)
+    (λ c κs. search needs) (λ c κs. search needs) (λ c κs. search needs) (λ c κs. search needs) (λ c κs. search needs) returns returns-2)

@@ -5,12 +5,6 @@ use Rattle.tree_rules.specs.Sizes.{hasSize}
 use Rattle.tree.proofs.rules.has_size.Statement.{statement}
 use Rattle.tree.proofs.rules.has_size.Tie as tie
 
-word-requires : tie.Need-word-requires
-word-requires c κs = search needs
-
-cast-result : tie.Need-cast-result
-cast-result c = search needs
-
 returns : tie.Need-returns
 unfolding hasSize
 returns c = rw (le-leb _ _ (c .if1 .taken))
@@ -20,4 +14,4 @@ unfolding hasSize
 returns-2 c = rw (lt-leb _ _ (c .before .if1 .left), ← c .word .ensures)
 
 pub has-size-spec : {M : Type 1} → statement M
-has-size-spec = tie.close (tie.spec word-requires cast-result returns returns-2)
+has-size-spec = tie.close (tie.spec (λ c κs. search needs) (λ c. search needs) returns returns-2)

@@ -5,21 +5,6 @@ use Rattle.slots.proofs.Laws.{not-is}
 use Rattle.tree.proofs.rules.is_calm.Statement.{statement}
 use Rattle.tree.proofs.rules.is_calm.Tie as tie
 
-is-red-requires : tie.Need-is-red-requires
-is-red-requires c κs = search needs
-
-get-requires : tie.Need-get-requires
-get-requires c κs = search needs
-
-is-red-requires-2 : tie.Need-is-red-requires-2
-is-red-requires-2 c κs = search needs
-
-get-requires-2 : tie.Need-get-requires-2
-get-requires-2 c κs = search needs
-
-is-red-requires-3 : tie.Need-is-red-requires-3
-is-red-requires-3 c κs = search needs
-
 returns : tie.Need-returns
 returns c = rw (← c .before .is-red .ensures, not-true (c .before .is-red .result) (c .if1 .taken))
 
@@ -58,11 +43,5 @@ pub is-calm-spec : {M : Type 1} → statement M
 is-calm-spec =
     tie.close
     (tie.spec
-    is-red-requires
-    get-requires
-    is-red-requires-2
-    get-requires-2
-    is-red-requires-3
-    returns
-    returns-2
+    (λ c κs. search needs) (λ c κs. search needs) (λ c κs. search needs) (λ c κs. search needs) (λ c κs. search needs) returns returns-2
     returns-3)

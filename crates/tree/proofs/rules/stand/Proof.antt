@@ -11,18 +11,6 @@ use Rattle.tree_rules.specs.Rules.{stands, inUse}
 use Rattle.tree.proofs.rules.stand.Statement.{statement}
 use Rattle.tree.proofs.rules.stand.Tie as tie
 
-get-requires : tie.Need-get-requires
-get-requires c κs = search needs
-
-get-requires-2 : tie.Need-get-requires-2
-get-requires-2 c κs = search needs
-
-is-coloured-requires : tie.Need-is-coloured-requires
-is-coloured-requires c κs = search needs
-
-get-requires-3 : tie.Need-get-requires-3
-get-requires-3 c κs = search needs
-
 -- What is asked of the slot is what the last `&&` is asked.
 asked : (c : tie.Joined1) (x : Bool) {s : Bool} → s ≡ c .if1 .if2 and x
     → let a = c .before .before .before .before .args in
@@ -54,10 +42,4 @@ pub stand-spec : {M : Type 1} → statement M
 stand-spec =
     tie.close
     (tie.spec
-    get-requires
-    get-requires-2
-    is-coloured-requires
-    get-requires-3
-    returns
-    returns-2
-    returns-3)
+    (λ c κs. search needs) (λ c κs. search needs) (λ c κs. search needs) (λ c κs. search needs) returns returns-2 returns-3)

@@ -8,25 +8,10 @@ use borrow.Author.Needs.{needs}
 use Rattle.tree.proofs.rules.survey_sized.Statement.{statement}
 use Rattle.tree.proofs.rules.survey_sized.Tie as tie
 
-is-red-requires : tie.Need-is-red-requires
-is-red-requires c κs = search needs
-
 returns : tie.Need-returns
 returns c =
     let a = c .before .before .before .before .before .args in
     red-root (now (a .names)) (now (a .cells)) (now (a .sizes)) (a .root) (a .visits) (c .before .is-red .ensures) (c .if1 .taken)
-
-deepest-requires : tie.Need-deepest-requires
-deepest-requires c κs = search needs
-
-walk-requires : tie.Need-walk-requires
-walk-requires c κs = search needs
-
-enum-known-whole : tie.Need-enum-known-whole
-enum-known-whole c = search needs
-
-enum-told : tie.Need-enum-told
-enum-told c = search needs
 
 returns-2 : tie.Need-returns-2
 returns-2 c =
@@ -54,4 +39,6 @@ returns-3 c =
 pub survey-sized-spec : {M : Type 1} → statement M
 survey-sized-spec =
     tie.close
-    (tie.spec is-red-requires returns deepest-requires walk-requires enum-known-whole enum-told returns-2 returns-3)
+    (tie.spec
+    (λ c κs. search needs) returns (λ c κs. search needs) (λ c κs. search needs) (λ c. search needs) (λ c. search needs) returns-2
+    returns-3)

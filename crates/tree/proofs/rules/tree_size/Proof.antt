@@ -10,12 +10,6 @@ use borrow.Author.Needs.{needs}
 use Rattle.tree.proofs.rules.tree_size.Statement.{statement}
 use Rattle.tree.proofs.rules.tree_size.Tie as tie
 
-survey-sized-requires : tie.Need-survey-sized-requires
-survey-sized-requires c κs = search needs
-
-enum-known-walked : tie.Need-enum-known-walked
-enum-known-walked c = search needs
-
 sub-t10 : tie.Need-sub-t10
 sub-t10 c =
     let at-told = c .before in
@@ -23,9 +17,6 @@ sub-t10 c =
     let a = at-survey .before .before .before .before .args in
     sized-within (now (a .names)) (now (a .cells)) (now (a .sizes)) (a .root) (length (now (a .names)) / 2)
     (ap restOf (sym (at-told .walked .given .1)) ∙ at-survey .survey-sized .ensures)
-
-enum-told : tie.Need-enum-told
-enum-told c = search needs
 
 returns : tie.Need-returns
 unfolding treeSize
@@ -38,5 +29,4 @@ unfolding treeSize
 returns-2 c = rw (← c .before .before .survey-sized .ensures, c .enum-told .given .1)
 
 pub tree-size-spec : {M : Type 1} → statement M
-tree-size-spec =
-    tie.close (tie.spec survey-sized-requires enum-known-walked sub-t10 enum-told returns returns-2)
+tree-size-spec = tie.close (tie.spec (λ c κs. search needs) (λ c. search needs) sub-t10 (λ c. search needs) returns returns-2)

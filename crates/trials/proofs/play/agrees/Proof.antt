@@ -15,21 +15,12 @@ Inv-loop expected from part at₀ i₀ at i = (agreed expected at (drop i part) 
 abbrev μ-loop : tie.MeasureT-loop
 μ-loop expected from part at₀ i₀ at i = length part - i
 
-loop-holds : tie.Need-loop-holds Inv-loop μ-loop
-loop-holds c = search needs
-
 returns : tie.Need-returns Inv-loop μ-loop
 returns c =
     let l = c .before .before in
     let a = l .before .args in
     agreed-short (now (a .expected)) (l .loop .at) (now (a .part)) (l .loop .i) (c .before .loop-test .taken) (c .if1 .taken)
     ∙ l .loop .inv .0
-
-shared-slice-read-if2 : tie.Need-shared-slice-read-if2 Inv-loop μ-loop
-shared-slice-read-if2 c = search needs
-
-shared-slice-read-if2-2 : tie.Need-shared-slice-read-if2-2 Inv-loop μ-loop
-shared-slice-read-if2-2 c = search needs
 
 returns-2 : tie.Need-returns-2 Inv-loop μ-loop
 returns-2 c =
@@ -38,15 +29,6 @@ returns-2 c =
     let a = l .before .args in
     agreed-other (now (a .expected)) (l .loop .at) (now (a .part)) (l .loop .i) (t .before .loop-test .taken) (t .if1 .left) (c .if2 .taken)
     ∙ l .loop .inv .0
-
-add-at : tie.Need-add-at Inv-loop μ-loop
-add-at c = search needs
-
-add-i : tie.Need-add-i Inv-loop μ-loop
-add-i c = search needs
-
-loop-less : tie.Need-loop-less Inv-loop μ-loop
-loop-less c = search needs
 
 loop-again : tie.Need-loop-again Inv-loop μ-loop
 loop-again c =
@@ -68,15 +50,5 @@ pub agrees-spec : {M : Type 1} → statement M
 agrees-spec =
     tie.close
     (tie.spec
-    Inv-loop
-    μ-loop
-    loop-holds
-    returns
-    shared-slice-read-if2
-    shared-slice-read-if2-2
-    returns-2
-    add-at
-    add-i
-    loop-less
-    loop-again
-    returns-3)
+    Inv-loop μ-loop (λ c. search needs) returns (λ c. search needs) (λ c. search needs) returns-2 (λ c. search needs) (λ c. search needs)
+    (λ c. search needs) loop-again returns-3)

@@ -32,9 +32,6 @@ abbrev μ-loop : tie.MeasureT-loop
 μ-loop input cut expected names₀ cells₀ head₀ sizes₀ lines₀ out₀ kept₀ at₀ said₀ names cells head sizes lines out kept at said =
     length input - at
 
-blank-requires : tie.Need-blank-requires Inv-loop μ-loop
-blank-requires c κs = search needs
-
 loop-holds : tie.Need-loop-holds Inv-loop μ-loop
 loop-holds c =
     let a = c .before .before .before .before .before .before .before .before .before .args in (
@@ -49,46 +46,10 @@ loop-holds c =
       search needs,
     )
 
-sub-feed-first : tie.Need-sub-feed-first Inv-loop μ-loop
-sub-feed-first c = search needs
-
-part-feed-first-start : tie.Need-part-feed-first-start Inv-loop μ-loop
-part-feed-first-start c = search needs
-
-part-feed-first-end : tie.Need-part-feed-first-end Inv-loop μ-loop
-part-feed-first-end c = search needs
-
-feed-first-requires : tie.Need-feed-first-requires Inv-loop μ-loop
-feed-first-requires c κs = search needs
-
-slice-reshare-prefix-agrees : tie.Need-slice-reshare-prefix-agrees Inv-loop μ-loop
-slice-reshare-prefix-agrees c = search needs
-
 slice-aggregate-agrees : tie.Need-slice-aggregate-agrees Inv-loop μ-loop
 slice-aggregate-agrees c =
     let c1 = c .before .before .before .before .before .before .before .before .before .before .before .before .before in
     simp length-take (omega (arith, c1 .feed-first .ensures .1 .0))
-
-agrees-requires : tie.Need-agrees-requires Inv-loop μ-loop
-agrees-requires c κs = search needs
-
-same-length : tie.Need-same-length Inv-loop μ-loop
-same-length c = search needs
-
-same-length-2 : tie.Need-same-length-2 Inv-loop μ-loop
-same-length-2 c = search needs
-
-same-length-3 : tie.Need-same-length-3 Inv-loop μ-loop
-same-length-3 c = search needs
-
-same-length-4 : tie.Need-same-length-4 Inv-loop μ-loop
-same-length-4 c = search needs
-
-same-length-5 : tie.Need-same-length-5 Inv-loop μ-loop
-same-length-5 c = search needs
-
-same-length-6 : tie.Need-same-length-6 Inv-loop μ-loop
-same-length-6 c = search needs
 
 returns : tie.Need-returns Inv-loop μ-loop
 returns c =
@@ -167,9 +128,6 @@ add-at c =
     let c2 = c1 .before .before .before .before .before .before .before .before .before in
     omega (arith, c2 .loop .inv, simp length-take at (c1 .feed-first .ensures .1 .1))
 
-loop-less : tie.Need-loop-less Inv-loop μ-loop
-loop-less c = search needs
-
 loop-again : tie.Need-loop-again Inv-loop μ-loop
 loop-again c =
     let c1 = c .before in
@@ -197,37 +155,10 @@ loop-again c =
       omega (arith, l .loop .inv, o .out .given),
     )
 
-finish-requires : tie.Need-finish-requires Inv-loop μ-loop
-finish-requires c κs = search needs
-
-slice-reshare-prefix-agrees-2 : tie.Need-slice-reshare-prefix-agrees-2 Inv-loop μ-loop
-slice-reshare-prefix-agrees-2 c = search needs
-
 slice-aggregate-agrees-2 : tie.Need-slice-aggregate-agrees-2 Inv-loop μ-loop
 slice-aggregate-agrees-2 c =
     let c1 = c .before .before .before .before .before .before .before .before .before .before .before .before .before in
     simp length-take (omega (arith, c1 .finish .ensures .1))
-
-agrees-requires-2 : tie.Need-agrees-requires-2 Inv-loop μ-loop
-agrees-requires-2 c κs = search needs
-
-same-length-13 : tie.Need-same-length-13 Inv-loop μ-loop
-same-length-13 c = search needs
-
-same-length-14 : tie.Need-same-length-14 Inv-loop μ-loop
-same-length-14 c = search needs
-
-same-length-15 : tie.Need-same-length-15 Inv-loop μ-loop
-same-length-15 c = search needs
-
-same-length-16 : tie.Need-same-length-16 Inv-loop μ-loop
-same-length-16 c = search needs
-
-same-length-17 : tie.Need-same-length-17 Inv-loop μ-loop
-same-length-17 c = search needs
-
-same-length-18 : tie.Need-same-length-18 Inv-loop μ-loop
-same-length-18 c = search needs
 
 returns-3 : tie.Need-returns-3 Inv-loop μ-loop
 returns-3 c =
@@ -242,42 +173,9 @@ pub play-spec : {M : Type 1} → statement M
 play-spec =
     tie.close
     (tie.spec
-    Inv-loop
-    μ-loop
-    blank-requires
-    loop-holds
-    sub-feed-first
-    part-feed-first-start
-    part-feed-first-end
-    feed-first-requires
-    slice-reshare-prefix-agrees
-    slice-aggregate-agrees
-    agrees-requires
-    same-length
-    same-length-2
-    same-length-3
-    same-length-4
-    same-length-5
-    same-length-6
-    returns
-    same-length-7
-    same-length-8
-    same-length-9
-    same-length-10
-    same-length-11
-    same-length-12
-    returns-2
-    add-at
-    loop-less
-    loop-again
-    finish-requires
-    slice-reshare-prefix-agrees-2
-    slice-aggregate-agrees-2
-    agrees-requires-2
-    same-length-13
-    same-length-14
-    same-length-15
-    same-length-16
-    same-length-17
-    same-length-18
-    returns-3)
+    Inv-loop μ-loop (λ c κs. search needs) loop-holds (λ c. search needs) (λ c. search needs) (λ c. search needs) (λ c κs. search needs)
+    (λ c. search needs) slice-aggregate-agrees (λ c κs. search needs) (λ c. search needs) (λ c. search needs) (λ c. search needs)
+    (λ c. search needs) (λ c. search needs) (λ c. search needs) returns same-length-7 same-length-8 same-length-9 same-length-10
+    same-length-11 same-length-12 returns-2 add-at (λ c. search needs) loop-again (λ c κs. search needs) (λ c. search needs)
+    slice-aggregate-agrees-2 (λ c κs. search needs) (λ c. search needs) (λ c. search needs) (λ c. search needs) (λ c. search needs)
+    (λ c. search needs) (λ c. search needs) returns-3)

@@ -6,21 +6,6 @@ use Rattle.trials.specs.Comparing.{sameIndex}
 use Rattle.trials.proofs.same.same_index.Statement.{statement}
 use Rattle.trials.proofs.same.same_index.Tie as tie
 
-same-names-requires : tie.Need-same-names-requires
-same-names-requires c κs = search needs
-
-same-cells-requires : tie.Need-same-cells-requires
-same-cells-requires c κs = search needs
-
-same-cells-requires-2 : tie.Need-same-cells-requires-2
-same-cells-requires-2 c κs = search needs
-
-same-cells-requires-3 : tie.Need-same-cells-requires-3
-same-cells-requires-3 c κs = search needs
-
-same-names-requires-2 : tie.Need-same-names-requires-2
-same-names-requires-2 c κs = search needs
-
 returns : tie.Need-returns
 unfolding sameIndex
 returns c =
@@ -50,10 +35,4 @@ pub same-index-spec : {M : Type 1} → statement M
 same-index-spec =
     tie.close
     (tie.spec
-    same-names-requires
-    same-cells-requires
-    same-cells-requires-2
-    same-cells-requires-3
-    same-names-requires-2
-    returns
-    returns-2)
+    (λ c κs. search needs) (λ c κs. search needs) (λ c κs. search needs) (λ c κs. search needs) (λ c κs. search needs) returns returns-2)

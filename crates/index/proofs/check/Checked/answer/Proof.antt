@@ -5,33 +5,6 @@ use Rattle.index.specs.Reads.{checkedOf}
 use Rattle.index.proofs.check.Checked.answer.Statement.{statement}
 use Rattle.index.proofs.check.Checked.answer.Tie as tie
 
-enum-told : tie.Need-enum-told
-enum-told c = search needs
-
-nothing-requires : tie.Need-nothing-requires
-nothing-requires c κs = search needs
-
-enum-known-self : tie.Need-enum-known-self
-enum-known-self c = search needs
-
-cast-t5 : tie.Need-cast-t5
-cast-t5 c = search needs
-
-add-t6 : tie.Need-add-t6
-add-t6 c = search needs
-
-enum-told-2 : tie.Need-enum-told-2
-enum-told-2 c = search needs
-
-refused-requires : tie.Need-refused-requires
-refused-requires c κs = search needs
-
-enum-told-3 : tie.Need-enum-told-3
-enum-told-3 c = search needs
-
-refused-requires-2 : tie.Need-refused-requires-2
-refused-requires-2 c κs = search needs
-
 returns : tie.Need-returns
 returns c = c .nothing .ensures ∙ ap checkedOf (sym (c .before .enum-told .given .1))
 
@@ -48,16 +21,5 @@ pub answer-spec : {M : Type 1} → statement M
 answer-spec =
     tie.close
     (tie.spec
-    enum-told
-    nothing-requires
-    enum-known-self
-    cast-t5
-    add-t6
-    enum-told-2
-    refused-requires
-    enum-told-3
-    refused-requires-2
-    returns
-    returns-2
-    returns-3
-    returns-4)
+    (λ c. search needs) (λ c κs. search needs) (λ c. search needs) (λ c. search needs) (λ c. search needs) (λ c. search needs)
+    (λ c κs. search needs) (λ c. search needs) (λ c κs. search needs) returns returns-2 returns-3 returns-4)

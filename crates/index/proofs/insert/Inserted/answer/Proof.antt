@@ -5,39 +5,6 @@ use Rattle.index.specs.Calls.{insertedOf}
 use Rattle.index.proofs.insert.Inserted.answer.Statement.{statement}
 use Rattle.index.proofs.insert.Inserted.answer.Tie as tie
 
-enum-known-self : tie.Need-enum-known-self
-enum-known-self c = search needs
-
-given-requires : tie.Need-given-requires
-given-requires c κs = search needs
-
-enum-told : tie.Need-enum-told
-enum-told c = search needs
-
-refused-requires : tie.Need-refused-requires
-refused-requires c κs = search needs
-
-enum-told-2 : tie.Need-enum-told-2
-enum-told-2 c = search needs
-
-refused-requires-2 : tie.Need-refused-requires-2
-refused-requires-2 c κs = search needs
-
-enum-known-self-2 : tie.Need-enum-known-self-2
-enum-known-self-2 c = search needs
-
-enum-told-3 : tie.Need-enum-told-3
-enum-told-3 c = search needs
-
-refused-requires-3 : tie.Need-refused-requires-3
-refused-requires-3 c κs = search needs
-
-enum-told-4 : tie.Need-enum-told-4
-enum-told-4 c = search needs
-
-refused-requires-4 : tie.Need-refused-requires-4
-refused-requires-4 c κs = search needs
-
 returns : tie.Need-returns
 returns c = c .given .ensures ∙ ap insertedOf (sym (c .before .before .self .given .1))
 
@@ -60,20 +27,6 @@ pub answer-spec : {M : Type 1} → statement M
 answer-spec =
     tie.close
     (tie.spec
-    enum-known-self
-    given-requires
-    enum-told
-    refused-requires
-    enum-told-2
-    refused-requires-2
-    enum-known-self-2
-    enum-told-3
-    refused-requires-3
-    enum-told-4
-    refused-requires-4
-    returns
-    returns-2
-    returns-3
-    returns-4
-    returns-5
-    returns-6)
+    (λ c. search needs) (λ c κs. search needs) (λ c. search needs) (λ c κs. search needs) (λ c. search needs) (λ c κs. search needs)
+    (λ c. search needs) (λ c. search needs) (λ c κs. search needs) (λ c. search needs) (λ c κs. search needs) returns returns-2 returns-3
+    returns-4 returns-5 returns-6)

@@ -7,24 +7,6 @@ use borrow.Author.Needs.{needs}
 use Rattle.index.proofs.insert.Inserted.raise.Statement.{statement}
 use Rattle.index.proofs.insert.Inserted.raise.Tie as tie
 
-enum-known-self : tie.Need-enum-known-self
-enum-known-self c = search needs
-
-enum-told : tie.Need-enum-told
-enum-told c = search needs
-
-enum-told-2 : tie.Need-enum-told-2
-enum-told-2 c = search needs
-
-enum-told-3 : tie.Need-enum-told-3
-enum-told-3 c = search needs
-
-enum-told-4 : tie.Need-enum-told-4
-enum-told-4 c = search needs
-
-enum-told-5 : tie.Need-enum-told-5
-enum-told-5 c = search needs
-
 returns : tie.Need-returns
 unfolding raisedBy
 returns c = ap (λ (s : Inserted). raisedBy (insertedOf s) (c .before .before .before .args .floor)) (sym (c .before .self .given .1))
@@ -53,15 +35,5 @@ pub raise-spec : {M : Type 1} → statement M
 raise-spec =
     tie.close
     (tie.spec
-    enum-known-self
-    enum-told
-    enum-told-2
-    enum-told-3
-    enum-told-4
-    enum-told-5
-    returns
-    returns-2
-    returns-3
-    returns-4
-    returns-5
-    returns-6)
+    (λ c. search needs) (λ c. search needs) (λ c. search needs) (λ c. search needs) (λ c. search needs) (λ c. search needs) returns
+    returns-2 returns-3 returns-4 returns-5 returns-6)

@@ -7,24 +7,6 @@ use borrow.Author.Needs.{needs}
 use Rattle.index.proofs.present.Presence.lower.Statement.{statement}
 use Rattle.index.proofs.present.Presence.lower.Tie as tie
 
-enum-known-self : tie.Need-enum-known-self
-enum-known-self c = search needs
-
-lesser-requires : tie.Need-lesser-requires
-lesser-requires c κs = search needs
-
-enum-told : tie.Need-enum-told
-enum-told c = search needs
-
-enum-told-2 : tie.Need-enum-told-2
-enum-told-2 c = search needs
-
-enum-told-3 : tie.Need-enum-told-3
-enum-told-3 c = search needs
-
-enum-told-4 : tie.Need-enum-told-4
-enum-told-4 c = search needs
-
 returns : tie.Need-returns
 unfolding loweredBy
 returns c =
@@ -52,14 +34,5 @@ pub lower-spec : {M : Type 1} → statement M
 lower-spec =
     tie.close
     (tie.spec
-    enum-known-self
-    lesser-requires
-    enum-told
-    enum-told-2
-    enum-told-3
-    enum-told-4
-    returns
-    returns-2
-    returns-3
-    returns-4
-    returns-5)
+    (λ c. search needs) (λ c κs. search needs) (λ c. search needs) (λ c. search needs) (λ c. search needs) (λ c. search needs) returns
+    returns-2 returns-3 returns-4 returns-5)

@@ -9,30 +9,6 @@ use Rattle.ranks.proofs.kth.KthSlot.answer.Lts as lts
 use Rattle.slots.proofs.answer.given.Reads as given-reads
 use Rattle.slots.proofs.answer.refused.Reads as refused-reads
 
-enum-known-self : tie.Need-enum-known-self
-enum-known-self c = search needs
-
-given-requires : tie.Need-given-requires
-given-requires c κs = search needs
-
-enum-told : tie.Need-enum-told
-enum-told c = search needs
-
-refused-requires : tie.Need-refused-requires
-refused-requires c κs = search needs
-
-enum-told-2 : tie.Need-enum-told-2
-enum-told-2 c = search needs
-
-refused-requires-2 : tie.Need-refused-requires-2
-refused-requires-2 c κs = search needs
-
-enum-told-3 : tie.Need-enum-told-3
-enum-told-3 c = search needs
-
-refused-requires-3 : tie.Need-refused-requires-3
-refused-requires-3 c κs = search needs
-
 returns : tie.Need-returns
 returns c = c .given .ensures ∙ ap kthOf (sym (c .before .before .self .given .1))
 
@@ -49,15 +25,5 @@ pub answer-spec : {M : Type 1} → statement M
 answer-spec =
     tie.close
     (tie.spec
-    enum-known-self
-    given-requires
-    enum-told
-    refused-requires
-    enum-told-2
-    refused-requires-2
-    enum-told-3
-    refused-requires-3
-    returns
-    returns-2
-    returns-3
-    returns-4)
+    (λ c. search needs) (λ c κs. search needs) (λ c. search needs) (λ c κs. search needs) (λ c. search needs) (λ c κs. search needs)
+    (λ c. search needs) (λ c κs. search needs) returns returns-2 returns-3 returns-4)

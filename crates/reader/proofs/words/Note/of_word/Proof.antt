@@ -7,29 +7,11 @@ use Rattle.reader.proofs.words.Note.of_word.Tie as tie
 returns : tie.Need-returns
 returns c = at-unsaid _ (c .if1 .taken)
 
-sub-number : tie.Need-sub-number
-sub-number c = search needs
-
-sub-value : tie.Need-sub-value
-sub-value c = search needs
-
-cast-t7 : tie.Need-cast-t7
-cast-t7 c = search needs
-
-known-reply-requires : tie.Need-known-reply-requires
-known-reply-requires c κs = search needs
-
 returns-2 : tie.Need-returns-2
 returns-2 c =
     let c1 = c .before in
     let c2 = c1 .before in
     at-given _ (c2 .if1 .left) (c1 .if2 .taken) (c .known-reply .ensures)
-
-cast-t9 : tie.Need-cast-t9
-cast-t9 c = search needs
-
-known-reply-requires-2 : tie.Need-known-reply-requires-2
-known-reply-requires-2 c κs = search needs
 
 returns-3 : tie.Need-returns-3
 returns-3 c =
@@ -44,9 +26,6 @@ returns-4 c =
     let c3 = c2 .before in
     at-unknown _ (c3 .if1 .left) (c2 .if2 .left) (c1 .if3 .left) (c .if4 .taken)
 
-plain-at-requires : tie.Need-plain-at-requires
-plain-at-requires c κs = search needs
-
 returns-5 : tie.Need-returns-5
 returns-5 c =
     let c1 = c .before in
@@ -59,15 +38,5 @@ pub of-word-spec : {M : Type 1} → statement M
 of-word-spec =
     tie.close
     (tie.spec
-    returns
-    sub-number
-    sub-value
-    cast-t7
-    known-reply-requires
-    returns-2
-    cast-t9
-    known-reply-requires-2
-    returns-3
-    returns-4
-    plain-at-requires
-    returns-5)
+    returns (λ c. search needs) (λ c. search needs) (λ c. search needs) (λ c κs. search needs) returns-2 (λ c. search needs)
+    (λ c κs. search needs) returns-3 returns-4 (λ c κs. search needs) returns-5)

@@ -7,15 +7,6 @@ use borrow.Author.Needs.{needs}
 use Rattle.reader.proofs.words.Note.word.Statement.{statement}
 use Rattle.reader.proofs.words.Note.word.Tie as tie
 
-enum-told : tie.Need-enum-told
-enum-told c = search needs
-
-enum-known-self : tie.Need-enum-known-self
-enum-known-self c = search needs
-
-reply-word-requires : tie.Need-reply-word-requires
-reply-word-requires c κs = search needs
-
 returns : tie.Need-returns
 unfolding noteWord
 returns c = ap (λ (x : Note). noteWord (noteOf x)) (sym (c .enum-told .given .1))
@@ -27,11 +18,4 @@ returns-2 c =
     c .reply-word .ensures ∙ ap (λ (x : Note). noteWord (noteOf x)) (sym (c1 .self .given .1))
 
 pub word-spec : {M : Type 1} → statement M
-word-spec =
-    tie.close
-    (tie.spec
-    enum-told
-    enum-known-self
-    reply-word-requires
-    returns
-    returns-2)
+word-spec = tie.close (tie.spec (λ c. search needs) (λ c. search needs) (λ c κs. search needs) returns returns-2)

@@ -23,9 +23,6 @@ Inv-loop names₀ cells₀ head₀ sizes₀ lines₀ chunk fits at₀ i₀ names
 abbrev μ-loop : tie.MeasureT-loop
 μ-loop names₀ cells₀ head₀ sizes₀ lines₀ chunk fits at₀ i₀ names cells head sizes lines at i = length chunk - i
 
-fits-reader-requires : tie.Need-fits-reader-requires Inv-loop μ-loop
-fits-reader-requires c κs = search needs
-
 returns : tie.Need-returns Inv-loop μ-loop
 returns c =
     let c1 = c .before in
@@ -35,9 +32,6 @@ loop-holds : tie.Need-loop-holds Inv-loop μ-loop
 loop-holds c =
     let c1 = c .before in
     turn-start _ _ _ (range-in _ (sym (c1 .fits-reader .ensures) ∙ not-false (c1 .fits-reader .result) (c .if1 .left)))
-
-shared-slice-read-take-byte : tie.Need-shared-slice-read-take-byte Inv-loop μ-loop
-shared-slice-read-take-byte c = search needs
 
 take-byte-requires : tie.Need-take-byte-requires Inv-loop μ-loop
 take-byte-requires c κs =
@@ -53,9 +47,6 @@ add-i c =
     let bytes = c2 .args .chunk in
     let below = c1 .loop-test .taken in
     search needs
-
-loop-less : tie.Need-loop-less Inv-loop μ-loop
-loop-less c = search needs
 
 loop-again : tie.Need-loop-again Inv-loop μ-loop
 loop-again c =
@@ -75,21 +66,6 @@ reply-of-requires c κs =
     let c1 = c .before .before in
     c1 .loop .inv .fit
 
-same-length : tie.Need-same-length Inv-loop μ-loop
-same-length c = search needs
-
-same-length-2 : tie.Need-same-length-2 Inv-loop μ-loop
-same-length-2 c = search needs
-
-same-length-3 : tie.Need-same-length-3 Inv-loop μ-loop
-same-length-3 c = search needs
-
-same-length-4 : tie.Need-same-length-4 Inv-loop μ-loop
-same-length-4 c = search needs
-
-same-length-5 : tie.Need-same-length-5 Inv-loop μ-loop
-same-length-5 c = search needs
-
 returns-2 : tie.Need-returns-2 Inv-loop μ-loop
 returns-2 c =
     let c1 = c .before .before in
@@ -104,20 +80,5 @@ pub chunk-spec : {M : Type 1} → statement M
 chunk-spec =
     tie.close
     (tie.spec
-    Inv-loop
-    μ-loop
-    fits-reader-requires
-    returns
-    loop-holds
-    shared-slice-read-take-byte
-    take-byte-requires
-    add-i
-    loop-less
-    loop-again
-    reply-of-requires
-    same-length
-    same-length-2
-    same-length-3
-    same-length-4
-    same-length-5
-    returns-2)
+    Inv-loop μ-loop (λ c κs. search needs) returns loop-holds (λ c. search needs) take-byte-requires add-i (λ c. search needs) loop-again
+    reply-of-requires (λ c. search needs) (λ c. search needs) (λ c. search needs) (λ c. search needs) (λ c. search needs) returns-2)

@@ -8,19 +8,10 @@ use borrow.Author.Needs.{needs}
 use Rattle.reader.proofs.words.Reader.end.Statement.{statement}
 use Rattle.reader.proofs.words.Reader.end.Tie as tie
 
-fits-reader-requires : tie.Need-fits-reader-requires
-fits-reader-requires c κs = search needs
-
 returns : tie.Need-returns
 returns c =
     let c1 = c .before in
     end-out _ (c1 .fits-reader .ensures) (not-true (c1 .fits-reader .result) (c .if1 .taken))
-
-enum-told : tie.Need-enum-told
-enum-told c = search needs
-
-enum-told-2 : tie.Need-enum-told-2
-enum-told-2 c = search needs
 
 reply-of-requires : tie.Need-reply-of-requires
 reply-of-requires c κs =
@@ -52,21 +43,6 @@ reply-of-requires-2 c κs =
     (ap noteOf (c2 .enum-told .given .1))
     (c1 .close .ensures)
 
-same-length : tie.Need-same-length
-same-length c = search needs
-
-same-length-2 : tie.Need-same-length-2
-same-length-2 c = search needs
-
-same-length-3 : tie.Need-same-length-3
-same-length-3 c = search needs
-
-same-length-4 : tie.Need-same-length-4
-same-length-4 c = search needs
-
-same-length-5 : tie.Need-same-length-5
-same-length-5 c = search needs
-
 returns-3 : tie.Need-returns-3
 returns-3 c =
     let c1 = c .before .before .before .before .before .before .before .before .before .before .before in
@@ -80,17 +56,5 @@ pub end-spec : {M : Type 1} → statement M
 end-spec =
     tie.close
     (tie.spec
-    fits-reader-requires
-    returns
-    enum-told
-    enum-told-2
-    reply-of-requires
-    returns-2
-    close-requires
-    reply-of-requires-2
-    same-length
-    same-length-2
-    same-length-3
-    same-length-4
-    same-length-5
-    returns-3)
+    (λ c κs. search needs) returns (λ c. search needs) (λ c. search needs) reply-of-requires returns-2 close-requires reply-of-requires-2
+    (λ c. search needs) (λ c. search needs) (λ c. search needs) (λ c. search needs) (λ c. search needs) returns-3)

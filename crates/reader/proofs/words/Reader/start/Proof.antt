@@ -7,29 +7,11 @@ use borrow.Author.Needs.{needs}
 use Rattle.reader.proofs.words.Reader.start.Statement.{statement}
 use Rattle.reader.proofs.words.Reader.start.Tie as tie
 
-new-reader-requires : tie.Need-new-reader-requires
-new-reader-requires c κs = search needs
-
-fit-index-requires : tie.Need-fit-index-requires
-fit-index-requires c κs = search needs
-
-enum-told : tie.Need-enum-told
-enum-told c = search needs
-
-enum-told-2 : tie.Need-enum-told-2
-enum-told-2 c = search needs
-
 returns : tie.Need-returns
 returns c =
     let c1 = c .before .before in
     let c2 = c1 .before in
     start-unfit _ (c2 .new-reader .ensures) (is-unfit _ (c1 .fit-index .ensures) (c .enum-told2 .given .1))
-
-sound-requires : tie.Need-sound-requires
-sound-requires c κs = search needs
-
-enum-told-3 : tie.Need-enum-told-3
-enum-told-3 c = search needs
 
 returns-2 : tie.Need-returns-2
 returns-2 c =
@@ -41,18 +23,12 @@ returns-2 c =
     start-damaged _ f (c4 .new-reader .ensures)
     (not-sound _ (tree-fits _ f) (c1 .sound .result) (c1 .sound .ensures) (c .match2 .keys2))
 
-length-of-requires : tie.Need-length-of-requires
-length-of-requires c κs = search needs
-
 cast-new-reader : tie.Need-cast-new-reader
 cast-new-reader c =
     let c1 = c .before .before .before .before in
     let c2 = c1 .before .before in
     let h = fits-index _ (is-fit _ (c2 .fit-index .ensures) (c1 .enum-told .given .1)) in
     omega (arith, h .most, h .within, c .length-of .ensures)
-
-new-reader-requires-2 : tie.Need-new-reader-requires-2
-new-reader-requires-2 c κs = search needs
 
 returns-3 : tie.Need-returns-3
 returns-3 c =
@@ -70,15 +46,5 @@ pub start-spec : {M : Type 1} → statement M
 start-spec =
     tie.close
     (tie.spec
-    new-reader-requires
-    fit-index-requires
-    enum-told
-    enum-told-2
-    returns
-    sound-requires
-    enum-told-3
-    returns-2
-    length-of-requires
-    cast-new-reader
-    new-reader-requires-2
-    returns-3)
+    (λ c κs. search needs) (λ c κs. search needs) (λ c. search needs) (λ c. search needs) returns (λ c κs. search needs)
+    (λ c. search needs) returns-2 (λ c κs. search needs) cast-new-reader (λ c κs. search needs) returns-3)

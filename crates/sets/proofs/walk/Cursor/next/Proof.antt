@@ -10,9 +10,6 @@ use borrow.Author.Needs.{needs}
 use Rattle.sets.proofs.walk.Cursor.next.Statement.{statement}
 use Rattle.sets.proofs.walk.Cursor.next.Tie as tie
 
-fit-set-requires : tie.Need-fit-set-requires
-fit-set-requires c κs = search needs
-
 returns : tie.Need-returns
 returns c =
     let at-fit = c .before in
@@ -68,5 +65,4 @@ returns-3 c =
     (c .walk .ensures)
 
 pub next-spec : {M : Type 1} → statement M
-next-spec =
-    tie.close (tie.spec fit-set-requires returns fine-requires returns-2 walk-requires returns-3)
+next-spec = tie.close (tie.spec (λ c κs. search needs) returns fine-requires returns-2 walk-requires returns-3)

@@ -5,9 +5,6 @@ use borrow.Author.Needs.{needs}
 use Rattle.sets.proofs.walk.Cursor.start.Statement.{statement}
 use Rattle.sets.proofs.walk.Cursor.start.Tie as tie
 
-fit-set-requires : tie.Need-fit-set-requires
-fit-set-requires c κs = search needs
-
 returns : tie.Need-returns
 returns c =
     let at-fit = c .before in
@@ -24,4 +21,4 @@ returns-3 c =
     start-made _ _ (at-fit .fit-set .ensures) (not-false (at-fit .fit-set .result) (c .before .if1 .left)) (c .if2 .left)
 
 pub start-spec : {M : Type 1} → statement M
-start-spec = tie.close (tie.spec fit-set-requires returns returns-2 returns-3)
+start-spec = tie.close (tie.spec (λ c κs. search needs) returns returns-2 returns-3)

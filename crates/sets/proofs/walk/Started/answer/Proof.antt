@@ -5,24 +5,6 @@ use Rattle.sets.specs.Cursors.{startedOf}
 use Rattle.sets.proofs.walk.Started.answer.Statement.{statement}
 use Rattle.sets.proofs.walk.Started.answer.Tie as tie
 
-enum-told : tie.Need-enum-told
-enum-told c = search needs
-
-given-requires : tie.Need-given-requires
-given-requires c κs = search needs
-
-enum-told-2 : tie.Need-enum-told-2
-enum-told-2 c = search needs
-
-refused-requires : tie.Need-refused-requires
-refused-requires c κs = search needs
-
-enum-told-3 : tie.Need-enum-told-3
-enum-told-3 c = search needs
-
-refused-requires-2 : tie.Need-refused-requires-2
-refused-requires-2 c κs = search needs
-
 returns : tie.Need-returns
 returns c = c .given .ensures ∙ ap startedOf (sym (c .before .enum-told .given .1))
 
@@ -36,12 +18,5 @@ pub answer-spec : {M : Type 1} → statement M
 answer-spec =
     tie.close
     (tie.spec
-    enum-told
-    given-requires
-    enum-told-2
-    refused-requires
-    enum-told-3
-    refused-requires-2
-    returns
-    returns-2
-    returns-3)
+    (λ c. search needs) (λ c κs. search needs) (λ c. search needs) (λ c κs. search needs) (λ c. search needs) (λ c κs. search needs)
+    returns returns-2 returns-3)

@@ -5,38 +5,8 @@ use borrow.Author.Needs.{needs}
 use Rattle.slots.specs.Words.{_and_}
 use Rattle.slots.proofs.Laws.{and-next}
 use Rattle.tree_rules.specs.Check.{linksIn}
-use Rattle.tree.proofs.check.links_in.Statement.{statement}
-use Rattle.tree.proofs.check.links_in.Tie as tie
-
-get-requires : tie.Need-get-requires
-get-requires c κs = search needs
-
-in-range-requires : tie.Need-in-range-requires
-in-range-requires c κs = search needs
-
-get-requires-2 : tie.Need-get-requires-2
-get-requires-2 c κs = search needs
-
-in-range-requires-2 : tie.Need-in-range-requires-2
-in-range-requires-2 c κs = search needs
-
-get-requires-3 : tie.Need-get-requires-3
-get-requires-3 c κs = search needs
-
-in-range-requires-3 : tie.Need-in-range-requires-3
-in-range-requires-3 c κs = search needs
-
-get-requires-4 : tie.Need-get-requires-4
-get-requires-4 c κs = search needs
-
-in-range-requires-4 : tie.Need-in-range-requires-4
-in-range-requires-4 c κs = search needs
-
-get-requires-5 : tie.Need-get-requires-5
-get-requires-5 c κs = search needs
-
-in-range-requires-5 : tie.Need-in-range-requires-5
-in-range-requires-5 c κs = search needs
+use Rattle.tree.proofs.check.links_read.Statement.{statement}
+use Rattle.tree.proofs.check.links_read.Tie as tie
 
 -- What is asked of the slot is what the last `&&` is asked.
 asked : (c : tie.Joined3)
@@ -73,19 +43,9 @@ returns c = rw (← asked (c .before), c .if4 .taken)
 returns-2 : tie.Need-returns-2
 returns-2 c = rw (← asked (c .before), c .if4 .left)
 
-pub links-in-spec : {M : Type 1} → statement M
-links-in-spec =
+pub links-read-spec : {M : Type 1} → statement M
+links-read-spec =
     tie.close
     (tie.spec
-    get-requires
-    in-range-requires
-    get-requires-2
-    in-range-requires-2
-    get-requires-3
-    in-range-requires-3
-    get-requires-4
-    in-range-requires-4
-    get-requires-5
-    in-range-requires-5
-    returns
-    returns-2)
+    (λ c κs. search needs) (λ c κs. search needs) (λ c κs. search needs) (λ c κs. search needs) (λ c κs. search needs)
+    (λ c κs. search needs) (λ c κs. search needs) (λ c κs. search needs) (λ c κs. search needs) (λ c κs. search needs) returns returns-2)
