@@ -7,6 +7,8 @@ use harness::uploads;
 use harness::source::{Bin, Tables, Walk};
 use std::collections::{BTreeMap, HashMap};
 use std::hint::black_box;
+use std::io::{BufReader, Read, Write};
+use std::process::Command;
 use std::time::Instant;
 
 const ROUNDS: usize = 25;
@@ -367,11 +369,61 @@ fn tally_rows(rng: &mut Rng) {
         }
         theirs = theirs.min(from.elapsed().as_nanos() as f64 / files.len() as f64);
     }
-    row("a set of 512 slots loaded and tallied (source: Rust with a HashMap)", ours, Some(theirs), None);
-    println!("sets a second: ours {:.0}, Rust with a HashMap {:.0}", 1e9 / ours, 1e9 / theirs);
+    row("a set of 512 slots loaded and tallied, by the exports (source: Rust with a HashMap)", ours, Some(theirs), None);
+    if let Ok(figures) = std::env::var("FIGURES") {
+        week_row(&figures, &files);
+    }
+}
+
+/// The files again and again after their lengths, 4,000 in all, through `figures` as a program, which accepts and tallies each, and through
+/// this program as `bench week`, which makes a HashMap of each: the same input from a file, best of five.
+fn week_row(figures: &str, files: &[Vec<u8>]) {
+    let input = std::env::temp_dir().join(format!("week-{}", std::process::id()));
+    let block = |bytes: &Vec<u8>| [&(bytes.len() as u32).to_le_bytes()[..], bytes].concat();
+    let blocks: Vec<u8> = files.iter().flat_map(block).collect();
+    let mut out = std::fs::File::create(&input).expect("a file for the input");
+    (0..4000 / files.len()).for_each(|_| out.write_all(&blocks).expect("room for the input"));
+    drop(out);
+    let own = std::env::current_exe().expect("this program's path");
+    let timed = |mut program: Command| {
+        (0..5).fold(f64::INFINITY, |best, _| {
+            let from = Instant::now();
+            program.stdin(std::fs::File::open(&input).expect("the input"));
+            let told = program.output().expect("a program that runs").stdout;
+            assert!(told.starts_with(b"sets 4000\n"), "{}", String::from_utf8_lossy(&told));
+            best.min(from.elapsed().as_nanos() as f64 / 4000.0)
+        })
+    };
+    let ours = timed(Command::new(figures));
+    let mut week = Command::new(own);
+    week.arg("week");
+    let theirs = timed(week);
+    std::fs::remove_file(&input).expect("the input is there");
+    row("a set of 512 slots through ./figures (source: a Rust program with a HashMap)", ours, Some(theirs), None);
+    println!("sets a second: ./figures {:.0}, the Rust program {:.0}", 1e9 / ours, 1e9 / theirs);
+}
+
+/// `bench week`: reads sets' files, each after its length, makes a HashMap of each and looks every entry up.
+fn week() {
+    let mut input = BufReader::with_capacity(65536, std::io::stdin());
+    let mut into = Set { lengths: vec![0; 8], bins: vec![0; 1024], heads: vec![0; 768], names: vec![0; 1024], cells: vec![0; 3584] };
+    let (mut length, mut bytes, mut sets) = ([0; 4], Vec::new(), 0);
+    while input.read_exact(&mut length).is_ok() {
+        bytes.resize(u32::from_le_bytes(length) as usize, 0);
+        input.read_exact(&mut bytes).expect("a whole file");
+        read_words(&bytes, &mut into);
+        let pairs = into.names.chunks_exact(2).enumerate();
+        let map: HashMap<(u64, u64), u32> = pairs.map(|(x, name)| ((name[0], name[1]), x as u32)).collect();
+        assert!(into.names.chunks_exact(2).all(|name| black_box(map.get(&(name[0], name[1]))).is_some()));
+        sets += 1;
+    }
+    println!("sets {sets}");
 }
 
 fn main() {
+    if std::env::args().nth(1).as_deref() == Some("week") {
+        return week();
+    }
     println!("| what | ours, ns | source, ns | BTreeMap, ns | ours / source | ours / BTreeMap |");
     println!("|---|---|---|---|---|---|");
     let mut rng = Rng::new(5);

@@ -15,7 +15,7 @@ use Rattle.figure_rules.specs.Added.{Added, RefusedOnly}
 use Rattle.figure_rules.specs.Tally.{setTallied, TallyOutcome, tallyOutcome, tallies}
 use Rattle.figure_rules.specs.Stream.{Stream, newStream, inputEnds, figuresOf, piecesFigured}
 use Rattle.figure_rules.specs.Printed.{figuresText, weekText}
-use Rattle.figure_rules.specs.Claims.{EntryLooks, Tallies, Weeks, Streams, Claims}
+use Rattle.figure_rules.specs.Claims.{EntryLooks, Tallies, Weeks, Streams, StreamCalls, Claims}
 use Rattle.figure_rules.proofs.Adding.{share, set-long, set-word}
 use Rattle.figure_rules.proofs.Finding.{used-entry, used-found, used-looks, looks-most, slots-most, sum-entries}
 use Rattle.figure_rules.proofs.Sharing.{share-sets, share-refused, share-entries, share-lists, share-trees, share-looks, share-row}
@@ -25,6 +25,8 @@ use Rattle.figure_rules.proofs.Tallying.{narrow}
 use Rattle.figure_rules.proofs.Ordering.{ordered, week, all-fit, all-agree, no-fit, no-agree}
 use Rattle.figure_rules.proofs.Filing.{file-set, set-file, no-fit-set}
 use Rattle.figure_rules.proofs.Streaming.{pieces, whole-figures}
+use Rattle.figure_rules.proofs.Chunking.{start-fit}
+use Rattle.figure_rules.proofs.Calling.{taken, untaken, says-unfit, ended, unended, says-unended, kept, all-taken}
 use Rattle.figure_rules.proofs.Parsing.{read-input}
 use Rattle.figure_rules.proofs.Figuring.{up-to-million, past-million, file-words, order-whole, order-cut, cut-last}
 use Rattle.figure_rules.proofs.Sending.{sent-figures}
@@ -161,6 +163,16 @@ stream-claims =
       printed = printed-pieces;
     }
 
+call-claims : (d : Stream) → StreamCalls d
+call-claims d =
+    record {
+      one = λ l. (says-unfit d l, untaken d l);
+      end-one = (says-unended d, unended d);
+      taken = taken d;
+      ended = ended d;
+      ranges = λ b h. kept d b h;
+    }
+
 pub claims : Claims
 claims =
     record {
@@ -170,6 +182,9 @@ claims =
       weeks = week-claims;
       narrow = narrow;
       streams = stream-claims;
+      calls = call-claims;
+      started = λ s f. start-fit s f;
+      by-calls = λ k. all-taken k;
       prints = prints;
       room = text-short;
       worked = two-tallied;

@@ -14,7 +14,7 @@ use Rattle.file_rules.specs.File.{setBytes, Wide}
 use Rattle.file_rules.specs.Layout.{ofLengths, ofBins, ofHeads, ofNames, ofCells}
 use Rattle.file_rules.specs.Faults.{Larger, WholeFile, LoadVerdict}
 use Rattle.file_rules.specs.Left.{padding, padded, Zeroed}
-use Rattle.file_rules.specs.Loading.{LoadOutcome, cutOut, loadWhole}
+use Rattle.file_rules.specs.Loading.{LoadOutcome, loadWhole}
 use Rattle.file_rules.proofs.Why.{SameLengths}
 use Rattle.file_rules.proofs.Returning.{accepted-loadable}
 use Rattle.file_rules.proofs.Claims.{claims as file-claims}

@@ -12,6 +12,7 @@ pub mod Parsing
 pub mod Figuring
 pub mod Sending
 pub mod Chunking
+pub mod Calling
 pub mod Printing
 pub mod Sample
 pub mod Claims

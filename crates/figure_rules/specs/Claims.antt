@@ -20,8 +20,9 @@ use Rattle.figure_rules.specs.Totals.{FitTotals, noTotals, RowsAgree}
 use Rattle.figure_rules.specs.Added.{ownSearch, looksOf, overEntries, EntriesOnce, sumOver, Added, RefusedOnly, Sifted, Week}
 use Rattle.figure_rules.specs.Added.{Reordered}
 use Rattle.figure_rules.specs.Tally.{tallyOutcome, tallies, allTallied}
-use Rattle.figure_rules.specs.Stream.{noSet, Figures, figures, noFigures, withSets, Stream, bytesFigured, newStream, inputEnds}
-use Rattle.figure_rules.specs.Stream.{figuresOf, piecesFigured}
+use Rattle.figure_rules.specs.Stream.{noSet, Figures, figures, noFigures, withSets, Stream, stream, bytesFigured, newStream}
+use Rattle.figure_rules.specs.Stream.{inputEnds, figuresOf, piecesFigured}
+use Rattle.figure_rules.specs.Pieces.{FitStream, FitEnd, streamOutcome, streamStart, pieceTaken, inputEnded, piecesTaken, Pieces}
 use Rattle.figure_rules.specs.Input.{blocks, Files, fileSet, fileSets, CutShort, Input, CountedFile, filesOf, Sent}
 use Rattle.figure_rules.specs.Printed.{figuresText, weekText}
 use Rattle.figure_rules.specs.Sample.{listOfTwo, totalsOfTwo, inputOfTwo}
@@ -92,6 +93,19 @@ pub record Streams : Type 0 where
   -- what is printed is a function of the bytes
   pub printed : (ps : List (List ℕ)) → figuresText (inputEnds (piecesFigured newStream ps)) ≡ weekText (joinedBytes ps)
 
+-- The calls on a stream, on any words.
+pub record StreamCalls (d : Stream) : Type 0 where
+  -- what is out of its ranges is 1, and nothing changes
+  pub one : (l : List ℕ) → (pieceTaken d l ≡ streamOutcome (refused 1) d) ↔ (FitStream d → ⊥)
+  pub end-one : (inputEnded d ≡ streamOutcome (refused 1) d) ↔ (FitEnd d → ⊥)
+  -- else the bytes are taken one after the other, the input ends, and the sets counted so far are answered
+  pub taken : (l : List ℕ) → FitStream d
+      → pieceTaken d l ≡ streamOutcome (given (countedIn (bytesFigured d l .figured .totals))) (bytesFigured d l)
+  pub ended : FitEnd d
+      → inputEnded d ≡ streamOutcome (given (countedIn (inputEnds d .totals))) (stream 0 0 (d .loads) (inputEnds d))
+  -- what is in range stays in range
+  pub ranges : {l : List ℕ} → Bytes l → FitStream d → FitStream (pieceTaken d l .left)
+
 -- What is printed of the figures, line by line in its own letters.
 pub record PrintsFigures (f : Figures) : Type 0 where
   pub lines : List (List ℕ)
@@ -117,6 +131,10 @@ pub record Claims : Type 0 where
   -- "every word stays in 64 bits"
   pub narrow : (t : List ℕ) → FitTotals t → (j : ℕ) → totalAt t j < 2 ^ 64
   pub streams : Streams
+  pub calls : (d : Stream) → StreamCalls d
+  -- a start is in range where the totals are; so pieces from a start on, then the end, come to the figures of the input
+  pub started : (s : Set) {t : List ℕ} → FitTotals t → FitStream (streamStart s t)
+  pub by-calls : {ps : List (List ℕ)} → Pieces ps → inputEnded (piecesTaken newStream ps) .left .figured ≡ figuresOf (joinedBytes ps)
   pub prints : (f : Figures) → PrintsFigures f
   -- what is printed has room in 2,048 bytes
   pub room : (f : Figures) → length (figuresText f) ≤ 2048

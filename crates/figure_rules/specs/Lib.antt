@@ -2,6 +2,7 @@ pub mod Totals
 pub mod Added
 pub mod Tally
 pub mod Stream
+pub mod Pieces
 pub mod Input
 pub mod Printed
 pub mod Sample

@@ -7,4 +7,5 @@ pub mod Bytewise
 pub mod Running
 pub mod Stepping
 pub mod Noting
+pub mod Cutting
 pub mod Claims

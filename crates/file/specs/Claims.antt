@@ -2,14 +2,15 @@
 -- their words, notes by their word, and each public routine has one outcome, what it returns with all that is left in the lent slices.
 use mathlib.Core.Path.{_≡_}
 use mathlib.Core.List.{List, []}
-use Prim.Native.Nat.{ℕ, _<_}
+use Prim.Native.Nat.{ℕ, _*_, _<_}
+use lib.ListN.{take}
 use Rattle.slots.specs.Answers.{Answer, OneAnswer, valueBeside}
 use Rattle.slots.specs.Coded.{answerOf}
 use Rattle.upload_rules.specs.Reader.{Note, said}
 use Rattle.upload_rules.specs.Notes.{known, noteWord}
 use Rattle.set_rules.specs.Words.{Set, lentSet}
 use Rattle.file_rules.specs.Saving.{saved, saves}
-use Rattle.file_rules.specs.Loading.{Loading, loading, LoadOutcome, loadStart, loadChunk, loadEnd}
+use Rattle.file_rules.specs.Loading.{Loading, loading, LoadOutcome, mayGoOn, loadStart, loadChunk, loadEnd}
 use Rattle.file_rules.specs.Loader.{newLoader}
 use Rattle.file.specs.Saved.{saveOf}
 use Rattle.file.specs.Meanings.{loadReplyOf, loaderWords, loadedOf}
@@ -47,6 +48,12 @@ pub record Claims : Type 0 where
   pub start-one : OneAnswer (λ r. loadedOf r (lentSet [] [] [] [] []) ≡ loadStart (loading newLoader (lentSet [] [] [] [] [])))
   pub chunk-one : (d : Loading) (chunk : List ℕ) → OneAnswer (λ r. returnedBy loadedOf r ≡ loadChunk d chunk)
   pub end-one : (d : Loading) → OneAnswer (λ r. returnedBy loadedOf r ≡ loadEnd d)
+  pub may-go-on-one : (d : Loading) → OneAnswer (λ r. r ≡ mayGoOn d)
+  -- the front of a slice that a count cuts out
+  pub front-words-one : (count : ℕ) (words : List ℕ) → OneAnswer (λ r. r ≡ take count words)
+  pub front-heads-one : (count : ℕ) (heads : List ℕ) → OneAnswer (λ r. r ≡ take (3 * count) heads)
+  pub front-names-one : (count : ℕ) (names : List ℕ) → OneAnswer (λ r. r ≡ take (2 * count) names)
+  pub front-cells-one : (count : ℕ) (cells : List ℕ) → OneAnswer (λ r. r ≡ take (7 * count) cells)
   -- a note and its word: a noted answer's word says that answer, and a word that says a note is that note's
   pub load-note-one-to-one : (a b : LoadNoteAt) → loadNoteAtOf a ≡ loadNoteAtOf b → a ≡ b
   pub word-one : (n : Note) → OneAnswer (λ r. r ≡ noteWord n)

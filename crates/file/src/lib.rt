@@ -12,3 +12,5 @@ mod room;
 mod runs;
 // start, chunk and end.
 pub mod load;
+// The set that the counts cut out of the slices.
+pub mod cut;

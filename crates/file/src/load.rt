@@ -88,7 +88,7 @@ fn judge_end(
 }
 
 // Whether the loader is in range and, where nothing is noted, the slices hold what was counted.
-fn may_go_on(
+pub fn may_go_on(
     lengths: &[u32],
     bins: &[u32],
     heads: &[u32],

@@ -2,11 +2,11 @@
 use mathlib.Core.Path.{_≡_, refl, ap, sym, _∙_}
 use mathlib.Core.Logic.{_≢_}
 use mathlib.Core.Bool.{Bool, true, false}
-use mathlib.Core.List.{List, [], _∷_}
-use Prim.Native.Nat.{ℕ, zero, suc, _+_, _-_, _*_, _<_, _≤_}
+use mathlib.Core.List.{[], _∷_}
+use Prim.Native.Nat.{ℕ, zero, suc, _+_, _-_, _<_, _≤_}
 use native.Mathlib.Numerals.{add-one, sub-one}
 use native.Mathlib.Omega.{arith}
-use lib.ListN.{length, take}
+use lib.ListN.{length}
 use borrow.Author.Tests.{eq-eqb, ne-eqb}
 use Rattle.slots.specs.Words.{place, cell, nameOf, hashPart, keyPart}
 use Rattle.slots.specs.Answers.{Answer, none, some}
@@ -17,11 +17,10 @@ use Rattle.script_rules.specs.Letters.{letters}
 use Rattle.script_rules.specs.Blanks.{blanksFilled}
 use Rattle.script_rules.specs.Feeding.{Paper, typed}
 use Rattle.script_rules.proofs.Typing.{typed-append}
-use Rattle.set_rules.specs.Words.{Set, lentSet, tablesOf, lengthAt, headersIn, fits, binWord, bini}
+use Rattle.set_rules.specs.Words.{Set, tablesOf, lengthAt, headersIn, fits, binWord, bini}
 use Rattle.set_rules.specs.Cursor.{Cursor, Step, starts}
 use Rattle.set_rules.specs.Walk.{nexts}
 use Rattle.set_rules.proofs.Claims as set-rules
-use Rattle.file_rules.specs.Loader.{Loader, countTaken}
 use Rattle.file_rules.specs.Loading.{LoadOutcome, cutOut}
 use Rattle.listing_rules.specs.Lines.{homeTable, slotLine, walkLines, countsLine, noLine, setText, loadText}
 
@@ -97,13 +96,6 @@ set-told s p e f g h =
 pub unfit-told : (s : Set) {b : Bool} → b ≡ fits s → b ≡ false → noLine 1 ≡ setText s
 unfolding setText
 unfit-told s e f = rw (← e, f)
-
--- The set that the counts cut out.
-pub cut-told : (r : Loader) (t : Set) {l b h n c : List ℕ} → l ≡ take (countTaken r 0) (t .lengths) → b ≡ take (countTaken r 1) (t .bins)
-    → h ≡ take (3 * countTaken r 2) (t .heads) → n ≡ take (2 * countTaken r 3) (t .names) → c ≡ take (7 * countTaken r 3) (t .cells)
-    → setText (lentSet l b h n c) ≡ setText (cutOut r t)
-unfolding cutOut
-cut-told r t d e f g i = rw (d, e, f, g, i)
 
 -- What was answered.
 module _ (o : LoadOutcome) {a : Answer} (is : a ≡ o .answer) where

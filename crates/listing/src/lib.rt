@@ -1,4 +1,3 @@
 // What is printed of a set's file that was loaded (docs/PROGRAMS.md).
-mod cut;
 mod lines;
 pub mod tell;

@@ -1,10 +1,10 @@
 // What is printed of what the end call of a loader answers.
-use crate::cut::front_cells;
-use crate::cut::front_heads;
-use crate::cut::front_names;
-use crate::cut::front_words;
 use crate::lines::tell_set;
 use console::fill::fill;
+use file::cut::front_cells;
+use file::cut::front_heads;
+use file::cut::front_names;
+use file::cut::front_words;
 use file::load::Load;
 use file::loader::Loader;
 ghost use mathlib.Core.Path.{_≡_};

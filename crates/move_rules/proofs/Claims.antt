@@ -17,6 +17,7 @@ use Rattle.move_rules.proofs.Halves.{entriesIn, lowHalf, highHalf}
 use Rattle.move_rules.proofs.Splitting.{splits, all-is, low-is, high-is}
 use Rattle.move_rules.proofs.Deciding.{May, may-not, may-move, View, view}
 use Rattle.move_rules.proofs.Finishing.{finished-well}
+use Rattle.move_rules.proofs.Printing.{file-told, line-short}
 use Rattle.move_rules.proofs.Worked.{worked-moves}
 
 may-of : {s : Set} (k i : ℕ) → (CannotMove s k i → ⊥) → May s k i
@@ -126,5 +127,7 @@ claims =
         moved = went-well s k i (view s k i);
       };
       finishes = λ s f h. finished-well f h;
+      files = file-told;
+      room = line-short;
       worked = worked-moves;
     }

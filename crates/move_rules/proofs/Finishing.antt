@@ -21,8 +21,9 @@ use Rattle.set_rules.proofs.Mapping.{map-claims}
 use Rattle.move_rules.specs.Moving.{MoveOutcome, moves}
 use Rattle.move_rules.specs.Moved.{CannotMove, BinMoved}
 use Rattle.move_rules.specs.Finishing.{Finish, finishBegun, moveTold, binFinished, binsFinished, tablesFinished, finishing}
-use Rattle.move_rules.specs.Finished.{SameEntries, MovedBefore, OnlyLast}
+use Rattle.move_rules.specs.Finished.{SameEntries, MovedBefore, OnlyLast, MovesMade}
 use Rattle.move_rules.specs.Claims.{FinishesWell}
+use Rattle.move_rules.proofs.Splitting.{splits}
 use Rattle.move_rules.proofs.Deciding.{View, view}
 
 pub same-self : {s : Set} → Fit s → Accepted s → SameEntries s s
@@ -58,6 +59,7 @@ module _ {s : Set} (fit : Fit s) (acc : Accepted s) where
   -- All that comes before bin i of table k has had its turn.
   record Going (f : Finish) (k i : ℕ) : Type 0 where
     same : SameEntries s (f .set)
+    made : MovesMade s (f .gone) (f .set)
     onward : f .number ≡ 0 → MovedBefore (f .set) k i
     halted : f .number ≢ 0 → Halted f
 
@@ -130,6 +132,7 @@ module _ {s : Set} (fit : Fit s) (acc : Accepted s) where
             rw (eq-eqb (f .number) 0 e, z)
             (record {
               same = g .same;
+              made = g .made;
               onward = λ y. one-more (g .onward e) (is-moved (g .same) (g .onward e) c);
               halted = λ n. absurd (n e);
             })
@@ -137,6 +140,7 @@ module _ {s : Set} (fit : Fit s) (acc : Accepted s) where
             rw (eq-eqb (f .number) 0 e, z)
             (record {
               same = g .same;
+              made = g .made;
               onward = λ y. absurd (omega arith);
               halted = λ n. record {
                 number = refl;
@@ -150,13 +154,14 @@ module _ {s : Set} (fit : Fit s) (acc : Accepted s) where
             rw (eq-eqb (f .number) 0 e, z)
             (record {
               same = moved-same (g .same) b;
+              made = rw w (MovesMade.one-more (g .made) (splits x y (m .place) (m .unmoved)) b);
               onward = λ y. moved-before (g .same) b (g .onward e);
               halted = λ n. absurd (n refl);
             })
 
         go : Dec (f .number ≡ 0) → Going (binFinished f k i) k (suc i)
         go (yes e) = told e refl (view (f .set) k i)
-        go (no d) = rw (ne-eqb (f .number) 0 d) (record { same = g .same; onward = λ e. absurd (d e); halted = g .halted })
+        go (no d) = rw (ne-eqb (f .number) 0 d) (record { same = g .same; made = g .made; onward = λ e. absurd (d e); halted = g .halted })
 
   turns : {k : ℕ} {f : Finish} → suc k < tablesOf s → (v : ℕ) → v ≤ lengthAt s k → Going f k 0 → Going (binsFinished v f k) k v
   unfolding binsFinished
@@ -168,6 +173,7 @@ module _ {s : Set} (fit : Fit s) (acc : Accepted s) where
   tables-turn zero w =
       record {
         same = same-self fit acc;
+        made = MovesMade.no-move;
         onward = λ e. record { tables = λ m j b. absurd (omega arith); bins = λ j b. absurd (omega arith) };
         halted = λ n. absurd (n refl);
       }
@@ -177,6 +183,7 @@ module _ {s : Set} (fit : Fit s) (acc : Accepted s) where
       next {f} g =
           record {
             same = g .same;
+            made = g .made;
             onward = λ e. record { tables = λ m j b c. at m j b c (ℕ-discrete m k) (g .onward e); bins = λ j b. absurd (omega arith) };
             halted = g .halted;
           }
@@ -193,6 +200,7 @@ module _ {s : Set} (fit : Fit s) (acc : Accepted s) where
       let g = tables-turn (tablesOf s - 1) (omega (arith, fit .least)) in
       record {
         same = g .same;
+        gone = g .made;
         done = λ e. only (g .same) (g .onward e);
         stopped = λ n. (let h = g .halted n in (h .number, h .table, h .bin, h .refuses, h .before));
       }

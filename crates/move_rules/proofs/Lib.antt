@@ -15,5 +15,6 @@ pub mod Moving
 pub mod Splitting
 pub mod Deciding
 pub mod Finishing
+pub mod Printing
 pub mod Worked
 pub mod Claims

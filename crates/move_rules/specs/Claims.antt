@@ -1,16 +1,22 @@
 -- What crate `move_rules` proves, in one record. Every statement of the crate stands here.
 use mathlib.Core.Path.{_≡_}
 use mathlib.Core.Logic.{_≢_, _↔_}
-use mathlib.Core.List.{List}
+use mathlib.Core.List.{List, _++_}
 use Prim.Native.Nat.{ℕ, suc, _<_, _≤_}
-use lib.ListN.{length}
+use lib.ListN.{length, drop}
 use Rattle.slots.specs.Answers.{given, refused}
+use Rattle.endian.specs.Bytes.{Bytes}
+use Rattle.script_rules.specs.Text.{decimal}
+use Rattle.script_rules.specs.Letters.{letters, wordLine}
 use Rattle.set_rules.specs.Words.{Set, Fit, tablesOf, lengthAt}
 use Rattle.set_rules.specs.Accepted.{Accepted}
+use Rattle.file_rules.specs.File.{setBytes, setSize}
+use Rattle.file_rules.specs.Faults.{WholeFile, LoadVerdict}
 use Rattle.move_rules.specs.Moving.{moves}
 use Rattle.move_rules.specs.Moved.{SplitBin, CannotMove, RunOut, BinMoved}
 use Rattle.move_rules.specs.Finishing.{finishing}
-use Rattle.move_rules.specs.Finished.{SameEntries, MovedBefore, OnlyLast}
+use Rattle.move_rules.specs.Finished.{SameEntries, MovedBefore, OnlyLast, MovesMade}
+use Rattle.move_rules.specs.Printed.{Written, written, largestSlices, fileWritten}
 use Rattle.move_rules.specs.Worked.{WorkedMoves}
 
 -- A move of bin i of table k, on any words. "Refusals: 1, 10, 2 (here: not accepted), 16 Cannot move .., 5 where headers run out, in that
@@ -41,6 +47,8 @@ pub record MovesWell (s : Set) (k i : ℕ) : Type 0 where
 pub record FinishesWell (s : Set) : Type 0 where
   -- whether it is stopped or not, the set has what it had
   pub same : SameEntries s (finishing s .set)
+  -- moves lead to it, and as many entries are told as they moved
+  pub gone : MovesMade s (finishing s .gone) (finishing s .set)
   -- where nothing stops it "only the last table has entries"
   pub done : finishing s .number ≡ 0 → OnlyLast (finishing s .set)
   -- only a lack of headers stops it; the number, the table and the bin are those of the move that is refused, and all bins before are Moved
@@ -51,8 +59,29 @@ pub record FinishesWell (s : Set) : Type 0 where
       × (moves (finishing s .set) (finishing s .table) (finishing s .bin) .answer ≡ refused (finishing s .number))
       × MovedBefore (finishing s .set) (finishing s .table) (finishing s .bin)
 
+-- What `./finish` writes of the bytes l: one of three things, each with its reason.
+pub data FileVerdict (l out : List ℕ) : Written → Type 0 where
+  -- of an accepted file the file of a set that has what its set has, "only the last table has entries then", and "how many entries were
+  -- moved"; bytes behind it stay
+  finished : (s t : Set) (n : ℕ) → WholeFile largestSlices l s → Fit s → Accepted s → SameEntries s t → OnlyLast t → MovesMade s n t
+      → FileVerdict l out (written (setSize t) (setBytes t ++ drop (setSize t) out) (wordLine "moved " n))
+  -- where headers run out no byte: all bins before are Moved, and this one is refused
+  stopped : (s t : Set) (n k i : ℕ) → WholeFile largestSlices l s → Fit s → Accepted s → SameEntries s t → MovesMade s n t
+      → MovedBefore t k i
+      → suc k < tablesOf t
+      → i < lengthAt t k
+      → moves t k i .answer ≡ refused 5
+      → FileVerdict l out
+      (written 0 out (letters "no 5 table " ++ (decimal k ++ (letters " bin " ++ (decimal i ++ letters "\n")))))
+  -- of any other file no byte, and its number
+  refused-file : (n : ℕ) → 1 ≤ n → LoadVerdict largestSlices l n → FileVerdict l out (written 0 out (wordLine "no " n))
+
 pub record Claims : Type 0 where
   pub refusals : (s : Set) (k i : ℕ) → MoveRefusals s k i
   pub moving : (s : Set) (k i : ℕ) → MovesWell s k i
   pub finishes : (s : Set) → Fit s → Accepted s → FinishesWell s
+  -- with room for the file of any set
+  pub files : (l out : List ℕ) → Bytes l → 249776 ≤ length out → FileVerdict l out (fileWritten l out)
+  -- a line has room in 128 bytes
+  pub room : (l out : List ℕ) → length (fileWritten l out .line) ≤ 128
   pub worked : WorkedMoves

@@ -4,4 +4,5 @@ pub mod Joining
 pub mod Written
 pub mod Movable
 pub mod Moves
+pub mod Turns
 pub mod Claims

@@ -25,7 +25,7 @@ use Rattle.move_rules.specs.Moving.{headerIn, halfCount, halfFirst, mostListed,
 use Rattle.move_rules.specs.Moving.{binTaken}
 use Rattle.move_rules.specs.Moving.{halfLaid, lowLaid, bothLaid, movable, MoveOutcome, moveOutcome, movesBin, moves}
 use Rattle.move_rules.proofs.Deciding.{may-move}
-use Rattle.mover.specs.Moved.{halvesLaid}
+use Rattle.mover.specs.Moved.{halvesLaid, FitAccepted}
 
 -- Both halves laid, one after the other.
 pub both : (s : Set) (k i j g h low high : ℕ) {a b : ℕ} {t u v : Set} → a ≡ halfFirst s k i i → b ≡ halfFirst s k i j → t ≡ binTaken s k i
@@ -137,19 +137,19 @@ module _ (s : Set) (k i : ℕ) where
           go false z = rw (f, lt-ltb k (tablesOf s) b, z)
           go true z = absurd (not-yes v n (e ∙ rw (f, z)))
 
-      yes-accepts : given 1 ≡ accepts s → accepted s ≡ true
-      unfolding accepts
-      yes-accepts e = go (accepted s) refl
-        where
-          go : (t : Bool) → accepted s ≡ t → accepted s ≡ true
-          go true z = z
-          go false z = absurd (omega (arith, given-is (rw (f, z) at e)))
+    pub yes-accepts : given 1 ≡ accepts s → FitAccepted s
+    unfolding accepts
+    yes-accepts e = go (accepted s) refl
+      where
+        go : (t : Bool) → accepted s ≡ t → FitAccepted s
+        go true z = record { fit = f; accepts = z }
+        go false z = absurd (omega (arith, given-is (rw (f, z) at e)))
 
-      module _ (e : given 1 ≡ accepts s) {t : Bool} (m : t ≡ movable s k i) where
-        pub cannot-moves : t ≡ false → moveOutcome (refused 16) s ≡ moves s k i
-        unfolding moves
-        cannot-moves n = rw (f, lt-ltb k (tablesOf s) b, yes-accepts e, sym m ∙ n)
+  module _ (h : FitAccepted s) (b : k < tablesOf s) {t : Bool} (m : t ≡ movable s k i) where
+    pub cannot-moves : t ≡ false → moveOutcome (refused 16) s ≡ moves s k i
+    unfolding moves
+    cannot-moves n = rw (h .fit, lt-ltb k (tablesOf s) b, h .accepts, sym m ∙ n)
 
-        pub may-moves : t ≡ true → {o : MoveOutcome} → o ≡ movesBin s k i → o ≡ moves s k i
-        unfolding moves
-        may-moves n g = g ∙ rw (f, lt-ltb k (tablesOf s) b, yes-accepts e, sym m ∙ n)
+    pub may-moves : t ≡ true → {o : MoveOutcome} → o ≡ movesBin s k i → o ≡ moves s k i
+    unfolding moves
+    may-moves n g = g ∙ rw (h .fit, lt-ltb k (tablesOf s) b, h .accepts, sym m ∙ n)

@@ -5,5 +5,6 @@ mod headers;
 // What is written: each half strung, and laid as a list or as a tree.
 mod laying;
 mod passes;
-// The move.
+// The move, and all bins moved.
+pub mod finishing;
 pub mod moving;

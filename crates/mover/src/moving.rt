@@ -25,7 +25,7 @@ ghost use Rattle.slots.specs.Coded.{answerOf};
 ghost use Rattle.set_rules.specs.Words.{lentSet, fits, binsBefore};
 ghost use Rattle.move_rules.specs.Moving.{mostListed, parentMoved, moveOutcome, movesBin, moves};
 ghost use Rattle.move_rules.specs.Moving.{movable as mayMove, lacks as isLacking};
-ghost use Rattle.mover.specs.Moved.{moveOf, halvesLaid};
+ghost use Rattle.mover.specs.Moved.{moveOf, halvesLaid, FitAccepted};
 
 // What a move answers.
 pub enum MoveReply {
@@ -206,6 +206,29 @@ fn move_entries(
     MoveReply::Moved(low + high)
 }
 
+// A move of a bin of a set that fits and is accepted.
+pub(crate) fn move_accepted(
+    lengths: &[u32],
+    bins: &mut [u32],
+    heads: &mut [u32],
+    names: &[u64],
+    cells: &mut [u32],
+    table: u32,
+    bin: u32,
+) -> MoveReply
+    requires { ⌜ FitAccepted (lentSet (now lengths) (now bins) (now heads) (now names) (now cells)) × (table < length (now lengths)) ⌝ }
+    ensures { λ r. ⌜ moveOutcome (moveOf r)
+        (lentSet (now (lengths .entry)) (now (bins .exit)) (now (heads .exit)) (now (names .entry)) (now (cells .exit)))
+        ≡ moves
+        (lentSet (now (lengths .entry)) (now (bins .entry)) (now (heads .entry)) (now (names .entry)) (now (cells .entry))) table bin ⌝ }
+{
+    let may = movable(lengths, bins, heads, names, cells, table, bin);
+    if !may {
+        return MoveReply::CannotMove;
+    }
+    move_entries(lengths, bins, heads, names, cells, table, bin)
+}
+
 // Moves one bin of a table to the next table.
 pub fn move_bin(
     lengths: &[u32],
@@ -232,9 +255,5 @@ pub fn move_bin(
     let Acceptance::Yes = judged else {
         return MoveReply::Damaged;
     };
-    let may = movable(lengths, bins, heads, names, cells, table, bin);
-    if !may {
-        return MoveReply::CannotMove;
-    }
-    move_entries(lengths, bins, heads, names, cells, table, bin)
+    move_accepted(lengths, bins, heads, names, cells, table, bin)
 }

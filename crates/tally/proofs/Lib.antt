@@ -1,4 +1,6 @@
 pub mod Counting
 pub mod Looping
 pub mod Tallied
+pub mod Streaming
+pub mod Telling
 pub mod Claims

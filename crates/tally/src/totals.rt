@@ -19,7 +19,7 @@ pub(crate) const TREES: usize = 4;
 
 pub(crate) const LOOKS: usize = 5;
 
-const LAST_ROW: usize = 38;
+pub(crate) const LAST_ROW: usize = 38;
 
 const WORDS: usize = 39;
 

@@ -1,10 +1,11 @@
 -- Each slice is cut by its count.
 use mathlib.Core.Path.{ap, _∙_}
 use denote.Ref.{now}
-use Rattle.set_rules.specs.Words.{lentSet}
-use Rattle.script_rules.specs.Feeding.{typed}
+use Rattle.set_rules.specs.Words.{Set, lentSet}
+use Rattle.script_rules.specs.Feeding.{typed, lentPaper}
 use Rattle.file.specs.Meanings.{loaderWords}
-use Rattle.listing.proofs.Lining.{cut-told}
+use Rattle.file.proofs.Cutting.{cut-is}
+use Rattle.listing_rules.specs.Lines.{setText}
 use borrow.Author.Needs.{needs}
 use Rattle.listing.proofs.tell.tell_cut.Statement.{statement}
 use Rattle.listing.proofs.tell.tell_cut.Tie as tie
@@ -21,8 +22,8 @@ returns c =
     let a = c7 .args in
     let s = lentSet (now (a .lengths)) (now (a .bins)) (now (a .heads)) (now (a .names)) (now (a .cells)) in
     c1 .tell-set .ensures
-    ∙ ap (typed _)
-    (cut-told (loaderWords (a .r)) s (c6 .front-words .ensures) (c5 .front-words2 .ensures) (c4 .front-heads .ensures)
+    ∙ ap (λ (x : Set). typed (lentPaper (now (a .out)) 0) (setText x))
+    (cut-is (loaderWords (a .r)) s (c6 .front-words .ensures) (c5 .front-words2 .ensures) (c4 .front-heads .ensures)
     (c3 .front-names .ensures) (c2 .front-cells .ensures))
 
 pub tell-cut-spec : {M : Type 1} → statement M

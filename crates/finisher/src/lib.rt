@@ -1,0 +1,3 @@
+// What `./finish` writes of a set's file (docs/RULES.md, section 17).
+pub mod answer;
+mod cut;
