@@ -63,7 +63,8 @@
  * Answers. An answer is value + 2^32 * number + 2^48 * looks; oz_value, oz_number and oz_looks take it apart. Number 0
  * is no refusal. 1 to 18 are refusals: the value is 0, with 3 a slot, and nothing was written; what a refused
  * chunk or end call of an upload leaves stands with oz_read_chunk, and of a file with oz_load_chunk and oz_load_end. Where
- * several hold, the one that stands first in a routine's list below is given. A number above 100 is a failing test of oz_check.
+ * several hold, the one that stands first in a routine's list below is given; of a chunk the one whose byte comes first. A number
+ * above 100 is a failing test of oz_check.
  * Looks are how many slots oz_find or oz_lookup read the hash of, on a hit, on OZ_NULL and on 9; every other answer has
  * 0.
  *
@@ -123,7 +124,7 @@ static inline uint32_t oz_looks(uint64_t answer) { return (uint32_t)(answer >> 4
 extern "C" {
 #endif
 
-/* Writes an empty index into the five slices, every word of them, and answers 1. Refusal 1, exactly where their lengths
+/* Writes an empty index into the five slices, every word of them; the value is 1. Refusal 1, exactly where their lengths
  * do not fit; what stands in them does not matter. */
 uint64_t oz_fresh(uint64_t *names, size_t names_len, uint32_t *cells, size_t cells_len, uint32_t *head,
                   size_t head_len, uint32_t *sizes, size_t sizes_len, uint64_t *lines, size_t lines_len);
@@ -166,7 +167,7 @@ uint64_t oz_batch(uint64_t *names, size_t names_len, uint32_t *cells, size_t cel
                   size_t head_len, uint32_t *sizes, size_t sizes_len, uint64_t *lines, size_t lines_len,
                   const uint64_t *calls, size_t calls_len, uint64_t *answers, size_t answers_len);
 
-/* Begins an upload: writes the reader, whatever its words were, and nothing else, and answers 1. Refusals 1 (for a reader
+/* Begins an upload: writes the reader, whatever its words were, and nothing else; the value is 1. Refusals 1 (for a reader
  * that is not 8 words, too), 2, each with the reader as it was. */
 uint64_t oz_read_start(const uint64_t *names, size_t names_len, const uint32_t *cells, size_t cells_len,
                        const uint32_t *head, size_t head_len, const uint32_t *sizes, size_t sizes_len,
@@ -240,7 +241,7 @@ uint64_t oz_lookup(const uint32_t *lengths, size_t lengths_len, const uint32_t *
                    const uint32_t *heads, size_t heads_len, const uint64_t *names, size_t names_len,
                    const uint32_t *cells, size_t cells_len, uint32_t table, uint64_t hash, uint64_t key);
 
-/* Writes a cursor at the first bin of the table, and answers 1. Refusals 1 (for a cursor that is not 11 words, too),
+/* Writes a cursor at the first bin of the table; the value is 1. Refusals 1 (for a cursor that is not 11 words, too),
  * 10, each with the cursor as it was. */
 uint64_t oz_start(const uint32_t *lengths, size_t lengths_len, const uint32_t *bins, size_t bins_len,
                   const uint32_t *heads, size_t heads_len, const uint64_t *names, size_t names_len,
@@ -258,7 +259,7 @@ uint64_t oz_save(const uint32_t *lengths, size_t lengths_len, const uint32_t *bi
                  const uint32_t *heads, size_t heads_len, const uint64_t *names, size_t names_len,
                  const uint32_t *cells, size_t cells_len, uint8_t *out, size_t out_len);
 
-/* Begins a file: writes the loader, whatever its words were, and answers 1. Refusal 1 for a loader that is not 8 words, with
+/* Begins a file: writes the loader, whatever its words were; the value is 1. Refusal 1 for a loader that is not 8 words, with
  * the loader as it was. */
 uint64_t oz_load_start(uint64_t *loader, size_t loader_len);
 
