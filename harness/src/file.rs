@@ -3,7 +3,7 @@
 use harness::files::{counts, cut_out, saved_as, written, Loads, Model, MOST, MOST_BYTES};
 use harness::lent::{Lent, G8};
 use harness::oz::{Answer, Index, Set, NULL, STATE};
-use harness::reads::{same_search, walk_beside, whole_walk};
+use harness::reads::{asked, same_search, walk_beside, whole_walk};
 use harness::rng::Rng;
 use harness::sets;
 use harness::source::Tables;
@@ -160,10 +160,7 @@ impl Tally {
         let n = s.names.len() / 2;
         let tables = Tables::of_words(s).expect("an accepted set");
         for t in 0..s.lengths.len() {
-            for i in 0..n.min(48) + 4 {
-                let x = if n > 48 { rng.below(n as u64) as usize } else { i };
-                let there = i < n.min(48);
-                let (hash, key) = if there { (s.names[2 * x], s.names[2 * x + 1]) } else { (rng.below(20), rng.below(20)) };
+            for (hash, key) in asked(rng, s) {
                 let (ours, theirs) = (loaded.lookup(t as u32, hash, key), tables.search(t, hash, key, 64 * (n + 1) + 64));
                 self.lookups += 1;
                 self.hits += (ours.number == 0 && ours.value != NULL) as u64;

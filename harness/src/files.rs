@@ -1,7 +1,7 @@
 //! A set's file, by the words of section 16 alone: a writer, and a loader that keeps all bytes since the start and reads them anew at
 //! every call.
 use crate::accepted::{accepted, fits};
-use crate::lent::{Lent, G32, G64};
+use crate::lent::{Lent, LentSet, G64};
 use crate::oz::{self, Answer, Set};
 
 /// The most items that a section may have: tables, bin words, headers, slots.
@@ -270,24 +270,13 @@ pub fn saved_as(s: &Set, out: &[u8]) -> (Answer, Vec<u8>) {
 /// The slices of a call of the loader, each between guard words.
 #[derive(Clone, PartialEq)]
 pub struct Loads {
-    lengths: Lent<u32>,
-    bins: Lent<u32>,
-    heads: Lent<u32>,
-    names: Lent<u64>,
-    cells: Lent<u32>,
+    slices: LentSet,
     pub loader: Lent<u64>,
 }
 
 impl Loads {
     pub fn new(set: &Set, loader: &[u64]) -> Self {
-        Loads {
-            lengths: Lent::new(&set.lengths, G32),
-            bins: Lent::new(&set.bins, G32),
-            heads: Lent::new(&set.heads, G32),
-            names: Lent::new(&set.names, G64),
-            cells: Lent::new(&set.cells, G32),
-            loader: Lent::new(loader, G64),
-        }
+        Loads { slices: LentSet::new(set), loader: Lent::new(loader, G64) }
     }
 
     pub fn start(&mut self) -> Answer {
@@ -295,37 +284,25 @@ impl Loads {
     }
 
     pub fn chunk(&mut self, chunk: &[u8]) -> Answer {
-        let Loads { lengths, bins, heads, names, cells, loader } = self;
-        oz::load_chunk(lengths.lend(), bins.lend(), heads.lend(), names.lend(), cells.lend(), loader.lend(), chunk)
+        let LentSet { lengths, bins, heads, names, cells } = &mut self.slices;
+        oz::load_chunk(lengths.lend(), bins.lend(), heads.lend(), names.lend(), cells.lend(), self.loader.lend(), chunk)
     }
 
     pub fn end(&mut self) -> Answer {
-        let Loads { lengths, bins, heads, names, cells, loader } = self;
-        oz::load_end(lengths.lend(), bins.lend(), heads.lend(), names.lend(), cells.lend(), loader.lend())
+        let LentSet { lengths, bins, heads, names, cells } = &mut self.slices;
+        oz::load_end(lengths.lend(), bins.lend(), heads.lend(), names.lend(), cells.lend(), self.loader.lend())
     }
 
     pub fn guarded(&self) -> bool {
-        let small = [&self.lengths, &self.bins, &self.heads, &self.cells];
-        self.names.guarded(G64) && self.loader.guarded(G64) && small.iter().all(|lent| lent.guarded(G32))
+        self.slices.guarded() && self.loader.guarded(G64)
     }
 
     pub fn set(&self) -> Set {
-        Set {
-            lengths: self.lengths.get().to_vec(),
-            bins: self.bins.get().to_vec(),
-            heads: self.heads.get().to_vec(),
-            names: self.names.get().to_vec(),
-            cells: self.cells.get().to_vec(),
-        }
+        self.slices.set()
     }
 
     /// Whether slices and loader are the model's, and no guard word is another.
     pub fn is(&self, model: &Model) -> bool {
-        let set = &model.set;
-        let small = [(&self.lengths, &set.lengths), (&self.bins, &set.bins), (&self.heads, &set.heads), (&self.cells, &set.cells)];
-        self.guarded()
-            && self.loader.get() == model.loader
-            && self.names.get() == set.names
-            && small.iter().all(|(lent, words)| lent.get() == **words)
+        self.guarded() && self.loader.get() == model.loader && self.slices.is(&model.set)
     }
 }

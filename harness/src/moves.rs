@@ -3,7 +3,7 @@
 use harness::accepted::accepted;
 use harness::moving::{listed, move_beside, MOVED};
 use harness::oz::{Answer, Set};
-use harness::reads::{same_search, walk_beside, whole_walk};
+use harness::reads::{asked, same_search, walk_beside, whole_walk};
 use harness::rng::Rng;
 use harness::sets;
 use harness::source::Tables;
@@ -65,10 +65,7 @@ impl Tally {
     /// are to be the same slots. Looks are held where the words are the same.
     fn looks_up(&mut self, rng: &mut Rng, s: &Set, tables: &Tables, from: usize, same_words: bool) {
         let n = s.names.len() / 2;
-        for i in 0..n.min(40) + 4 {
-            let x = if n > 40 { rng.below(n as u64) as usize } else { i };
-            let there = i < n.min(40);
-            let (hash, key) = if there { (s.names[2 * x], s.names[2 * x + 1]) } else { (rng.below(20), rng.below(20)) };
+        for (hash, key) in asked(rng, s) {
             let (ours, theirs) = (s.lookup(from as u32, hash, key), tables.search(from, hash, key, 64 * (n + 1) + 64));
             self.lookups += 1;
             let same = if same_words { same_search(ours, theirs, n) } else { (ours.number, Some(ours.value)) == (0, theirs.0) };

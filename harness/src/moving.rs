@@ -1,6 +1,6 @@
 //! A move of one bin, by the words of section 17 alone, written apart from the library; the trees of its halves are grown by the source.
 use crate::accepted::{accepted, fits};
-use crate::lent::{Lent, G32, G64};
+use crate::lent::LentSet;
 use crate::oz::{self, Answer, Index, Set, LEFT, NEXT, NULL, PARENT, PREV, RIGHT, STATE};
 use crate::source::{By, Tree};
 
@@ -105,41 +105,11 @@ pub fn moved_as(s: &Set, table: u32, bin: u32) -> (Answer, Set) {
     (Answer::plain(0, all.len() as u32), left)
 }
 
-/// The slices of a move, each between guard words.
-pub struct Moves {
-    lengths: Lent<u32>,
-    bins: Lent<u32>,
-    heads: Lent<u32>,
-    names: Lent<u64>,
-    cells: Lent<u32>,
-}
-
-impl Moves {
-    pub fn new(s: &Set) -> Self {
-        Moves {
-            lengths: Lent::new(&s.lengths, G32),
-            bins: Lent::new(&s.bins, G32),
-            heads: Lent::new(&s.heads, G32),
-            names: Lent::new(&s.names, G64),
-            cells: Lent::new(&s.cells, G32),
-        }
-    }
-
-    pub fn move_bin(&mut self, table: u32, bin: u32) -> Answer {
-        oz::move_bin(self.lengths.get(), self.bins.lend(), self.heads.lend(), self.names.get(), self.cells.lend(), table, bin)
-    }
-
-    /// Whether the slices are this set's, and no guard word is another.
-    pub fn is(&self, s: &Set) -> bool {
-        let small = [(&self.lengths, &s.lengths), (&self.bins, &s.bins), (&self.heads, &s.heads), (&self.cells, &s.cells)];
-        self.names.guarded(G64) && self.names.get() == s.names && small.iter().all(|(lent, w)| lent.guarded(G32) && lent.get() == **w)
-    }
-}
-
 /// A move held against the model, words and all: its answer, and the set where it is as the model has it.
 pub fn move_beside(s: &Set, table: u32, bin: u32) -> (Answer, Result<Set, String>) {
-    let mut lent = Moves::new(s);
-    let answer = lent.move_bin(table, bin);
+    let mut lent = LentSet::new(s);
+    let LentSet { lengths, bins, heads, names, cells } = &mut lent;
+    let answer = oz::move_bin(lengths.get(), bins.lend(), heads.lend(), names.get(), cells.lend(), table, bin);
     let (wanted, left) = moved_as(s, table, bin);
     if answer == wanted && lent.is(&left) {
         return (answer, Ok(left));

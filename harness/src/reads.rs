@@ -1,5 +1,6 @@
 //! Reads of a frozen set beside the source's: lookups, whole walks, and walks entry by entry with the cursor's indexes.
 use crate::oz::{self, NULL};
+use crate::rng::Rng;
 use crate::source::{Tables, Walk};
 
 /// Whether a find or lookup of ours in so many slots has the slot and the looks of the source's; where the source would not end, 9 and as
@@ -9,6 +10,16 @@ pub fn same_search(ours: oz::Answer, (found, looks): (Option<u32>, usize), slots
         Some(at) => ours == (oz::Answer { number: 0, value: at, looks: looks as u32 }),
         None => looks > slots && ours == (oz::Answer { number: 9, value: 0, looks: slots as u32 }),
     }
+}
+
+/// Pairs to look up in a set: its own, or 48 of them drawn where it has more, and four that it need not have.
+pub fn asked(rng: &mut Rng, s: &oz::Set) -> Vec<(u64, u64)> {
+    let n = s.names.len() / 2;
+    let own = |rng: &mut Rng, i: usize| {
+        let x = if n > 48 { rng.below(n as u64) as usize } else { i };
+        (s.names[2 * x], s.names[2 * x + 1])
+    };
+    (0..n.min(48) + 4).map(|i| if i < n.min(48) { own(rng, i) } else { (rng.below(20), rng.below(20)) }).collect()
 }
 
 /// A whole walk of an accepted set by the exports alone, from start at table t until Done: how many slots it gives, or what is wrong with
