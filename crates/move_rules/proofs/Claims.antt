@@ -10,13 +10,14 @@ use Rattle.slots.specs.Answers.{given, refused}
 use Rattle.slots.proofs.Laws.{number}
 use Rattle.set_rules.specs.Words.{Set, Fit, tablesOf, binAt}
 use Rattle.set_rules.specs.Accepted.{Accepted}
-use Rattle.move_rules.specs.Moving.{movable, MoveOutcome}
+use Rattle.move_rules.specs.Moving.{movable, MoveOutcome, moveOutcome, moves}
 use Rattle.move_rules.specs.Moved.{SplitBin, CannotMove, RunOut, BinMoved}
 use Rattle.move_rules.specs.Claims.{Claims}
 use Rattle.move_rules.proofs.Halves.{entriesIn, lowHalf, highHalf}
 use Rattle.move_rules.proofs.Splitting.{splits, all-is, low-is, high-is}
 use Rattle.move_rules.proofs.Deciding.{May, may-not, may-move, View, view}
 use Rattle.move_rules.proofs.Finishing.{finished-well}
+use Rattle.move_rules.proofs.Stopping.{stopped}
 use Rattle.move_rules.proofs.Printing.{file-told, line-short}
 use Rattle.move_rules.proofs.Worked.{worked-moves}
 
@@ -105,6 +106,11 @@ module _ (s : Set) (k i : ℕ) where
     rw (low-is f h (m .place) (m .unmoved) c, high-is f h (m .place) (m .unmoved) c) b,
   )
 
+-- A move that answers a refusal comes to it with the set as it was.
+refusal-is : (s : Set) (k i n : ℕ) → n ≢ 0 → moves s k i .answer ≡ refused n → moves s k i ≡ moveOutcome (refused n) s
+refusal-is s k i n d e =
+    let t = unchanged s k i (view s k i) (λ z. d (sym (number e) ∙ z)) in λ x. moveOutcome (e x) (t x)
+
 pub claims : Claims
 claims =
     record {
@@ -127,6 +133,10 @@ claims =
         moved = went-well s k i (view s k i);
       };
       finishes = λ s f h. finished-well f h;
+      finishes-unfit = λ s n. stopped s 1 (omega arith) (omega arith)
+          (λ k i b. refusal-is s k i 1 (omega arith) (one s k i (view s k i) .1 n));
+      finishes-damaged = λ s f n. stopped s 2 (omega arith) (omega arith)
+          (λ k i b. refusal-is s k i 2 (omega arith) (two s k i (view s k i) .1 (f, b, n)));
       files = file-told;
       room = line-short;
       worked = worked-moves;

@@ -15,6 +15,7 @@ pub mod Moving
 pub mod Splitting
 pub mod Deciding
 pub mod Finishing
+pub mod Stopping
 pub mod Printing
 pub mod Worked
 pub mod Claims

@@ -1,6 +1,6 @@
 -- What crate `move_rules` proves, in one record. Every statement of the crate stands here.
 use mathlib.Core.Path.{_≡_}
-use mathlib.Core.Logic.{_≢_, _↔_}
+use mathlib.Core.Logic.{_≢_, _⊎_, _↔_}
 use mathlib.Core.List.{List, _++_}
 use Prim.Native.Nat.{ℕ, suc, _<_, _≤_}
 use lib.ListN.{length, drop}
@@ -59,6 +59,14 @@ pub record FinishesWell (s : Set) : Type 0 where
       × (moves (finishing s .set) (finishing s .table) (finishing s .bin) .answer ≡ refused (finishing s .number))
       × MovedBefore (finishing s .set) (finishing s .table) (finishing s .bin)
 
+-- All bins of a set whose every move is refused with n, since it does not fit or is not accepted: nothing is moved, and the first bin that
+-- there is, of a table that is not the last, stops it.
+pub record FinishRefused (s : Set) (n : ℕ) : Type 0 where
+  pub set : finishing s .set ≡ s
+  pub gone : finishing s .gone ≡ 0
+  pub number : (finishing s .number ≡ n) ⊎ (finishing s .number ≡ 0)
+  pub stops : (k : ℕ) → suc k < tablesOf s → 1 ≤ lengthAt s k → finishing s .number ≡ n
+
 -- What `./finish` writes of the bytes l: one of three things, each with its reason.
 pub data FileVerdict (l out : List ℕ) : Written → Type 0 where
   -- of an accepted file the file of a set that has what its set has, "only the last table has entries then", and "how many entries were
@@ -80,6 +88,8 @@ pub record Claims : Type 0 where
   pub refusals : (s : Set) (k i : ℕ) → MoveRefusals s k i
   pub moving : (s : Set) (k i : ℕ) → MovesWell s k i
   pub finishes : (s : Set) → Fit s → Accepted s → FinishesWell s
+  pub finishes-unfit : (s : Set) → (Fit s → ⊥) → FinishRefused s 1
+  pub finishes-damaged : (s : Set) → Fit s → (Accepted s → ⊥) → FinishRefused s 2
   -- with room for the file of any set
   pub files : (l out : List ℕ) → Bytes l → 249776 ≤ length out → FileVerdict l out (fileWritten l out)
   -- a line has room in 128 bytes
