@@ -398,7 +398,7 @@ fn read_any(rng: &mut Rng, l: &mut Live) -> (&'static str, oz::Answer, bool) {
     if rng.below(4) == 0 {
         let (before, words) = (l.clone(), reader.clone());
         let answer = oz::read_start(l.names.get(), l.cells.get(), l.head.get(), l.sizes.get(), l.lines.get(), reader.lend());
-        let made = answer.number == 0 && reader.get() == [0, 0, 0, 0, 0, l.lines.get()[0], 0, 0];
+        let made = answer.number == 0 && reader.get() == [0, 0, 0, 0, 0, l.lines.get()[0] + 1, 0, 0];
         let probe = before.clone().insert(0, 0, 0).number;
         let wanted = if reader.len != 8 || probe == 1 { 1 } else if probe == 2 { 2 } else { 0 };
         return ("read_start", answer, *l == before && reader.guarded(G64) && answer.number == wanted && (made || reader == words));
@@ -414,19 +414,23 @@ fn read_any(rng: &mut Rng, l: &mut Live) -> (&'static str, oz::Answer, bool) {
     };
     let (mut other, mut words) = (l.clone(), reader.clone());
     let (start, kept) = (l.clone(), reader.clone());
+    // Words with no mark are no reader's, zeros among them.
+    let unmarked = kept.len == 8 && kept.get()[5] == 0;
     if rng.below(4) == 0 {
         let answer = end(l, &mut reader);
         // An end call is noted, unless the reader is no reader: then nothing has changed.
         let again = end(&mut l.clone(), &mut reader.clone());
         let unread = *l == start && reader == kept;
         let noted = answer.number != 1 || unread || reader != kept;
-        return ("read_end", answer, again == answer && l.guarded() && reader.guarded(G64) && noted);
+        let refused = !unmarked || (answer.number == 1 && unread);
+        return ("read_end", answer, again == answer && l.guarded() && reader.guarded(G64) && noted && refused);
     }
     let at = rng.below(bytes.len() as u64 + 1) as usize;
     let answer = read(l, &mut reader, &bytes);
+    let refused = !unmarked || (answer.number == 1 && *l == start && reader == kept);
     read(&mut other, &mut words, &bytes[..at]);
     let cut = read(&mut other, &mut words, &bytes[at..]);
-    ("read_chunk", answer, cut == answer && *l == other && reader == words && l.guarded() && reader.guarded(G64))
+    ("read_chunk", answer, cut == answer && *l == other && reader == words && l.guarded() && reader.guarded(G64) && refused)
 }
 
 /// What is told of a tree, by its number.

@@ -13,8 +13,8 @@ use Rattle.file_rules.specs.Saving.{Saved, saved}
 use Rattle.file_rules.specs.Loader.{Loader, loaderOf, newLoader, countTaken}
 use Rattle.file_rules.specs.Loading.{loading, LoadOutcome, loadOutcome, loadStart, loadChunk, loadEnd}
 use Rattle.file.specs.Notes.{loadNoteAt}
-use Rattle.exports.specs.Loaders.{SaveWorded, saveWorded, LoaderSaid, sayingLoader, sayingNoLoader, loaderNoted, loaderIn}
-use Rattle.exports.specs.Loaders.{loaderWritten, loaderWorded, startedLoader, loadWorded, loadInto, chunkLoaded, endedLoader}
+use Rattle.word_rules.specs.Loaders.{SaveWorded, saveWorded, LoaderSaid, sayingLoader, sayingNoLoader, loaderNoted, loaderIn}
+use Rattle.word_rules.specs.Loaders.{loaderWritten, loaderWorded, startedLoader, loadWorded, loadInto, chunkLoaded, endedLoader}
 
 -- save's word is that of its answer.
 pub tells-save : {a : Answer} {o : Saved} {out : List ℕ} {w : ℕ} → w ≡ answerWord a → saved a out ≡ o

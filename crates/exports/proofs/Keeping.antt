@@ -7,7 +7,7 @@ use borrow.Author.Tests.{eq-eqb, ne-eqb}
 use Rattle.slots.specs.Answers.{Answer}
 use Rattle.set_rules.specs.Cursor.{Cursor, Step}
 use Rattle.slots.specs.Answers.{answerWord}
-use Rattle.exports.specs.Cursors.{cursorIn, written, leftIn, ofEleven}
+use Rattle.word_rules.specs.Cursors.{cursorIn, written, leftIn, ofEleven}
 
 -- The eleven reads, one after another.
 pub reads : (w : List ℕ) {b d x0 x1 x2 x3 x4 x5 x6 x7 l : ℕ} → b ≡ getD w 0 0

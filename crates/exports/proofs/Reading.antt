@@ -2,7 +2,7 @@
 use mathlib.Core.Path.{_≡_, ap, sym, _∙_}
 use mathlib.Core.Logic.{_≢_}
 use mathlib.Core.List.{List}
-use Prim.Native.Nat.{ℕ, _+_, _*_, _<_, _≤_}
+use Prim.Native.Nat.{ℕ, _+_, _-_, _*_, _<_, _≤_}
 use native.Mathlib.Omega.{arith}
 use lib.ListN.{length, getD, set}
 use borrow.Author.Tests.{eq-eqb, ne-eqb, lt-ltb, le-ltb}
@@ -12,8 +12,8 @@ use Rattle.upload_rules.specs.Reader.{Note, Reader, readerOf, newReader}
 use Rattle.upload_rules.specs.Reading.{session, ReadOutcome, readOutcome, readStart, readChunk, readEnd}
 use Rattle.reader.specs.Notes.{noteAt}
 use Rattle.upload_rules.specs.Notes.{NoteSaid, known, unknown, noteWord}
-use Rattle.exports.specs.Readers.{ReaderSaid, saying, sayingNone, withNote, readerIn, readerWritten, readWorded}
-use Rattle.exports.specs.Readers.{startedReader, readInto, chunkRead, endedReader}
+use Rattle.word_rules.specs.Readers.{ReaderSaid, saying, sayingNone, withNote, readerIn, readerWritten, readWorded}
+use Rattle.word_rules.specs.Readers.{startedReader, readInto, chunkRead, endedReader}
 
 -- What stands in the words.
 module _ (w : List ℕ) where
@@ -21,30 +21,35 @@ module _ (w : List ℕ) where
   unfolding readerIn
   not-eight n = rw (ne-eqb (length w) 8 n)
 
-  module _ (l : length w ≡ 8) {mark : ℕ} (e : mark ≡ getD w 5 0) where
-    pub wide-mark : 4294967295 < mark → sayingNone ≡ readerIn w
+  module _ (l : length w ≡ 8) {marked : ℕ} (e : marked ≡ getD w 5 0) where
+    pub not-marked : marked ≡ 0 → sayingNone ≡ readerIn w
     unfolding readerIn
-    wide-mark h = rw (eq-eqb (length w) 8 l, ← e, le-ltb mark 4294967296 (omega arith))
+    not-marked z = rw (eq-eqb (length w) 8 l, ← e, eq-eqb marked 0 z)
 
-    module _ (h : mark ≤ 4294967295) {n : NoteSaid} (f : n ≡ noteAt (getD w 7 0)) where
-      pub no-note : n ≡ unknown → sayingNone ≡ readerIn w
+    module _ (z : marked ≢ 0) where
+      pub wide-mark : 4294967296 < marked → sayingNone ≡ readerIn w
       unfolding readerIn
-      no-note u = rw (eq-eqb (length w) 8 l, ← e, lt-ltb mark 4294967296 (omega arith), ← f, u)
+      wide-mark h = rw (eq-eqb (length w) 8 l, ← e, ne-eqb marked 0 z, le-ltb marked 4294967297 (omega arith))
 
-      pub has-note : {x : Note} {r : ReaderSaid} → n ≡ known x → r ≡ withNote w (known x) → r ≡ readerIn w
-      unfolding readerIn
-      has-note u g = rw (eq-eqb (length w) 8 l, ← e, lt-ltb mark 4294967296 (omega arith), ← f, u) g
+      module _ (h : marked ≤ 4294967296) {n : NoteSaid} (f : n ≡ noteAt (getD w 7 0)) where
+        pub no-note : n ≡ unknown → sayingNone ≡ readerIn w
+        unfolding readerIn
+        no-note u = rw (eq-eqb (length w) 8 l, ← e, ne-eqb marked 0 z, lt-ltb marked 4294967297 (omega arith), ← f, u)
+
+        pub has-note : {x : Note} {r : ReaderSaid} → n ≡ known x → r ≡ withNote w (known x) → r ≡ readerIn w
+        unfolding readerIn
+        has-note u g = rw (eq-eqb (length w) 8 l, ← e, ne-eqb marked 0 z, lt-ltb marked 4294967297 (omega arith), ← f, u) g
 
 -- The eight words, read and written one by one.
 module _ (w : List ℕ) where
   pub eight-read : {a b c d e m t : ℕ} (n : Note) → a ≡ getD w 0 0 → b ≡ getD w 1 0 → c ≡ getD w 2 0 → d ≡ getD w 3 0 → e ≡ getD w 4 0
-      → m ≡ getD w 5 0 → t ≡ getD w 6 0
+      → m ≡ getD w 5 0 - 1 → t ≡ getD w 6 0
       → saying (readerOf a b c d e m t n) ≡ withNote w (known n)
   eight-read n e1 e2 e3 e4 e5 e6 e7 = rw (e1, e2, e3, e4, e5, e6, e7)
 
   pub eight-written : (r : Reader) {l1 l2 l3 l4 l5 l6 l7 l8 : List ℕ} {n : ℕ} → l1 ≡ set w 0 (r .section) → l2 ≡ set l1 1 (r .got)
       → l3 ≡ set l2 2 (r .owed)
-      → l4 ≡ set l3 3 (r .hash) → l5 ≡ set l4 4 (r .key) → l6 ≡ set l5 5 (r .mark) → l7 ≡ set l6 6 (r .taken) → n ≡ noteWord (r .note)
+      → l4 ≡ set l3 3 (r .hash) → l5 ≡ set l4 4 (r .key) → l6 ≡ set l5 5 (r .mark + 1) → l7 ≡ set l6 6 (r .taken) → n ≡ noteWord (r .note)
       → l8 ≡ set l7 7 n
       → l8 ≡ readerWritten w r
   unfolding readerWritten

@@ -1,8 +1,8 @@
 -- The reader and the loader that the code's enums stand for.
 use Rattle.reader.specs.Meanings.{wordsOf}
 use Rattle.file.specs.Meanings.{loaderWords}
-use Rattle.exports.specs.Readers.{ReaderSaid, saying, sayingNone}
-use Rattle.exports.specs.Loaders.{LoaderSaid, sayingLoader, sayingNoLoader}
+use Rattle.word_rules.specs.Readers.{ReaderSaid, saying, sayingNone}
+use Rattle.word_rules.specs.Loaders.{LoaderSaid, sayingLoader, sayingNoLoader}
 use Rattle.exports.specs.declared.files.LoaderAt.{LoaderAt}
 use Rattle.exports.specs.declared.files.LoaderAt.the-variants.{Known as KnownLoader, Unknown as UnknownLoader}
 use Rattle.exports.specs.declared.uploads.ReaderAt.{ReaderAt}

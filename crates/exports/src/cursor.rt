@@ -4,7 +4,7 @@ use slots::put_word;
 use slots::word;
 ghost use mathlib.Core.Path.{_≡_};
 ghost use Rattle.sets.specs.Cursors.{cursorOf};
-ghost use Rattle.exports.specs.Cursors.{cursorIn, written, leftIn};
+ghost use Rattle.word_rules.specs.Cursors.{cursorIn, written, leftIn};
 
 pub(crate) fn read(words: &[u32]) -> Cursor
     ensures { λ r. ⌜ cursorOf r ≡ cursorIn (now (words .entry)) ⌝ }

@@ -11,8 +11,8 @@ ghost use mathlib.Core.Path.{_≡_};
 ghost use Rattle.set_rules.specs.Words.{lentSet};
 ghost use Rattle.file_rules.specs.Saving.{saves};
 ghost use Rattle.file.specs.Meanings.{loaderWords};
-ghost use Rattle.exports.specs.Loaders.{SaveWorded, saveWorded, loaderIn, loaderWritten, loaderWorded, startedLoader};
-ghost use Rattle.exports.specs.Loaders.{loadWorded, chunkLoaded, endedLoader};
+ghost use Rattle.word_rules.specs.Loaders.{SaveWorded, saveWorded, loaderIn, loaderWritten, loaderWorded, startedLoader};
+ghost use Rattle.word_rules.specs.Loaders.{loadWorded, chunkLoaded, endedLoader};
 ghost use Rattle.exports.specs.Coded.{loaderAtOf};
 
 // The loader that eight words say, unless they say none.

@@ -13,8 +13,8 @@ ghost use Rattle.set_rules.specs.Words.{lentSet};
 ghost use Rattle.set_rules.specs.Accepting.{accepts};
 ghost use Rattle.set_rules.specs.Lookup.{lookups};
 ghost use Rattle.slots.specs.Answers.{answerWord};
-ghost use Rattle.exports.specs.Words.{searchWord};
-ghost use Rattle.exports.specs.Cursors.{Kept, startedInto, walkedInto};
+ghost use Rattle.word_rules.specs.Words.{searchWord};
+ghost use Rattle.word_rules.specs.Cursors.{Kept, startedInto, walkedInto};
 
 // Whether a frozen set is accepted.
 #[no_mangle]

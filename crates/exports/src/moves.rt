@@ -4,7 +4,7 @@ use slots::answer::answer_word;
 ghost use mathlib.Core.Path.{_≡_};
 ghost use Rattle.set_rules.specs.Words.{lentSet};
 ghost use Rattle.move_rules.specs.Moving.{moves};
-ghost use Rattle.exports.specs.Words.{MoveWorded, moveWorded};
+ghost use Rattle.word_rules.specs.Words.{MoveWorded, moveWorded};
 
 // How many entries of a bin of a table went to the two bins below it; a refused call writes nothing.
 #[no_mangle]

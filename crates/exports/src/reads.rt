@@ -15,7 +15,7 @@ ghost use Rattle.index_rules.specs.Check.{checks};
 ghost use Rattle.index_rules.specs.Sound.{sounds};
 ghost use Rattle.index_rules.specs.Ranks.{kths, positions};
 ghost use Rattle.slots.specs.Answers.{answerWord};
-ghost use Rattle.exports.specs.Words.{searchWord, checkWord};
+ghost use Rattle.word_rules.specs.Words.{searchWord, checkWord};
 
 // The slot of a live tree that has a pair, and how many slots were looked at.
 #[no_mangle]

@@ -10,7 +10,7 @@ ghost use Rattle.index_rules.specs.Live.{lentTree};
 ghost use Rattle.night_rules.specs.Why.{whys};
 ghost use Rattle.night.specs.Shown.{tellingShown};
 ghost use Rattle.night.specs.Whys.{whyOf};
-ghost use Rattle.exports.specs.Words.{WhyWorded, whyWorded};
+ghost use Rattle.word_rules.specs.Words.{WhyWorded, whyWorded};
 
 // Slot, other, then two ways, each its last slot, side, blacks; a refusal leaves the words as they were.
 fn show(shown: &mut [u32], told: Explanation)

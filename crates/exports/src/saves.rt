@@ -4,7 +4,7 @@ use slots::answer::answer_word;
 ghost use mathlib.Core.Path.{_≡_};
 ghost use Rattle.index_rules.specs.Live.{lentTree};
 ghost use Rattle.night_rules.specs.Salvage.{salvages};
-ghost use Rattle.exports.specs.Words.{SalvageWorded, salvageWorded};
+ghost use Rattle.word_rules.specs.Words.{SalvageWorded, salvageWorded};
 
 // How many slots of the first tree are kept: each is inserted into the second, and the report says what became of each slot; a refused
 // call writes nothing.

@@ -4,7 +4,7 @@ use tally::tally::tally;
 ghost use mathlib.Core.Path.{_≡_};
 ghost use Rattle.set_rules.specs.Words.{lentSet};
 ghost use Rattle.figure_rules.specs.Tally.{tallies};
-ghost use Rattle.exports.specs.Words.{TallyWorded, tallyWorded};
+ghost use Rattle.word_rules.specs.Words.{TallyWorded, tallyWorded};
 
 // 1 where the set is counted as accepted, 0 where as refused; a refused call leaves the totals as they were.
 #[no_mangle]

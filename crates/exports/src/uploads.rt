@@ -9,7 +9,7 @@ use slots::wide;
 ghost use mathlib.Core.Path.{_≡_};
 ghost use Rattle.index_rules.specs.Index.{lent};
 ghost use Rattle.reader.specs.Meanings.{wordsOf};
-ghost use Rattle.exports.specs.Readers.{readerIn, readerWritten, readWorded, startedReader, chunkRead, endedReader};
+ghost use Rattle.word_rules.specs.Readers.{readerIn, readerWritten, readWorded, startedReader, chunkRead, endedReader};
 ghost use Rattle.exports.specs.Coded.{readerAtOf};
 
 // The reader that eight words say, unless they say none.
@@ -24,8 +24,11 @@ fn read_words(words: &[u64]) -> ReaderAt
     if words.len() != 8 {
         return ReaderAt::Unknown;
     }
-    let mark = wide(words, 5);
-    if 4294967295 < mark {
+    let marked = wide(words, 5);
+    if marked == 0 {
+        return ReaderAt::Unknown;
+    }
+    if 4294967296 < marked {
         return ReaderAt::Unknown;
     }
     let said = Note::of_word(wide(words, 7));
@@ -38,7 +41,7 @@ fn read_words(words: &[u64]) -> ReaderAt
         owed: wide(words, 2),
         hash: wide(words, 3),
         key: wide(words, 4),
-        mark: mark as u32,
+        mark: (marked - 1) as u32,
         taken: wide(words, 6),
         note,
     };
@@ -53,7 +56,7 @@ fn write_words(words: &mut [u64], reader: Reader)
     put_wide(words, 2, reader.owed);
     put_wide(words, 3, reader.hash);
     put_wide(words, 4, reader.key);
-    put_wide(words, 5, reader.mark as u64);
+    put_wide(words, 5, reader.mark as u64 + 1);
     put_wide(words, 6, reader.taken);
     let note = reader.note;
     put_wide(words, 7, note.word());

@@ -5,7 +5,7 @@ ghost use mathlib.Core.Path.{_≡_};
 ghost use Prim.Native.Nat.{_<_};
 ghost use Rattle.slots.specs.Answers.{answerWord};
 ghost use Rattle.tree.specs.Find.{countedOf};
-ghost use Rattle.exports.specs.Words.{searchWord};
+ghost use Rattle.word_rules.specs.Words.{searchWord};
 
 // The word of a search: its answer's, and above it how many slots it looked at.
 pub(crate) fn search_word(counted: Counted) -> u64

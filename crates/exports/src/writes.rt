@@ -14,7 +14,7 @@ ghost use Rattle.index_rules.specs.Insert.{inserts};
 ghost use Rattle.index_rules.specs.Remove.{removes};
 ghost use Rattle.index_rules.specs.Replace.{replaces};
 ghost use Rattle.index_rules.specs.Rollback.{rolls};
-ghost use Rattle.exports.specs.Words.{Worded, worded, BatchWorded, batchWorded};
+ghost use Rattle.word_rules.specs.Words.{Worded, worded, BatchWorded, batchWorded};
 
 // An empty index is written into slices of fit lengths.
 #[no_mangle]

@@ -1,6 +1,6 @@
 -- The word says whether the cursor is written.
 use borrow.Author.Tests.{lt-ltb, le-ltb}
-use Rattle.exports.specs.Cursors.{leftIn}
+use Rattle.word_rules.specs.Cursors.{leftIn}
 use borrow.Author.Needs.{needs}
 use Rattle.exports.proofs.cursor.keep.Statement.{statement}
 use Rattle.exports.proofs.cursor.keep.Tie as tie

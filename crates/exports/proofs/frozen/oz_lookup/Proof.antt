@@ -6,8 +6,8 @@ use denote.Ref.{now}
 use Rattle.tree_rules.specs.Find.{Counted}
 use Rattle.set_rules.specs.Words.{lentSet}
 use Rattle.slots.specs.Answers.{answerWord}
-use Rattle.exports.specs.Words.{searchWord}
-use Rattle.exports.proofs.Answering.{lookups-plain, lookups-looks, answer-below}
+use Rattle.word_rules.specs.Words.{searchWord}
+use Rattle.word_rules.proofs.Answering.{lookups-plain, lookups-looks, answer-below}
 use borrow.Author.Needs.{needs}
 use Rattle.exports.proofs.frozen.oz_lookup.Statement.{statement}
 use Rattle.exports.proofs.frozen.oz_lookup.Tie as tie

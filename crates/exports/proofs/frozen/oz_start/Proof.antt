@@ -1,6 +1,6 @@
 -- A cursor of another length is refused; else the library starts a walk, and what it made is kept.
 use mathlib.Core.Path.{ap, _∙_}
-use Rattle.exports.specs.Cursors.{startedInto}
+use Rattle.word_rules.specs.Cursors.{startedInto}
 use Rattle.exports.proofs.Keeping.{short, long}
 use denote.Ref.{now}
 use Rattle.slots.specs.Answers.{answerWord}

@@ -1,7 +1,7 @@
 -- A cursor of another length is refused; else the library takes a step, and the new cursor is kept.
 use mathlib.Core.Path.{ap, _∙_}
 use Rattle.set_rules.specs.Walk.{nexts}
-use Rattle.exports.specs.Cursors.{walkedInto}
+use Rattle.word_rules.specs.Cursors.{walkedInto}
 use Rattle.exports.proofs.Keeping.{short, long}
 use denote.Ref.{now}
 use Rattle.slots.specs.Answers.{answerWord}

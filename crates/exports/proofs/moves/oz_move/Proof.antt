@@ -1,7 +1,7 @@
 -- The library comes to what the model does, and its word is that answer's.
 use mathlib.Core.Path.{ap, _∙_}
 use Rattle.slots.specs.Answers.{answerWord}
-use Rattle.exports.proofs.Moving.{tells-move}
+use Rattle.word_rules.proofs.Moving.{tells-move}
 use borrow.Author.Needs.{needs}
 use Rattle.exports.proofs.moves.oz_move.Statement.{statement}
 use Rattle.exports.proofs.moves.oz_move.Tie as tie

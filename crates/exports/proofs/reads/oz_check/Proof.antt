@@ -1,7 +1,7 @@
 -- The library answers what the model does, and its word is that answer's.
 use mathlib.Core.Path.{ap, _∙_}
 use Rattle.slots.specs.Answers.{wordOf}
-use Rattle.exports.specs.Words.{checkWord}
+use Rattle.word_rules.specs.Words.{checkWord}
 use borrow.Author.Needs.{needs}
 use Rattle.exports.proofs.reads.oz_check.Statement.{statement}
 use Rattle.exports.proofs.reads.oz_check.Tie as tie

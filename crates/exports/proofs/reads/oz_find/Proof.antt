@@ -6,8 +6,8 @@ use denote.Ref.{now}
 use Rattle.tree_rules.specs.Find.{Counted}
 use Rattle.index_rules.specs.Live.{unsized}
 use Rattle.slots.specs.Answers.{answerWord}
-use Rattle.exports.specs.Words.{searchWord}
-use Rattle.exports.proofs.Answering.{finds-plain, finds-looks, answer-below}
+use Rattle.word_rules.specs.Words.{searchWord}
+use Rattle.word_rules.proofs.Answering.{finds-plain, finds-looks, answer-below}
 use borrow.Author.Needs.{needs}
 use Rattle.exports.proofs.reads.oz_find.Statement.{statement}
 use Rattle.exports.proofs.reads.oz_find.Tie as tie

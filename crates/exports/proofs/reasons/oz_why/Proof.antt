@@ -2,7 +2,7 @@
 use denote.Ref.{now}
 use borrow.Author.Needs.{needs}
 use Rattle.index_rules.specs.Live.{lentTree}
-use Rattle.exports.proofs.Explaining.{why-short, why-long}
+use Rattle.word_rules.proofs.Explaining.{why-short, why-long}
 use Rattle.exports.proofs.reasons.oz_why.Statement.{statement}
 use Rattle.exports.proofs.reasons.oz_why.Tie as tie
 

@@ -6,8 +6,8 @@ use Rattle.night.specs.Shown.{tellingShown}
 use Rattle.night.specs.Told.{accountOf}
 use Rattle.night.specs.Whys.{whyOf}
 use Rattle.night.specs.declared.why.Explanation.{Explanation}
-use Rattle.exports.proofs.Explaining.{shown-written}
-use Rattle.exports.proofs.Holding.{long}
+use Rattle.word_rules.proofs.Explaining.{shown-written}
+use Rattle.word_rules.proofs.Holding.{long}
 use Rattle.exports.proofs.reasons.show.Statement.{statement}
 use Rattle.exports.proofs.reasons.show.Tie as tie
 

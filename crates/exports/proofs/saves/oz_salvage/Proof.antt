@@ -2,7 +2,7 @@
 use mathlib.Core.Path.{ap, _∙_}
 use borrow.Author.Needs.{needs}
 use Rattle.slots.specs.Answers.{answerWord}
-use Rattle.exports.proofs.Rescuing.{tells-salvage}
+use Rattle.word_rules.proofs.Rescuing.{tells-salvage}
 use Rattle.exports.proofs.saves.oz_salvage.Statement.{statement}
 use Rattle.exports.proofs.saves.oz_salvage.Tie as tie
 

@@ -1,7 +1,7 @@
 -- The library comes to what the model does, and its word is that answer's.
 use mathlib.Core.Path.{ap, _∙_}
 use Rattle.slots.specs.Answers.{answerWord}
-use Rattle.exports.proofs.Tallying.{tells-tally}
+use Rattle.word_rules.proofs.Tallying.{tells-tally}
 use borrow.Author.Needs.{needs}
 use Rattle.exports.proofs.totals.oz_tally.Statement.{statement}
 use Rattle.exports.proofs.totals.oz_tally.Tie as tie

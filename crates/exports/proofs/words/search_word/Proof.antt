@@ -2,7 +2,7 @@
 use mathlib.Core.Path.{ap}
 use Prim.Native.Nat.{_+_, _*_}
 use Rattle.tree.specs.Find.{countedOf}
-use Rattle.exports.specs.Words.{searchWord}
+use Rattle.word_rules.specs.Words.{searchWord}
 use borrow.Author.Needs.{needs}
 use Rattle.exports.proofs.words.search_word.Statement.{statement}
 use Rattle.exports.proofs.words.search_word.Tie as tie

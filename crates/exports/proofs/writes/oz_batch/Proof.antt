@@ -2,7 +2,7 @@
 use mathlib.Core.Path.{ap, _∙_}
 use Rattle.slots.specs.Answers.{answerWord}
 use borrow.Author.Needs.{needs}
-use Rattle.exports.proofs.Telling.{tells-batch}
+use Rattle.word_rules.proofs.Telling.{tells-batch}
 use Rattle.exports.proofs.writes.oz_batch.Statement.{statement}
 use Rattle.exports.proofs.writes.oz_batch.Tie as tie
 

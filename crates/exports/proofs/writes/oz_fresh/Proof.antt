@@ -2,7 +2,7 @@
 use mathlib.Core.Path.{ap, _∙_}
 use Rattle.slots.specs.Answers.{answerWord}
 use borrow.Author.Needs.{needs}
-use Rattle.exports.proofs.Telling.{tells}
+use Rattle.word_rules.proofs.Telling.{tells}
 use Rattle.exports.proofs.writes.oz_fresh.Statement.{statement}
 use Rattle.exports.proofs.writes.oz_fresh.Tie as tie
 

@@ -11,11 +11,11 @@ use Rattle.set_rules.proofs.Fit.{fits-fit}
 use Rattle.move_rules.specs.Moving.{halfCount, highIndex, lowHeader, highHeader, lacks, movable, MoveOutcome, moveOutcome, movesBin, moves}
 use Rattle.move_rules.proofs.Claims.{claims}
 use Rattle.mover.proofs.Moves.{half-most}
-use Rattle.exports.specs.Told.{Valued, gives}
-use Rattle.exports.specs.Words.{MoveWorded, moveWorded}
-use Rattle.exports.specs.Moved.{MoveTold}
-use Rattle.exports.proofs.Telling.{plainly, always-tells, told-when, told-given}
-use Rattle.exports.proofs.Answering.{picked}
+use Rattle.word_rules.specs.Told.{Valued, gives}
+use Rattle.word_rules.specs.Words.{MoveWorded, moveWorded}
+use Rattle.word_rules.specs.Moved.{MoveTold}
+use Rattle.word_rules.proofs.Telling.{plainly, always-tells, told-when, told-given}
+use Rattle.word_rules.proofs.Answering.{picked}
 
 module _ (s : Set) (k i : ℕ) where
   abbrev Tells : MoveOutcome → Type 0

@@ -13,7 +13,7 @@ use Rattle.upload_rules.specs.Reader.{Note, unsaid, said, Reader}
 use Rattle.file_rules.specs.Loader.{Loader}
 use Rattle.night_rules.specs.Account.{Account}
 use Rattle.night_rules.specs.Saved.{Usable}
-use Rattle.exports.specs.Told.{WordTells}
+use Rattle.word_rules.specs.Told.{WordTells}
 
 -- An answer of the reader: "the entries taken since the start, or a refusal".
 pub data ReaderAnswer : Answer → Type 0 where
@@ -45,10 +45,11 @@ pub record ReaderWords (w : List ℕ) (r : Reader) : Type 0 where
   pub owed : getD w 2 0 ≡ r .owed
   pub hash : getD w 3 0 ≡ r .hash
   pub key : getD w 4 0 ≡ r .key
-  pub mark : getD w 5 0 ≡ r .mark
+  -- "the mark of the start, and 1 more, so that eight zeros are no reader"
+  pub mark : getD w 5 0 ≡ r .mark + 1
   pub taken : getD w 6 0 ≡ r .taken
   pub note : NoteTold ReaderAnswer (r .note) (getD w 7 0)
-  -- the mark is "any of 32 bits"
+  -- the word is "1 to 2^32"
   pub narrow : r .mark < 4294967296
 
 -- An answer of the loader: "the bytes taken since the start", or "14 Over limit", "13 Long", "12 Short", "1 where the set that the counts

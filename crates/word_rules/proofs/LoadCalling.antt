@@ -25,17 +25,17 @@ use Rattle.file_rules.proofs.Ranges.{open-or, byte-open, byte-said, bytes-go, e
 use Rattle.file_rules.proofs.Testing.{in-goes, chunk-in, chunk-out, end-in, end-out}
 use Rattle.file_rules.proofs.Claims.{claims}
 use Rattle.file.proofs.Ranging.{taken-small}
-use Rattle.exports.specs.Told.{WordTells}
-use Rattle.exports.specs.Lent as L
-use Rattle.exports.specs.Lent.{LoaderAnswer, LoaderWords}
-use Rattle.exports.specs.Loaders.{sayingNoLoader, loaderIn, loaderWritten, startedLoader, LoadWorded, loadWorded, loadInto}
-use Rattle.exports.specs.Loaders.{chunkLoaded, endedLoader}
-use Rattle.exports.specs.Leaving.{RefusedBy}
-use Rattle.exports.specs.Filed.{LoadStartTold, LoadTold, UnknownLoader, LoadContinued, loadAfterStart, endAfterLoad, FileTold}
-use Rattle.exports.proofs.Telling.{answers-apart, one-word, taken-word}
-use Rattle.exports.proofs.Noting.{Sayable, silent, spoken, told-sayable, spoken-answer}
-use Rattle.exports.proofs.LoadSaying.{loader-tells, loader-written, written-again, SaidIn, says, none, said-in}
-use Rattle.exports.proofs.LoadSaying.{loader-words, loader-one}
+use Rattle.word_rules.specs.Told.{WordTells}
+use Rattle.word_rules.specs.Lent as L
+use Rattle.word_rules.specs.Lent.{LoaderAnswer, LoaderWords}
+use Rattle.word_rules.specs.Loaders.{sayingNoLoader, loaderIn, loaderWritten, startedLoader, LoadWorded, loadWorded, loadInto}
+use Rattle.word_rules.specs.Loaders.{chunkLoaded, endedLoader}
+use Rattle.word_rules.specs.Leaving.{RefusedBy}
+use Rattle.word_rules.specs.Filed.{LoadStartTold, LoadTold, UnknownLoader, LoadContinued, loadAfterStart, endAfterLoad, FileTold}
+use Rattle.word_rules.proofs.Telling.{answers-apart, one-word, taken-word}
+use Rattle.word_rules.proofs.Noting.{Sayable, silent, spoken, told-sayable, spoken-answer}
+use Rattle.word_rules.proofs.LoadSaying.{loader-tells, loader-written, written-again, SaidIn, says, none, said-in}
+use Rattle.word_rules.proofs.LoadSaying.{loader-words, loader-one}
 
 -- The note that a byte leaves.
 abbrev Says : Loading → Type 0

@@ -8,9 +8,9 @@ use Rattle.set_rules.specs.Words.{Set, Fit, tablesOf}
 use Rattle.set_rules.specs.Accepted.{Accepted}
 use Rattle.move_rules.specs.Moving.{MoveOutcome}
 use Rattle.move_rules.specs.Moved.{SplitBin, CannotMove, RunOut, BinMoved}
-use Rattle.exports.specs.Told.{WordTells}
-use Rattle.exports.specs.Leaving.{RefusedBy}
-use Rattle.exports.specs.Words.{MoveWorded}
+use Rattle.word_rules.specs.Told.{WordTells}
+use Rattle.word_rules.specs.Leaving.{RefusedBy}
+use Rattle.word_rules.specs.Words.{MoveWorded}
 
 -- oz_move of bin i of table k, on any words: of the rules' call that comes to o the word tells the answer, each number exactly when its
 -- reason holds.

@@ -24,10 +24,10 @@ use Rattle.set_rules.proofs.Naming.{ranges}
 use Rattle.set_rules.specs.Lookup.{listLook, soughtInList, homeBin, asked, forwarded, lookups}
 use Rattle.set_rules.specs.Cursor.{Cursor, Step, fineCursor}
 use Rattle.set_rules.specs.Walk.{WalkPlace, deepest, binHere, Sought, entered, sought, turnsIn, stepped, standing, stepsOn, nexts}
-use Rattle.exports.specs.Words.{searchWord}
-use Rattle.exports.specs.Told as T
-use Rattle.exports.specs.Told.{Valued, gives, LooksTold}
-use Rattle.exports.proofs.Telling.{answer-tells, told-below, looks-told}
+use Rattle.word_rules.specs.Words.{searchWord}
+use Rattle.word_rules.specs.Told as T
+use Rattle.word_rules.specs.Told.{Valued, gives, LooksTold}
+use Rattle.word_rules.proofs.Telling.{answer-tells, told-below, looks-told}
 
 -- The three kinds of answer, where there are n slots.
 pub data Plain (n : ℕ) : Answer → Type 0 where

@@ -27,11 +27,11 @@ use Rattle.night_rules.specs.Reason.{Reason}
 use Rattle.night_rules.specs.Salvage.{Salvaged, salvaged}
 use Rattle.night_rules.specs.Saved.{FitSalvage}
 use Rattle.night_rules.specs.Claims.{Saves}
-use Rattle.exports.specs.Told.{WordTells}
-use Rattle.exports.specs.Lent.{ReaderWords, CursorWords, AccountWords, SaysNothing, ReportWord}
-use Rattle.exports.specs.Words.{Worded, batchWorded, WhyWorded, SalvageWorded}
-use Rattle.exports.specs.Readers.{ReadWorded, startedReader, chunkRead, endedReader}
-use Rattle.exports.specs.Cursors.{Kept, startedInto, walkedInto}
+use Rattle.word_rules.specs.Told.{WordTells}
+use Rattle.word_rules.specs.Lent.{ReaderWords, CursorWords, AccountWords, SaysNothing, ReportWord}
+use Rattle.word_rules.specs.Words.{Worded, batchWorded, WhyWorded, SalvageWorded}
+use Rattle.word_rules.specs.Readers.{ReadWorded, startedReader, chunkRead, endedReader}
+use Rattle.word_rules.specs.Cursors.{Kept, startedInto, walkedInto}
 
 -- "Number 0 is no refusal": the word is that of a refusal.
 abbrev pub RefusedBy : ℕ → Type 0

@@ -18,16 +18,16 @@ use Rattle.file_rules.specs.Loader.{Loader, loaderOf}
 use Rattle.file_rules.proofs.Testing.{by-four}
 use Rattle.file.specs.Notes.{loadNoteWith, loadNoteAt}
 use Rattle.file.proofs.Noting.{at-unsaid, at-given, at-refused}
-use Rattle.exports.specs.Told.{gives, WordTells}
-use Rattle.exports.specs.Lent.{LoaderAnswer, loads, overLimit, longFile, shortFile, unfitSet, damagedSet}
-use Rattle.exports.specs.Lent.{NoteTold, nothing as unnoted, noted, LoaderWords}
-use Rattle.exports.specs.Loaders.{sayingLoader, sayingNoLoader, loaderIn, loaderWritten}
-use Rattle.exports.proofs.Telling.{value-some, value-none, plainly, always-tells}
-use Rattle.exports.proofs.Answering.{picked}
-use Rattle.exports.proofs.Giving.{Tellable}
-use Rattle.exports.proofs.Noting.{SaidBy, up, plain-by, one-note, Sayable, note-written}
-use Rattle.exports.proofs.Holding as H
-use Rattle.exports.proofs.Holding.{OfLength, end, one}
+use Rattle.word_rules.specs.Told.{gives, WordTells}
+use Rattle.word_rules.specs.Lent.{LoaderAnswer, loads, overLimit, longFile, shortFile, unfitSet, damagedSet}
+use Rattle.word_rules.specs.Lent.{NoteTold, nothing as unnoted, noted, LoaderWords}
+use Rattle.word_rules.specs.Loaders.{sayingLoader, sayingNoLoader, loaderIn, loaderWritten}
+use Rattle.word_rules.proofs.Telling.{value-some, value-none, plainly, always-tells}
+use Rattle.word_rules.proofs.Answering.{picked}
+use Rattle.word_rules.proofs.Giving.{Tellable}
+use Rattle.word_rules.proofs.Noting.{SaidBy, up, plain-by, one-note, Sayable, note-written}
+use Rattle.word_rules.proofs.Holding as H
+use Rattle.word_rules.proofs.Holding.{OfLength, end, one}
 
 -- A refusal, in a word.
 plain-said : (k : ℕ) {word : ℕ} → known (said (refused k)) ≡ loadNoteWith k 0 → k ≢ 0 → WordTells 4294967296 (refused k) word

@@ -29,18 +29,18 @@ use Rattle.upload_rules.proofs.Ranges.{no-test, in-range, range-in, byte-range}
 use Rattle.upload_rules.proofs.Cutting.{chunk-in, end-in}
 use Rattle.upload_rules.proofs.Claims.{claims}
 use Rattle.reader.proofs.Ranging.{few-taken}
-use Rattle.exports.specs.Told.{WordTells}
-use Rattle.exports.specs.Lent as L
-use Rattle.exports.specs.Lent.{ReaderAnswer, ReaderWords}
-use Rattle.exports.specs.Readers.{sayingNone, readerIn, readerWritten, ReadWorded, readWorded, readInto, startedReader}
-use Rattle.exports.specs.Readers.{chunkRead, endedReader}
-use Rattle.exports.specs.Leaving.{RefusedBy, UnknownReader, StartTold, ReadTold, Continued, chunkAfterStart, endAfterChunk}
-use Rattle.exports.specs.Leaving.{UploadTold}
-use Rattle.exports.proofs.Telling.{answers-apart, one-word, taken-word}
-use Rattle.exports.proofs.Giving as G
-use Rattle.exports.proofs.Noting.{Sayable, silent, spoken, told-sayable, spoken-answer}
-use Rattle.exports.proofs.Saying.{reader-tells, reader-written, written-again, SaidIn, says, none, said-in}
-use Rattle.exports.proofs.Saying.{reader-words, reader-one}
+use Rattle.word_rules.specs.Told.{WordTells}
+use Rattle.word_rules.specs.Lent as L
+use Rattle.word_rules.specs.Lent.{ReaderAnswer, ReaderWords}
+use Rattle.word_rules.specs.Readers.{sayingNone, readerIn, readerWritten, ReadWorded, readWorded, readInto, startedReader}
+use Rattle.word_rules.specs.Readers.{chunkRead, endedReader}
+use Rattle.word_rules.specs.Leaving.{RefusedBy, UnknownReader, StartTold, ReadTold, Continued, chunkAfterStart, endAfterChunk}
+use Rattle.word_rules.specs.Leaving.{UploadTold}
+use Rattle.word_rules.proofs.Telling.{answers-apart, one-word, taken-word}
+use Rattle.word_rules.proofs.Giving as G
+use Rattle.word_rules.proofs.Noting.{Sayable, silent, spoken, told-sayable, spoken-answer}
+use Rattle.word_rules.proofs.Saying.{reader-tells, reader-written, written-again, SaidIn, says, none, said-in}
+use Rattle.word_rules.proofs.Saying.{reader-words, reader-one}
 
 -- What an insert refuses with is an answer of the reader.
 insert-answers : (ix : Index) (hash key p : ℕ) → ReaderAnswer (inserts ix hash key p .answer)

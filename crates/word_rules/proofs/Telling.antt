@@ -16,10 +16,10 @@ use Rattle.tree_rules.specs.Find.{Search, counted}
 use Rattle.index_rules.specs.Index.{Index, Outcome}
 use Rattle.index_rules.specs.Batch.{Batched, batched}
 use Rattle.index_rules.proofs.Fit.{both}
-use Rattle.exports.specs.Told as T
-use Rattle.exports.specs.Told.{Valued, gives, refuses, present, fails, WordTells, LooksTold}
-use Rattle.exports.specs.Words.{searchWord, checkWord, worded, batchWorded}
-use Rattle.exports.specs.Leaving.{WritesTold}
+use Rattle.word_rules.specs.Told as T
+use Rattle.word_rules.specs.Told.{Valued, gives, refuses, present, fails, WordTells, LooksTold}
+use Rattle.word_rules.specs.Words.{searchWord, checkWord, worded, batchWorded}
+use Rattle.word_rules.specs.Leaving.{WritesTold}
 
 -- The answer of a number and a value.
 abbrev toldBy : ℕ → ℕ → ℕ → Answer

@@ -21,14 +21,14 @@ use Rattle.night_rules.specs.Why.{why, whys}
 use Rattle.night_rules.proofs.Claims.{claims}
 use Rattle.night.specs.Shown.{Telling, whyTold, tellingAnswer, tellingShown}
 use Rattle.night.proofs.Claims.{claims as night-claims}
-use Rattle.exports.specs.Told.{gives}
-use Rattle.exports.specs.Words.{WhyWorded, whyWorded}
-use Rattle.exports.specs.Lent as L
-use Rattle.exports.specs.Lent.{AccountWords, SaysNothing}
-use Rattle.exports.specs.Leaving.{ReasonTold}
-use Rattle.exports.proofs.Telling.{plainly, answer-tells}
-use Rattle.exports.proofs.Answering.{picked}
-use Rattle.exports.proofs.Holding.{OfLength, end, one}
+use Rattle.word_rules.specs.Told.{gives}
+use Rattle.word_rules.specs.Words.{WhyWorded, whyWorded}
+use Rattle.word_rules.specs.Lent as L
+use Rattle.word_rules.specs.Lent.{AccountWords, SaysNothing}
+use Rattle.word_rules.specs.Leaving.{ReasonTold}
+use Rattle.word_rules.proofs.Telling.{plainly, answer-tells}
+use Rattle.word_rules.proofs.Answering.{picked}
+use Rattle.word_rules.proofs.Holding.{OfLength, end, one}
 
 -- The words behind slot and other are null where no way is told.
 no-ways : (a b at : ℕ) → 2 ≤ at → at < 8

@@ -41,12 +41,12 @@ use Rattle.index_rules.proofs.Claims.{claims}
 use Rattle.set_rules.specs.Words.{Set}
 use Rattle.set_rules.specs.Words.{fits as setFits}
 use Rattle.set_rules.specs.Accepting.{accepted, accepts}
-use Rattle.exports.specs.Told as T
-use Rattle.exports.specs.Told.{Valued, gives, refuses, present, fails}
-use Rattle.exports.specs.Words.{batchWorded}
-use Rattle.exports.specs.Leaving.{EachTold, end, next, BatchTold}
-use Rattle.exports.proofs.Telling.{plainNumber, plainly, word-tells, answer-tells}
-use Rattle.exports.proofs.Answering.{picked}
+use Rattle.word_rules.specs.Told as T
+use Rattle.word_rules.specs.Told.{Valued, gives, refuses, present, fails}
+use Rattle.word_rules.specs.Words.{batchWorded}
+use Rattle.word_rules.specs.Leaving.{EachTold, end, next, BatchTold}
+use Rattle.word_rules.proofs.Telling.{plainNumber, plainly, word-tells, answer-tells}
+use Rattle.word_rules.proofs.Answering.{picked}
 
 -- An answer with its value in its word.
 abbrev pub Tellable : ℕ → Answer → Type 0

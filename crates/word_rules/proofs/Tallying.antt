@@ -9,11 +9,11 @@ use Rattle.set_rules.specs.Words.{Set}
 use Rattle.figure_rules.specs.Totals.{countedIn, mostSets, fitsTotals}
 use Rattle.figure_rules.specs.Tally.{TallyOutcome, tallyOutcome, isTaken, tallies}
 use Rattle.figure_rules.proofs.Claims.{claims}
-use Rattle.exports.specs.Told.{Valued, gives}
-use Rattle.exports.specs.Words.{TallyWorded, tallyWorded}
-use Rattle.exports.specs.Tallied.{TallyTold}
-use Rattle.exports.proofs.Telling.{plainly, always-tells, told-when, told-given}
-use Rattle.exports.proofs.Answering.{picked}
+use Rattle.word_rules.specs.Told.{Valued, gives}
+use Rattle.word_rules.specs.Words.{TallyWorded, tallyWorded}
+use Rattle.word_rules.specs.Tallied.{TallyTold}
+use Rattle.word_rules.proofs.Telling.{plainly, always-tells, told-when, told-given}
+use Rattle.word_rules.proofs.Answering.{picked}
 
 module _ (s : Set) (t : List ℕ) where
   -- Its value, and what it leaves where it is refused.

@@ -11,10 +11,10 @@ use Rattle.slots.specs.Words.{pick}
 use Rattle.slots.specs.Answers.{Answer, refused, answerWord}
 use Rattle.upload_rules.specs.Reader.{Note, unsaid, said}
 use Rattle.upload_rules.specs.Notes.{NoteSaid, known, unknown, noteWord}
-use Rattle.exports.specs.Told.{WordTells}
-use Rattle.exports.specs.Lent.{NoteTold, nothing as unnoted, noted}
-use Rattle.exports.proofs.Telling.{one-word, plainNumber, plainly}
-use Rattle.exports.proofs.Answering.{picked}
+use Rattle.word_rules.specs.Told.{WordTells}
+use Rattle.word_rules.specs.Lent.{NoteTold, nothing as unnoted, noted}
+use Rattle.word_rules.proofs.Telling.{one-word, plainNumber, plainly}
+use Rattle.word_rules.proofs.Answering.{picked}
 
 -- What a word says is told by it.
 abbrev pub SaidBy : (Answer → Type 0) → ℕ → NoteSaid → Type 0

@@ -15,10 +15,10 @@ use Rattle.file_rules.specs.Faults.{WholeFile, LoadVerdict}
 use Rattle.file_rules.specs.Left.{padded, Zeroed}
 use Rattle.file_rules.specs.Loader.{Loader, loaderOf, newLoader, FitLoader}
 use Rattle.file_rules.specs.Loading.{LoadOutcome}
-use Rattle.exports.specs.Told.{WordTells}
-use Rattle.exports.specs.Lent.{LoaderWords}
-use Rattle.exports.specs.Leaving.{RefusedBy}
-use Rattle.exports.specs.Loaders.{SaveWorded, startedLoader, LoadWorded, chunkLoaded, endedLoader}
+use Rattle.word_rules.specs.Told.{WordTells}
+use Rattle.word_rules.specs.Lent.{LoaderWords}
+use Rattle.word_rules.specs.Leaving.{RefusedBy}
+use Rattle.word_rules.specs.Loaders.{SaveWorded, startedLoader, LoadWorded, chunkLoaded, endedLoader}
 
 -- oz_save, on any words: of the rules' call that comes to o the word tells the answer, and what is left is what the rules say.
 pub record SaveTold (s : Set) (out : List ℕ) (o : Saved) (r : SaveWorded) : Type 0 where

@@ -21,14 +21,14 @@ use Rattle.set_rules.specs.Walk.{WalkPlace, deepest, binHere, further, advanced
 use Rattle.set_rules.specs.Walk.{stepsOn, nexts}
 use Rattle.set_rules.specs.Whole.{Listing}
 use Rattle.set_rules.proofs.Claims.{claims}
-use Rattle.exports.specs.Told as T
-use Rattle.exports.specs.Told.{gives, refuses, WordTells}
-use Rattle.exports.specs.Cursors.{cursorIn, written, leftIn, ofEleven, startedInto, walkedInto}
-use Rattle.exports.specs.Lent.{CursorWords}
-use Rattle.exports.specs.Leaving.{RefusedBy, UnknownCursor, CursorMade, WalkTold, WordsListing, WordsWalk}
-use Rattle.exports.proofs.Telling.{answers-apart, one-word, plainly, answer-tells}
-use Rattle.exports.proofs.Answering.{Plain, slot, none, picked, plain-valued, plain-below, nexts-plain}
-use Rattle.exports.proofs.Giving.{Tellable}
+use Rattle.word_rules.specs.Told as T
+use Rattle.word_rules.specs.Told.{gives, refuses, WordTells}
+use Rattle.word_rules.specs.Cursors.{cursorIn, written, leftIn, ofEleven, startedInto, walkedInto}
+use Rattle.word_rules.specs.Lent.{CursorWords}
+use Rattle.word_rules.specs.Leaving.{RefusedBy, UnknownCursor, CursorMade, WalkTold, WordsListing, WordsWalk}
+use Rattle.word_rules.proofs.Telling.{answers-apart, one-word, plainly, answer-tells}
+use Rattle.word_rules.proofs.Answering.{Plain, slot, none, picked, plain-valued, plain-below, nexts-plain}
+use Rattle.word_rules.proofs.Giving.{Tellable}
 
 -- A list taken apart as far as its length is known.
 pub data OfLength : ℕ → List ℕ → Type 0 where

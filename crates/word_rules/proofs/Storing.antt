@@ -18,10 +18,10 @@ use Rattle.file_rules.specs.File.{setBytes, setSize}
 use Rattle.file_rules.specs.Saving.{Saved, saved, saves}
 use Rattle.file_rules.proofs.Claims.{claims}
 use Rattle.file.proofs.Saving.{size-small}
-use Rattle.exports.specs.Loaders.{saveWorded}
-use Rattle.exports.specs.Told.{gives}
-use Rattle.exports.specs.Filed.{SaveTold}
-use Rattle.exports.proofs.Telling.{plainly, always-tells}
+use Rattle.word_rules.specs.Loaders.{saveWorded}
+use Rattle.word_rules.specs.Told.{gives}
+use Rattle.word_rules.specs.Filed.{SaveTold}
+use Rattle.word_rules.proofs.Telling.{plainly, always-tells}
 
 module _ (s : Set) (out : List ℕ) where
   -- Which of the three it comes to.

@@ -1,6 +1,6 @@
 -- The reader that the section reader's calls are lent: eight words, and what a call leaves in them.
 use mathlib.Core.List.{List}
-use Prim.Native.Nat.{ℕ}
+use Prim.Native.Nat.{ℕ, _+_, _-_}
 use lib.ListN.{length, getD, set}
 use lib.Dec.{eqb, ltb}
 use Rattle.slots.specs.Words.{pick}
@@ -11,23 +11,26 @@ use Rattle.upload_rules.specs.Reading.{session, ReadOutcome, readStart, readChu
 use Rattle.reader.specs.Notes.{noteAt}
 use Rattle.upload_rules.specs.Notes.{NoteSaid, known, unknown, noteWord}
 
--- The words say a reader, or none: the mark is no 32-bit word, or the note no answer of the reader.
+-- The words say a reader, or none: word 5 is 0, or more than 1 above a 32-bit word, or the note is no answer of the reader.
 pub data ReaderSaid : Type 0 where
   saying : Reader → ReaderSaid
   sayingNone : ReaderSaid
 
 abbrev pub withNote : List ℕ → NoteSaid → ReaderSaid
-withNote w (known n) = saying (readerOf (getD w 0 0) (getD w 1 0) (getD w 2 0) (getD w 3 0) (getD w 4 0) (getD w 5 0) (getD w 6 0) n)
+withNote w (known n) = saying (readerOf (getD w 0 0) (getD w 1 0) (getD w 2 0) (getD w 3 0) (getD w 4 0) (getD w 5 0 - 1) (getD w 6 0) n)
 withNote w unknown = sayingNone
 
--- "A reader of another length than eight words is 1."
+-- "A reader of another length than eight words is 1." Word 5 is "the mark of the start, and 1 more", "so that eight zeros are no reader".
 unfoldable pub readerIn : List ℕ → ReaderSaid
-readerIn w = pick (eqb (length w) 8) (pick (ltb (getD w 5 0) 4294967296) (withNote w (noteAt (getD w 7 0))) sayingNone) sayingNone
+readerIn w =
+    pick (eqb (length w) 8)
+    (pick (eqb (getD w 5 0) 0) sayingNone (pick (ltb (getD w 5 0) 4294967297) (withNote w (noteAt (getD w 7 0))) sayingNone))
+    sayingNone
 
 unfoldable pub readerWritten : List ℕ → Reader → List ℕ
 readerWritten w r =
     let low = set (set (set (set w 0 (r .section)) 1 (r .got)) 2 (r .owed)) 3 (r .hash) in
-    set (set (set (set low 4 (r .key)) 5 (r .mark)) 6 (r .taken)) 7 (noteWord (r .note))
+    set (set (set (set low 4 (r .key)) 5 (r .mark + 1)) 6 (r .taken)) 7 (noteWord (r .note))
 
 -- What a call comes to: its word, and what it leaves in the index and in the reader's words.
 pub record ReadWorded : Type 0 where

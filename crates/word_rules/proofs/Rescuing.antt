@@ -19,13 +19,13 @@ use Rattle.night_rules.specs.Claims.{Saves}
 use Rattle.night_rules.proofs.Keeping.{below-most}
 use Rattle.night_rules.proofs.Salvaged.{usable-least, usable-most, fit-tests}
 use Rattle.night_rules.proofs.Claims.{claims}
-use Rattle.exports.specs.Told.{gives}
-use Rattle.exports.specs.Words.{SalvageWorded, salvageWorded}
-use Rattle.exports.specs.Lent as L
-use Rattle.exports.specs.Lent.{SavedSlot, ReportWord}
-use Rattle.exports.specs.Leaving.{SalvageTold}
-use Rattle.exports.proofs.Telling.{plainly, answer-tells}
-use Rattle.exports.proofs.Answering.{picked}
+use Rattle.word_rules.specs.Told.{gives}
+use Rattle.word_rules.specs.Words.{SalvageWorded, salvageWorded}
+use Rattle.word_rules.specs.Lent as L
+use Rattle.word_rules.specs.Lent.{SavedSlot, ReportWord}
+use Rattle.word_rules.specs.Leaving.{SalvageTold}
+use Rattle.word_rules.proofs.Telling.{plainly, answer-tells}
+use Rattle.word_rules.proofs.Answering.{picked}
 
 module _ {names cells : List ℕ} where
   -- Of the slots with one pair there is one lowest.

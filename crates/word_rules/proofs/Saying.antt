@@ -16,17 +16,18 @@ use Rattle.upload_rules.specs.Reader.{Note, said, Reader, readerOf}
 use Rattle.reader.specs.Notes.{plainAt, noteWith, noteAt}
 use Rattle.upload_rules.specs.Notes.{NoteSaid, known, unknown, noteWord}
 use Rattle.reader.proofs.Noting.{at-unsaid, at-given, at-present, at-plain}
-use Rattle.exports.specs.Told as T
-use Rattle.exports.specs.Told.{gives, WordTells}
-use Rattle.exports.specs.Lent.{ReaderAnswer, takes, present, wrongKind, full, unlined, long, short, unfit, damaged, badMark, misfit}
-use Rattle.exports.specs.Lent.{NoteTold, nothing as unnoted, noted, ReaderWords}
-use Rattle.exports.specs.Readers.{saying, sayingNone, readerIn, readerWritten}
-use Rattle.exports.proofs.Telling.{value-some, value-none, plainly, always-tells}
-use Rattle.exports.proofs.Answering.{picked}
-use Rattle.exports.proofs.Giving.{Tellable}
-use Rattle.exports.proofs.Noting.{SaidBy, up, plain-by, one-note, Sayable, note-written}
-use Rattle.exports.proofs.Holding as H
-use Rattle.exports.proofs.Holding.{OfLength, end, one}
+use Rattle.word_rules.specs.Told as T
+use Rattle.word_rules.specs.Told.{gives, WordTells}
+use Rattle.word_rules.specs.Lent.{ReaderAnswer, takes, present, wrongKind, full, unlined, long, short, unfit, damaged, badMark}
+use Rattle.word_rules.specs.Lent.{misfit}
+use Rattle.word_rules.specs.Lent.{NoteTold, nothing as unnoted, noted, ReaderWords}
+use Rattle.word_rules.specs.Readers.{saying, sayingNone, readerIn, readerWritten}
+use Rattle.word_rules.proofs.Telling.{value-some, value-none, plainly, always-tells}
+use Rattle.word_rules.proofs.Answering.{picked}
+use Rattle.word_rules.proofs.Giving.{Tellable}
+use Rattle.word_rules.proofs.Noting.{SaidBy, up, plain-by, one-note, Sayable, note-written}
+use Rattle.word_rules.proofs.Holding as H
+use Rattle.word_rules.proofs.Holding.{OfLength, end, one}
 
 -- A refusal without a value, in a word.
 plain-said : (k : ℕ) {word : ℕ} → plainAt k ≡ known (said (refused k)) → k ≢ 0 → k ≢ 3 → WordTells 4294967296 (refused k) word
@@ -146,7 +147,7 @@ one-reader {w} {r} {s} p q =
     let e2 : r .owed ≡ s .owed = sym (p .owed) ∙ q .owed in
     let e3 : r .hash ≡ s .hash = sym (p .hash) ∙ q .hash in
     let e4 : r .key ≡ s .key = sym (p .key) ∙ q .key in
-    let e5 : r .mark ≡ s .mark = sym (p .mark) ∙ q .mark in
+    let e5 : r .mark ≡ s .mark = omega (arith, p .mark, q .mark) in
     let e6 : r .taken ≡ s .taken = sym (p .taken) ∙ q .taken in
     let n : known (r .note) ≡ known (s .note) = sym (note-said (p .note)) ∙ note-said (q .note) in
     let e7 : r .note ≡ s .note = cc in
@@ -175,11 +176,11 @@ pub data SaidIn (w : List ℕ) : Type 0 where
   none : readerIn w ≡ sayingNone → ((r : Reader) → ReaderWords w r → ⊥) → SaidIn w
 
 -- The eight words read are those of the table.
-reader-read : {w : List ℕ} → OfLength 8 w → (n : Note) → getD w 5 0 < 4294967296 → NoteTold ReaderAnswer n (getD w 7 0)
+reader-read : {w : List ℕ} → OfLength 8 w → (n : Note) → getD w 5 0 ≢ 0 → getD w 5 0 < 4294967297 → NoteTold ReaderAnswer n (getD w 7 0)
     → noteAt (getD w 7 0) ≡ known n → SaidIn w
 unfolding readerIn
-reader-read (one a (one b (one c (one d (one e (one f (one g (one h end)))))))) n l t k =
-    says (readerOf a b c d e f g n) (rw (lt-ltb f 4294967296 l, k))
+reader-read (one a (one b (one c (one d (one e (one f (one g (one h end)))))))) n z l t k =
+    says (readerOf a b c d e (f - 1) g n) (rw (ne-eqb f 0 z, lt-ltb f 4294967297 l, k))
     (record {
       eight = refl;
       section = refl;
@@ -187,24 +188,30 @@ reader-read (one a (one b (one c (one d (one e (one f (one g (one h end)))))))) 
       owed = refl;
       hash = refl;
       key = refl;
-      mark = refl;
+      mark = omega arith;
       taken = refl;
       note = t;
-      narrow = l;
+      narrow = omega arith;
     })
 
 pub said-in : (w : List ℕ) → SaidIn w
 unfolding readerIn
-said-in w = go (ℕ-discrete (length w) 8) (decLt (getD w 5 0) 4294967296) (noteAt (getD w 7 0)) refl
+said-in w = go (ℕ-discrete (length w) 8) (ℕ-discrete (getD w 5 0) 0) (decLt (getD w 5 0) 4294967297) (noteAt (getD w 7 0)) refl
   where
-    go : Dec (length w ≡ 8) → Dec (getD w 5 0 < 4294967296) → (n : NoteSaid) → noteAt (getD w 7 0) ≡ n → SaidIn w
-    go (no d) m n e = none (rw (ne-eqb (length w) 8 d)) (λ r h. d (h .eight))
-    go (yes l) (no d) n e =
-        none (rw (eq-eqb (length w) 8 l, le-ltb (getD w 5 0) 4294967296 (omega arith))) (λ r h. d (omega (arith, h .mark, h .narrow)))
-    go (yes l) (yes b) unknown e =
-        none (rw (eq-eqb (length w) 8 l, lt-ltb (getD w 5 0) 4294967296 b, e))
+    go : Dec (length w ≡ 8) → Dec (getD w 5 0 ≡ 0) → Dec (getD w 5 0 < 4294967297) → (n : NoteSaid) → noteAt (getD w 7 0) ≡ n → SaidIn w
+    go (no d) z m n e = none (rw (ne-eqb (length w) 8 d)) (λ r h. d (h .eight))
+    go (yes l) (yes z) m n e = none (rw (eq-eqb (length w) 8 l, eq-eqb (getD w 5 0) 0 z)) (λ r h. omega (arith, h .mark, z))
+    go (yes l) (no z) (no d) n e =
+        none (rw (eq-eqb (length w) 8 l, ne-eqb (getD w 5 0) 0 z, le-ltb (getD w 5 0) 4294967297 (omega arith)))
+        (λ r h. d (omega (arith, h .mark, h .narrow)))
+    go (yes l) (no z) (yes b) unknown e =
+        none (rw (eq-eqb (length w) 8 l, ne-eqb (getD w 5 0) 0 z, lt-ltb (getD w 5 0) 4294967297 b, e))
         (λ r h. (let q = note-said (h .note) in let z : _≡_ {A = ℕ} 0 1 = cc in omega arith))
-    go (yes l) (yes b) (known n) e = reader-read (H.long w l) n b (said-note e) e
+    go (yes l) (no z) (yes b) (known n) e = reader-read (H.long w l) n z b (said-note e) e
+
+-- Zeros are no reader, since none has 0 for word 5.
+pub zeros-none : (r : Reader) → ReaderWords (0 ∷ 0 ∷ 0 ∷ 0 ∷ 0 ∷ 0 ∷ 0 ∷ 0 ∷ []) r → ⊥
+zeros-none r h = omega (arith, h .mark)
 
 pub reader-words : (w : List ℕ) (r : Reader) → (readerIn w ≡ saying r) ↔ ReaderWords w r
 reader-words w r = go (said-in w)

@@ -8,9 +8,9 @@ use Rattle.set_rules.specs.Accepted.{Accepted}
 use Rattle.figure_rules.specs.Totals.{countedIn, mostSets, FitTotals}
 use Rattle.figure_rules.specs.Added.{Added, RefusedOnly}
 use Rattle.figure_rules.specs.Tally.{TallyOutcome}
-use Rattle.exports.specs.Told.{WordTells}
-use Rattle.exports.specs.Leaving.{RefusedBy}
-use Rattle.exports.specs.Words.{TallyWorded}
+use Rattle.word_rules.specs.Told.{WordTells}
+use Rattle.word_rules.specs.Leaving.{RefusedBy}
+use Rattle.word_rules.specs.Words.{TallyWorded}
 
 -- oz_tally of the set s into the totals t, on any words: of the rules' call that comes to o the word tells the answer, each number exactly
 -- when its reason holds.

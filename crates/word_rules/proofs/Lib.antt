@@ -1,0 +1,15 @@
+pub mod Telling
+pub mod Answering
+pub mod Giving
+pub mod Holding
+pub mod Noting
+pub mod Saying
+pub mod Calling
+pub mod Storing
+pub mod LoadSaying
+pub mod LoadCalling
+pub mod Explaining
+pub mod Rescuing
+pub mod Moving
+pub mod Tallying
+pub mod Claims

@@ -1,0 +1,11 @@
+pub mod Words
+pub mod Cursors
+pub mod Readers
+pub mod Loaders
+pub mod Told
+pub mod Lent
+pub mod Leaving
+pub mod Filed
+pub mod Moved
+pub mod Tallied
+pub mod Claims
