@@ -13,8 +13,8 @@ use slots::MOST_SLOTS;
 // The words of the journal: its length, and six to each of 1,024 lines.
 const JOURNAL_WORDS: usize = 1 + 6 * 1024;
 
-// Feeds all of the input, refused or not. A proved loop has to end, and nothing says that the input does: the turns are counted down from a
-// number that no run uses up.
+// Feeds the input up to its end or to the first refusal, which the end call gives again. A proved loop has to end, and nothing says that
+// the input does: the turns are counted down from a number that no run uses up.
 fn serve(
     reader: Reader,
     chunk: &mut [u8],
@@ -35,6 +35,11 @@ fn serve(
         let read = kept.chunk(names, cells, head, sizes, lines, &chunk[..n]);
         let next = read.reader;
         kept = next;
+        let reply = read.reply;
+        let told = reply.answer();
+        if told.number != 0 {
+            return kept;
+        }
         turns -= 1;
     }
     kept
