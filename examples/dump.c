@@ -7,15 +7,14 @@
 
 enum { SLOTS = 64, LINES = 16 };
 
-static uint64_t names[2 * SLOTS], lines[1 + 6 * LINES];
-static uint32_t cells[7 * SLOTS], head[3], sizes[SLOTS];
-
-#define INDEX names, 2 * SLOTS, cells, 7 * SLOTS, head, 3, sizes, SLOTS, lines, 1 + 6 * LINES
+static uint64_t names[OZ_NAMES_WORDS(SLOTS)], lines[OZ_LINES_WORDS(LINES)];
+static uint32_t cells[OZ_CELLS_WORDS(SLOTS)], head[OZ_HEAD_WORDS], sizes[OZ_SIZES_WORDS(SLOTS)];
+static oz_index ix = {names, cells, head, sizes, lines, SLOTS, LINES};
 
 int main(void) {
-    oz_fresh(INDEX);
-    oz_insert(INDEX, 17, 1, 10);
-    oz_insert(INDEX, 42, 2, 20);
-    oz_insert(INDEX, (uint64_t)1 << 63, 3, 30);
-    return dump_index(stdout, INDEX);
+    oz_index_fresh(&ix);
+    oz_index_insert(&ix, 17, 1, 10);
+    oz_index_insert(&ix, 42, 2, 20);
+    oz_index_insert(&ix, (uint64_t)1 << 63, 3, 30);
+    return dump_index(stdout, OZ_INDEX_OF(&ix));
 }

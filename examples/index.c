@@ -9,37 +9,33 @@
 
 enum { SLOTS = 64, LINES = 16 };
 
-static uint64_t names[2 * SLOTS], lines[1 + 6 * LINES];
-static uint32_t cells[7 * SLOTS], head[3], sizes[SLOTS];
-
-/* The slices, each a pointer and a number of words: a find reads the first three, a position the first four. */
-#define TREE names, 2 * SLOTS, cells, 7 * SLOTS, head, 3
-#define SIZED TREE, sizes, SLOTS
-#define INDEX SIZED, lines, 1 + 6 * LINES
+static uint64_t names[OZ_NAMES_WORDS(SLOTS)], lines[OZ_LINES_WORDS(LINES)];
+static uint32_t cells[OZ_CELLS_WORDS(SLOTS)], head[OZ_HEAD_WORDS], sizes[OZ_SIZES_WORDS(SLOTS)];
+static oz_index ix = {names, cells, head, sizes, lines, SLOTS, LINES};
 
 /* The value of an answer; a refusal ends the program. */
 static uint32_t value(uint64_t answer) {
     if (oz_number(answer) != 0) {
-        fprintf(stderr, "refused with %u\n", (unsigned)oz_number(answer));
+        fprintf(stderr, "no %u %s\n", (unsigned)oz_number(answer), oz_words(oz_number(answer)));
         exit(1);
     }
     return oz_value(answer);
 }
 
 int main(void) {
-    value(oz_fresh(INDEX));
-    printf("slot %u, ", (unsigned)value(oz_insert(INDEX, 17, 1, 10)));
-    uint32_t mark = (uint32_t)lines[0];
+    value(oz_index_fresh(&ix));
+    printf("slot %u, ", (unsigned)value(oz_index_insert(&ix, 17, 1, 10)));
+    uint32_t mark = oz_index_mark(&ix);
     printf("mark %u, ", (unsigned)mark);
-    printf("slot %u, ", (unsigned)value(oz_insert(INDEX, 42, 2, 20)));
-    uint64_t found = oz_find(TREE, 42, 2);
+    printf("slot %u, ", (unsigned)value(oz_index_insert(&ix, 42, 2, 20)));
+    uint64_t found = oz_index_find(&ix, 42, 2);
     printf("found at %u in %u looks, ", (unsigned)value(found), (unsigned)oz_looks(found));
-    uint32_t at = value(oz_position(SIZED, 42, 2));
-    if (value(oz_kth(SIZED, at)) != value(found)) {
+    uint32_t at = value(oz_index_position(&ix, 42, 2));
+    if (value(oz_index_kth(&ix, at)) != value(found) || oz_index_before(&ix, 42, 2) != at) {
         return 1;
     }
-    printf("name %u of %u, ", (unsigned)at + 1, (unsigned)head[2]);
-    printf("back %u, ", (unsigned)value(oz_rollback(INDEX, mark)));
-    puts(value(oz_find(TREE, 42, 2)) == OZ_NULL ? "found nowhere" : "still there");
+    printf("name %u of %u, ", (unsigned)at + 1, (unsigned)oz_index_count(&ix));
+    printf("back %u, ", (unsigned)value(oz_index_rollback(&ix, mark)));
+    puts(value(oz_index_find(&ix, 42, 2)) == OZ_NULL ? "found nowhere" : "still there");
     return 0;
 }

@@ -1,10 +1,9 @@
-//! Takes the source's files from the folder `FLURRY_SRC` (the crate's src/), appends the drivers, and links the exports.
+//! Takes the source's files from the folder `FLURRY_SRC` (the crate's src/) and appends the drivers. The crate oz links the exports.
 use std::path::Path;
 use std::{env, fs};
 
 fn main() {
     let src = env::var("FLURRY_SRC").expect("FLURRY_SRC: the folder that has flurry's node.rs");
-    let lib = env::var("OZ_LIB").expect("OZ_LIB: the folder that has libexports.a");
     let out = env::var("OUT_DIR").unwrap();
     for (from, to, driver) in [
         ("reclaim.rs", "reclaim.rs", None),
@@ -23,8 +22,4 @@ fn main() {
         fs::write(Path::new(&out).join(to), text).unwrap();
     }
     println!("cargo:rerun-if-env-changed=FLURRY_SRC");
-    println!("cargo:rerun-if-env-changed=OZ_LIB");
-    println!("cargo:rerun-if-changed={lib}/libexports.a");
-    println!("cargo:rustc-link-search=native={lib}");
-    println!("cargo:rustc-link-lib=static=exports");
 }

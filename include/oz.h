@@ -1,10 +1,37 @@
-/* The name index for C: link target/staticlib/libexports.a, made by `rt staticlib exports`, for x86-64.
+/* The name index for C99 and C++: link target/staticlib/libexports.a, made by `rt staticlib exports`, for x86-64.
  *
  * oz is our prefix, after Ozynterek. docs/RULES.md says what each routine promises, docs/HANDBOOK.md what to do with
- * each number; examples/ has a program in C and one in Rust.
+ * each number; examples/ has programs in C and one in Rust, whose crate is rust/.
+ *
+ * To begin. An index is five slices of words, which the caller owns; oz_index names them, and the calls oz_index_* at
+ * the end of this file take it:
+ *
+ *   enum { SLOTS = 64, LINES = 16 };
+ *   static uint64_t names[OZ_NAMES_WORDS(SLOTS)], lines[OZ_LINES_WORDS(LINES)];
+ *   static uint32_t cells[OZ_CELLS_WORDS(SLOTS)], head[OZ_HEAD_WORDS], sizes[OZ_SIZES_WORDS(SLOTS)];
+ *   static oz_index ix = {names, cells, head, sizes, lines, SLOTS, LINES};
+ *
+ *   oz_index_fresh(&ix);
+ *   uint64_t answer = oz_index_insert(&ix, hash, key, place);
+ *   if (oz_number(answer) != 0)
+ *       fprintf(stderr, "no %u %s\n", (unsigned)oz_number(answer), oz_words(oz_number(answer)));
+ *   else
+ *       printf("slot %u\n", (unsigned)oz_value(answer));
+ *
+ * An upload is oz_index_read_start, oz_index_read_chunk for each chunk, oz_index_read_end (examples/upload.c). To take
+ * calls back, keep oz_index_mark and give it to oz_index_rollback; to keep what was entered and begin a new journal,
+ * oz_index_begin_journal.
+ *
+ * Answers. An answer is value + 2^32 * number + 2^48 * looks; oz_value, oz_number and oz_looks take it apart. Number 0
+ * is no refusal. 1 to 18 are refusals: the value is 0, with 3 a slot, and nothing was written; what a refused
+ * chunk or end call of an upload leaves stands with oz_read_chunk, and of a file with oz_load_chunk and oz_load_end. Where
+ * several hold, the one that stands first in a routine's list below is given; of a chunk the one whose byte comes first. A number
+ * above 100 is a failing test of oz_check.
+ * Looks are how many slots oz_find or oz_lookup read the hash of, on a hit, on OZ_NULL and on 9; every other answer has
+ * 0.
  *
  * Slices. A slice is a pointer and its number of words. Every routine takes any words, any numbers and any lengths; a
- * pointer is not null and is aligned, even where its length is 0. No two slices of a call may overlap where one of them
+ * pointer is aligned, and may be null where its length is 0. No two slices of a call may overlap where one of them
  * is written. Nothing is allocated, and nothing is kept between calls.
  *
  *   names    u64, 2n      per slot: hash, key
@@ -25,14 +52,16 @@
  *   reader   u64, 8       of an upload: the caller keeps them between the calls and writes none. Sections that are whole;
  *                         bytes of the next one's header, 0 to 2, or in its entries 3 and the bytes of the entry; entries
  *                         to come in it, in the header the bytes of the count; the bytes of the entry's hash, and of its
- *                         key; the mark of the start; the entries taken; and the note, 0 while nothing is noted, else 1 +
- *                         the answer. docs/RULES.md, section 12, has their ranges
+ *                         key; the mark of the start + 1; the entries taken; and the note, 0 while nothing is noted, else
+ *                         1 + the answer. Eight zeros are no reader: chunk and end call answer 1 where no start was made.
+ *                         docs/RULES.md, section 12, has their ranges
  *   chunk    u8           of an upload or of a set's file: bytes of it, any number
  *   lengths  u32, 1 to 8  of a frozen set: the tables' lengths
  *   bins     u32          of a frozen set: all tables' bins in a row: 0 empty, 1 Moved, 2 + slot a list,
  *                         4098 + header a tree
  *   heads    u32, 3h      of a frozen set, per tree header: root, first, count
- *   cursor   u32, 11      base table, depth, eight indexes, last slot
+ *   cursor   u32, 11      base table, depth, eight indexes, last slot. Any numbers in range are a cursor, eleven zeros too: they
+ *                         walk on from bin 0 of table 0 behind slot 0, so that oz_walk does not tell that oz_start was left out
  *   out      u8, as many  of oz_save: the bytes of the file, OZ_FILE_BYTES of them
  *            or more
  *   loader   u64, 8       of a file that is loaded: the caller keeps them between the calls and writes none. Sections that are
@@ -60,13 +89,43 @@
  * Counts are of items: of a header's three words and a slot's nine one each. A file has OZ_FILE_BYTES(tables, words, headers,
  * slots) bytes, at most OZ_FILE_MOST.
  *
- * Answers. An answer is value + 2^32 * number + 2^48 * looks; oz_value, oz_number and oz_looks take it apart. Number 0
- * is no refusal. 1 to 18 are refusals: the value is 0, with 3 a slot, and nothing was written; what a refused
- * chunk or end call of an upload leaves stands with oz_read_chunk, and of a file with oz_load_chunk and oz_load_end. Where
- * several hold, the one that stands first in a routine's list below is given; of a chunk the one whose byte comes first. A number
- * above 100 is a failing test of oz_check.
- * Looks are how many slots oz_find or oz_lookup read the hash of, on a hit, on OZ_NULL and on 9; every other answer has
- * 0.
+ * Threads. No routine keeps anything between calls, and none writes but what it is lent to write: two threads may call
+ * at once on different slices, and on the same ones where both calls only read them; nobody else may write a slice while a
+ * call is lent it.
+ *
+ * Cost. 'Every slot' is the full check that a routine makes before it trusts the tree, of free slots too; 'the set' is
+ * the acceptance, of every bin, header and slot. A way down is at most 24 slots in a sound tree.
+ *
+ *   routine                            checks              then
+ *   oz_find                            nothing             a way down
+ *   oz_insert                          every slot          a way down and up, and the lowest free slot is sought
+ *   oz_remove                          every slot          a way down and up
+ *   oz_replace, oz_kth, oz_position    every slot          a way down
+ *   oz_rollback                        every slot          keeps the tree's words aside; ways down and up for each line
+ *   oz_batch                           every slot, once    for each call what it does singly after its check
+ *   oz_read_start                      every slot          nothing
+ *   oz_read_chunk                      every slot, once    an insert for each entry; where no entry ends in the chunk and it is not
+ *                                                          refused, nothing is checked. Large chunks are cheaper than small ones
+ *   oz_read_end                        nothing             where it refuses, a rollback with its check
+ *   oz_sound, oz_why                   every slot
+ *   oz_check                           the slots that it reaches from the root
+ *   oz_fresh                           nothing             writes every word
+ *   oz_salvage                         the second tree     each slot of the first, an insert for each that is kept
+ *   oz_lookup                          nothing             a bin in each table, then one list or a way down
+ *   oz_start, oz_walk                  nothing             on from bin to bin, over empty ones too
+ *   oz_accept                          the set
+ *   oz_save                            the set             each word, into the file
+ *   oz_load_end                        the set             writes the rest of the slices
+ *   oz_move                            the set             each entry of the bin, one that goes into a tree by a way down and up
+ *   oz_tally                           the set             a lookup for each entry
+ *   oz_load_start, oz_load_chunk       nothing             each byte
+ *
+ * When to count instead. oz_kth and oz_position go one way down, but check every slot before, free ones too: with 900 names
+ * in 4,096 slots each takes 36.8 microseconds, and oz_index_before, which counts along the chain and checks nothing, 1.8 for
+ * the same position (with 4,096 names 68.6 and 8.2; measured on x86-64, the best of 300 rounds). Count where only the library
+ * writes the words and nothing hangs on the position, as in 'name 214 of 900' on a screen; for many positions at once list the
+ * chain and sort it. Ask oz_kth and oz_position where the words may be damaged or something is decided by the answer: they
+ * answer 2 where the tree is not sound, and what they answer else is proved.
  *
  * Stack, as measured: oz_check 709 KiB and oz_why 388 KiB on 4,096 slots in one line, since they follow the links as deep as
  * they go; oz_rollback 198 KiB, since it keeps the tree's words and its sizes aside, and oz_read_chunk and oz_read_end 201 KiB
@@ -76,6 +135,10 @@
 #define OZ_H
 #include <stddef.h>
 #include <stdint.h>
+
+/* This number is another one whenever an argument of a routine or a word of a slice is: link a library of the commit that
+ * this header is of. */
+#define OZ_ABI 2
 
 /* Null, Nothing and Done. */
 #define OZ_NULL UINT32_C(4294967295)
@@ -102,23 +165,110 @@ enum {
     OZ_TEST = 100          /* 100 + t: test t of 1 to 8 of oz_check fails; the value is the slot */
 };
 
-/* The bytes of a set's file; its loader's words; and the most of each slice that a set has, with which every file that is
- * allowed can be loaded: 8, 8,160, 12,288, 8,192 and 28,672 words, and 249,776 bytes. */
+/* The words of each slice: of an index of n slots and c lines, and of the others. */
+#define OZ_NAMES_WORDS(n) (2 * (size_t)(n))
+#define OZ_CELLS_WORDS(n) (7 * (size_t)(n))
+#define OZ_HEAD_WORDS 3
+#define OZ_SIZES_WORDS(n) ((size_t)(n))
+#define OZ_LINES_WORDS(c) (1 + 6 * (size_t)(c))
+#define OZ_REPORT_WORDS(n) ((size_t)(n))
+#define OZ_CALLS_WORDS(calls) (4 * (size_t)(calls))
+#define OZ_ANSWERS_WORDS(calls) ((size_t)(calls))
+#define OZ_HEADS_WORDS(h) (3 * (size_t)(h))
+#define OZ_SHOWN_WORDS 8
+#define OZ_READER_WORDS 8
+#define OZ_LOADER_WORDS 8
+#define OZ_CURSOR_WORDS 11
+#define OZ_TOTALS_WORDS 39
+
+/* The bytes of a dump of an index (docs/RULES.md, section 15; examples/dump.h writes one), and of a set's file. */
+#define OZ_DUMP_BYTES(n, c) (28 + 48 * (size_t)(n) + 48 * (size_t)(c))
 #define OZ_FILE_BYTES(tables, words, headers, slots) \
     (16 + 4 * (size_t)(tables) + 4 * (size_t)(words) + 12 * (size_t)(headers) + 41 * (size_t)(slots))
+#define OZ_FILE_MOST OZ_FILE_BYTES(8, 8160, 4096, 4096)
+
+/* The limits; and the most of each slice that a set has, with which every file that is allowed can be loaded: 8, 8,160, 12,288,
+ * 8,192 and 28,672 words, and 249,776 bytes. */
 enum {
-    OZ_LOADER = 8,
+    OZ_SLOTS_LEAST = 1, /* of an index; a set may have none */
+    OZ_SLOTS_MOST = 4096,
+    OZ_LINES_MOST = 1024,
+    OZ_TABLES_MOST = 8,
+    OZ_HEADERS_MOST = 4096,
     OZ_LENGTHS_MOST = 8,
     OZ_BINS_MOST = 8160,
     OZ_HEADS_MOST = 3 * 4096,
     OZ_NAMES_MOST = 2 * 4096,
     OZ_CELLS_MOST = 7 * 4096
 };
-#define OZ_FILE_MOST OZ_FILE_BYTES(8, 8160, 4096, 4096)
 
+/* Where a word stands: slot i has its hash at names[2 * i + OZ_HASH] and its next link at cells[7 * i + OZ_NEXT]; line k of the
+ * journal has its kind at lines[1 + 6 * k + OZ_LINE_KIND]; call k of a batch has its kind at calls[4 * k + OZ_CALL_KIND]. */
+enum { OZ_HASH = 0, OZ_KEY = 1 };
+enum { OZ_PLACE = 0, OZ_STATE = 1, OZ_PARENT = 2, OZ_LEFT = 3, OZ_RIGHT = 4, OZ_PREV = 5, OZ_NEXT = 6 };
+enum { OZ_ROOT = 0, OZ_FIRST = 1, OZ_COUNT = 2 };
+enum { OZ_LINE_KIND = 0, OZ_LINE_HASH = 1, OZ_LINE_KEY = 2, OZ_LINE_PLACE = 3, OZ_LINE_HASH_BEFORE = 4, OZ_LINE_KEY_BEFORE = 5 };
+enum { OZ_CALL_KIND = 0, OZ_CALL_HASH = 1, OZ_CALL_KEY = 2, OZ_CALL_PLACE = 3 };
+/* of shown, of a loader whose file was accepted, of the totals (row i, of 1 to 32 looks, is totals[OZ_ROWS + i]) and of a cursor */
+enum {
+    OZ_SHOWN_SLOT = 0,
+    OZ_SHOWN_OTHER = 1,
+    OZ_SHOWN_LEFT_LAST = 2,
+    OZ_SHOWN_LEFT_SIDE = 3,
+    OZ_SHOWN_LEFT_BLACKS = 4,
+    OZ_SHOWN_RIGHT_LAST = 5,
+    OZ_SHOWN_RIGHT_SIDE = 6,
+    OZ_SHOWN_RIGHT_BLACKS = 7
+};
+enum { OZ_LOADED_TABLES = 3, OZ_LOADED_BINS = 4, OZ_LOADED_HEADERS = 5, OZ_LOADED_SLOTS = 6 };
+enum { OZ_SETS = 0, OZ_REFUSED = 1, OZ_ENTRIES = 2, OZ_LISTS = 3, OZ_TREES = 4, OZ_LOOKS = 5, OZ_ROWS = 5, OZ_MORE = 38 };
+enum { OZ_CURSOR_TABLE = 0, OZ_CURSOR_DEPTH = 1, OZ_CURSOR_INDEX = 2, OZ_CURSOR_LAST = 10 };
+
+/* What words mean: states, the kinds of lines and calls, bin words, and the words of a report. */
+enum { OZ_FREE = 0, OZ_BLACK = 1, OZ_RED = 2 };
+enum { OZ_INSERT = 1, OZ_REMOVE = 2, OZ_REPLACE = 3 };
+#define OZ_REMOVE_NOTED (UINT64_C(2) + (UINT64_C(1) << 32))
+enum { OZ_BIN_EMPTY = 0, OZ_BIN_MOVED = 1, OZ_BIN_LIST = 2, OZ_BIN_TREE = 4098 };
+enum { OZ_REPORT_KEPT = 0, OZ_REPORT_FREE = 1, OZ_REPORT_UNKNOWN = 2, OZ_REPORT_REPEATS = 3 };
+
+/* An answer taken apart. */
 static inline uint32_t oz_value(uint64_t answer) { return (uint32_t)answer; }
 static inline uint32_t oz_number(uint64_t answer) { return (uint16_t)(answer >> 32); }
 static inline uint32_t oz_looks(uint64_t answer) { return (uint32_t)(answer >> 48); }
+
+/* A number in words; docs/HANDBOOK.md says what to do with each. */
+static inline const char *oz_words(unsigned number) {
+    switch (number) {
+    case 0: return "no refusal";
+    case OZ_UNFIT: return "unfit: lengths that do not fit, a limit that is broken, or words out of their ranges";
+    case OZ_DAMAGED: return "damaged: the tree is not sound, or the set is not accepted";
+    case OZ_PRESENT: return "present: the pair is there already";
+    case OZ_ABSENT: return "absent: the pair is not there";
+    case OZ_FULL: return "full: no slot is free, or too few headers";
+    case OZ_JOURNAL_FULL: return "journal full: no line is left";
+    case OZ_BAD_MARK: return "bad mark: it is above the journal's length";
+    case OZ_MISFIT: return "misfit: the journal's lines do not fit the tree";
+    case OZ_LOST: return "lost: a word leads nowhere, or to more slots than there are";
+    case OZ_UNKNOWN_TABLE: return "unknown table: there is none of this number";
+    case OZ_BAD_CURSOR: return "bad cursor: it is none of this set";
+    case OZ_SHORT: return "short: the bytes end before the last section is whole";
+    case OZ_LONG: return "long: a byte comes after the last section";
+    case OZ_OVER_LIMIT: return "over limit: a count passes its limit or its slice";
+    case OZ_OUT_OF_RANGE: return "out of range: the position is not below the count";
+    case OZ_CANNOT_MOVE: return "cannot move: no next table, no such bin, already Moved, or its parent bin not Moved";
+    case OZ_TOO_MANY: return "too many: a million sets are counted";
+    case OZ_WRONG_KIND: return "wrong kind: a section begins with another byte than its kind";
+    case OZ_TEST + 1: return "test 1 fails: the slot's prev does not have it as next";
+    case OZ_TEST + 2: return "test 2 fails: the slot's next does not have it as prev";
+    case OZ_TEST + 3: return "test 3 fails: the slot's parent does not have it as a child";
+    case OZ_TEST + 4: return "test 4 fails: the slot's left child does not have it as parent";
+    case OZ_TEST + 5: return "test 5 fails: the slot's left child has a greater hash";
+    case OZ_TEST + 6: return "test 6 fails: the slot's right child does not have it as parent";
+    case OZ_TEST + 7: return "test 7 fails: the slot's right child has a smaller hash";
+    case OZ_TEST + 8: return "test 8 fails: the slot is red, and so are both its children";
+    default: return "no number of the library";
+    }
+}
 
 #ifdef __cplusplus
 extern "C" {
@@ -305,4 +455,103 @@ uint64_t oz_tally(const uint32_t *lengths, size_t lengths_len, const uint32_t *b
 #ifdef __cplusplus
 }
 #endif
+
+/* An index: its five slices, with the lengths that n = slots and c = journal give them. The calls below are those of the same name
+ * on these slices, and answer the same words. */
+typedef struct oz_index {
+    uint64_t *names;
+    uint32_t *cells;
+    uint32_t *head;
+    uint32_t *sizes;
+    uint64_t *lines;
+    size_t slots;   /* the slots, 1 to 4,096 */
+    size_t journal; /* the lines that the journal has room for, 0 to 1,024 */
+} oz_index;
+
+/* The slices as arguments: what oz_find is lent, what oz_position is lent, and all five. */
+#define OZ_TREE_OF(ix) (ix)->names, OZ_NAMES_WORDS((ix)->slots), (ix)->cells, OZ_CELLS_WORDS((ix)->slots), (ix)->head, OZ_HEAD_WORDS
+#define OZ_SIZED_OF(ix) OZ_TREE_OF(ix), (ix)->sizes, OZ_SIZES_WORDS((ix)->slots)
+#define OZ_INDEX_OF(ix) OZ_SIZED_OF(ix), (ix)->lines, OZ_LINES_WORDS((ix)->journal)
+
+static inline uint64_t oz_index_fresh(oz_index *ix) { return oz_fresh(OZ_INDEX_OF(ix)); }
+
+static inline uint64_t oz_index_find(const oz_index *ix, uint64_t hash, uint64_t key) { return oz_find(OZ_TREE_OF(ix), hash, key); }
+
+static inline uint64_t oz_index_insert(oz_index *ix, uint64_t hash, uint64_t key, uint32_t place) {
+    return oz_insert(OZ_INDEX_OF(ix), hash, key, place);
+}
+
+static inline uint64_t oz_index_remove(oz_index *ix, uint64_t hash, uint64_t key) { return oz_remove(OZ_INDEX_OF(ix), hash, key); }
+
+static inline uint64_t oz_index_replace(oz_index *ix, uint64_t hash, uint64_t key, uint32_t place) {
+    return oz_replace(OZ_INDEX_OF(ix), hash, key, place);
+}
+
+/* The journal's length, the mark to roll back to. */
+static inline uint32_t oz_index_mark(const oz_index *ix) { return (uint32_t)ix->lines[0]; }
+
+static inline uint64_t oz_index_rollback(oz_index *ix, uint32_t mark) { return oz_rollback(OZ_INDEX_OF(ix), mark); }
+
+/* Keeps what was entered and begins a new journal: all its lines are there again, nothing from before can be taken back, and marks
+ * from before mean nothing any more. Not between the calls of an upload. */
+static inline void oz_index_begin_journal(oz_index *ix) { ix->lines[0] = 0; }
+
+static inline uint64_t oz_index_batch(oz_index *ix, const uint64_t *calls, size_t calls_len, uint64_t *answers, size_t answers_len) {
+    return oz_batch(OZ_INDEX_OF(ix), calls, calls_len, answers, answers_len);
+}
+
+static inline uint64_t oz_index_kth(const oz_index *ix, uint32_t k) { return oz_kth(OZ_SIZED_OF(ix), k); }
+
+static inline uint64_t oz_index_position(const oz_index *ix, uint64_t hash, uint64_t key) {
+    return oz_position(OZ_SIZED_OF(ix), hash, key);
+}
+
+static inline uint64_t oz_index_check(const oz_index *ix) { return oz_check(OZ_TREE_OF(ix)); }
+
+static inline uint64_t oz_index_sound(const oz_index *ix) { return oz_sound(OZ_SIZED_OF(ix)); }
+
+static inline uint64_t oz_index_why(const oz_index *ix, uint32_t shown[OZ_SHOWN_WORDS]) {
+    return oz_why(OZ_SIZED_OF(ix), shown, OZ_SHOWN_WORDS);
+}
+
+/* Saves what can be saved of ix in second, which has as many slots and is empty; report has as many words as ix has slots. */
+static inline uint64_t oz_index_salvage(const oz_index *ix, oz_index *second, uint32_t *report) {
+    return oz_salvage(ix->names, OZ_NAMES_WORDS(ix->slots), ix->cells, OZ_CELLS_WORDS(ix->slots), OZ_SIZED_OF(second), report,
+                      OZ_REPORT_WORDS(ix->slots));
+}
+
+static inline uint64_t oz_index_read_start(const oz_index *ix, uint64_t reader[OZ_READER_WORDS]) {
+    return oz_read_start(OZ_INDEX_OF(ix), reader, OZ_READER_WORDS);
+}
+
+static inline uint64_t oz_index_read_chunk(oz_index *ix, uint64_t reader[OZ_READER_WORDS], const uint8_t *chunk, size_t chunk_len) {
+    return oz_read_chunk(OZ_INDEX_OF(ix), reader, OZ_READER_WORDS, chunk, chunk_len);
+}
+
+static inline uint64_t oz_index_read_end(oz_index *ix, uint64_t reader[OZ_READER_WORDS]) {
+    return oz_read_end(OZ_INDEX_OF(ix), reader, OZ_READER_WORDS);
+}
+
+/* What stands in a slot, which is below ix->slots, and in the header. The listing is the chain: from oz_index_first, the last
+ * insert first, by the link OZ_NEXT to OZ_NULL. In a tree that is not sound a link may be any number, and the chain a ring. */
+static inline uint64_t oz_index_hash(const oz_index *ix, uint32_t slot) { return ix->names[2 * (size_t)slot + OZ_HASH]; }
+static inline uint64_t oz_index_key(const oz_index *ix, uint32_t slot) { return ix->names[2 * (size_t)slot + OZ_KEY]; }
+static inline uint32_t oz_index_cell(const oz_index *ix, uint32_t slot, unsigned field) { return ix->cells[7 * (size_t)slot + field]; }
+static inline uint32_t oz_index_place(const oz_index *ix, uint32_t slot) { return oz_index_cell(ix, slot, OZ_PLACE); }
+static inline uint32_t oz_index_next(const oz_index *ix, uint32_t slot) { return oz_index_cell(ix, slot, OZ_NEXT); }
+static inline uint32_t oz_index_first(const oz_index *ix) { return ix->head[OZ_FIRST]; }
+static inline uint32_t oz_index_count(const oz_index *ix) { return ix->head[OZ_COUNT]; }
+
+/* How many pairs on the chain come before this one, by hash and then key. In a sound tree that has the pair it is what oz_position
+ * answers. It reads the used slots alone and checks nothing; on any words it ends after as many slots as there are, and reads
+ * none that is not there. */
+static inline uint32_t oz_index_before(const oz_index *ix, uint64_t hash, uint64_t key) {
+    uint32_t before = 0, at = oz_index_first(ix);
+    for (size_t left = ix->slots; left > 0 && at < ix->slots; left--, at = oz_index_next(ix, at)) {
+        uint64_t h = oz_index_hash(ix, at);
+        before += h < hash || (h == hash && oz_index_key(ix, at) < key);
+    }
+    return before;
+}
+
 #endif
