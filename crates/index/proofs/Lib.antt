@@ -1,5 +1,6 @@
 pub mod Gate
 pub mod Slots
+pub mod Unlinked
 pub mod Walked
 pub mod Reading
 pub mod Writing

@@ -1,17 +1,19 @@
 -- What one walk answers: T3 to T6 and T8 of the tree's slots, each by its own test,
--- where the tree has a size and the header counts as many.
-use mathlib.Core.Path.{_≡_, refl, sym}
-use mathlib.Core.Bool.{Bool, true, false}
+-- where the tree has a size and the header counts as many. With the pass over the slots and the chain it answers for T1's links too.
+use mathlib.Core.Path.{_≡_, refl, sym, _∙_}
+use mathlib.Core.Bool.{Bool, true, false, false≢true}
 use Prim.Native.Nat.{ℕ, _-_}
 use lib.Dec.{eqb}
 use Rattle.slots.specs.Words.{null, pick}
 use Rattle.slots.specs.Answers.{Value, none, some}
 use Rattle.tree_rules.specs.Find.{slotsOf}
 use Rattle.tree_rules.specs.Rules.{then, reached, rises, coloured, level, allSized, obeyed, obeyedSized, treeSize}
-use Rattle.index_rules.specs.Live.{Live, rootOf, countOf}
+use Rattle.index_rules.specs.Live.{Live, fits, rootOf, countOf}
 use Rattle.index_rules.specs.Sound.{leaves, freesFine, rule1, rule2, rule3, rule4, rule5, rule6, rule7, rule8, sound}
-use Rattle.index.specs.Sound.{rule1AndFrees, treeRules}
+use Rattle.index_rules.proofs.Fit.{both, fits-fit}
+use Rattle.index.specs.Sound.{rule1Unlinked, treeRules}
 use Rattle.index.proofs.Slots.{and-true}
+use Rattle.index.proofs.Unlinked.{links-apart, followed}
 
 abbrev counts : ℕ → Value → Bool
 counts count (some m) = eqb m count
@@ -88,9 +90,11 @@ halves true true true true true frees = sym (and-true frees)
 halves true true true true false true = refl
 halves true true true true false false = refl
 
-pub in-four : (t : Live) → sound t ≡ pick (rule1AndFrees t) (pick (rule2 t) (pick (treeRules t) (rule7 t) false) false) false
+in-order : (t : Live)
+    → sound t
+    ≡ pick (pick (rule1 t) (freesFine (slotsOf (t .names)) t) false) (pick (rule2 t) (pick (treeRules t) (rule7 t) false) false) false
 unfolding sound rule8
-in-four t =
+in-order t =
     let w = allSized (slotsOf (t .names)) (t .cells) (t .sizes) (rootOf t) in
     let f = freesFine (slotsOf (t .names)) t in
     rw (
@@ -98,3 +102,21 @@ in-four t =
       inside (rule3 t) (rule4 t) (rule5 t) (rule6 t) w,
     )
     (halves (rule1 t) (rule2 t) (pick (rule3 t) (pick (rule4 t) (pick (rule5 t) (rule6 t) false) false) false) (rule7 t) w f)
+
+-- A test that what comes after it implies need not be asked.
+implied : (links one two three seven : Bool) → (one ≡ true → three ≡ true → seven ≡ true → links ≡ true)
+    → pick (pick links one false) (pick two (pick three seven false) false) false ≡ pick one (pick two (pick three seven false) false) false
+implied true one two three seven h = refl
+implied false false two three seven h = refl
+implied false true false three seven h = refl
+implied false true true false seven h = refl
+implied false true true true false h = refl
+implied false true true true true h = absurd (false≢true (h refl refl refl))
+
+pub in-four : (t : Live) → fits t ≡ true
+    → sound t ≡ pick (rule1Unlinked t) (pick (rule2 t) (pick (treeRules t) (rule7 t) false) false) false
+in-four t fit =
+    in-order t
+    ∙ rw (links-apart t)
+    (implied _ (rule1Unlinked t) (rule2 t) (treeRules t) (rule7 t)
+    (λ one tree seven. followed t (fits-fit t fit) one (both (rule3 t) _ tree .0) seven))

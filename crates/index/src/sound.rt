@@ -1,5 +1,5 @@
-// The full check of a live tree: T1 to T8, where one pass over the slots answers for T1 and for the sizes of free slots, and one walk of
-// the tree for T3 to T6 and the sizes of its own slots.
+// The full check of a live tree: T1 to T8, where one pass over the slots answers for T1 but for the links of used slots, and for the sizes
+// of free slots; one walk of the tree for T3 to T6 and the sizes of its own slots; and walk and chain for those links, as they follow them.
 use crate::fit::fit;
 use slots::COUNT;
 use slots::FIRST;
@@ -37,11 +37,12 @@ ghost use lib.ListN.{length};
 ghost use lib.Dec.{eqb};
 ghost use Rattle.slots.specs.Words.{null, pick, state, free, cell, mostNames};
 ghost use Rattle.tree_rules.specs.Chain.{tally};
-ghost use Rattle.index_rules.specs.Live.{lentTree};
-ghost use Rattle.index_rules.specs.Sound.{used, isCleared, slotsFine, agree, sounds};
+ghost use Rattle.index_rules.specs.Live.{lentTree, fits};
+ghost use Rattle.index_rules.specs.Sound.{used, isCleared, slotFine, slotsFine, agree, sounds};
 ghost use Rattle.index_rules.specs.Sound.{rule2 as obeys2, rule7 as obeys7, sound as obeysAll};
 ghost use Rattle.index.specs.Reads.{soundOf};
-ghost use Rattle.index.specs.Sound.{slotRule, slotRules, rule1AndFrees, treeRules};
+ghost use Rattle.tree.specs.Rules.{sizeOf};
+ghost use Rattle.index.specs.Sound.{stateFine, usedIfFine, rule1Unlinked, treeRules};
 
 // Slot i is cleared: all zero with null links.
 fn is_cleared(names: &[u64], cells: &[u32], i: u32) -> bool
@@ -57,15 +58,10 @@ fn is_cleared(names: &[u64], cells: &[u32], i: u32) -> bool
         && get(cells, i, NEXT) == NULL
 }
 
-// T1 of slot i: its links are null or name one of n slots, its state is 0, 1 or 2, and it is cleared if it is free; and T8 of a free
-// one: it has no size.
-fn slot_fine(names: &[u64], cells: &[u32], sizes: &[u32], n: usize, i: u32) -> bool
-    ensures { λ r. ⌜ r ≡ slotRule n (lentTree (now (names .entry)) (now (cells .entry)) [] (now (sizes .entry))) i ⌝ }
+// T1 of slot i but for its links: its state is 0, 1 or 2, and it is cleared if it is free; and T8 of a free one: it has no size.
+fn state_fine(names: &[u64], cells: &[u32], sizes: &[u32], i: u32) -> bool
+    ensures { λ r. ⌜ r ≡ stateFine (lentTree (now (names .entry)) (now (cells .entry)) [] (now (sizes .entry))) i ⌝ }
 {
-    let named = links_in(n, cells, i);
-    if !named {
-        return false;
-    }
     let state = get(cells, i, STATE);
     if state == FREE {
         return is_cleared(names, cells, i) && word(sizes, i as usize, 0) == 0;
@@ -73,26 +69,26 @@ fn slot_fine(names: &[u64], cells: &[u32], sizes: &[u32], n: usize, i: u32) -> b
     state <= RED
 }
 
-// T1 of each of the n slots, and T8 of the free ones.
-fn sized_slots_fine(names: &[u64], cells: &[u32], sizes: &[u32], n: u32) -> bool
-    ensures { λ r. ⌜ r ≡ slotRules n n (lentTree (now (names .entry)) (now (cells .entry)) [] (now (sizes .entry))) ⌝ }
+// T1 of slot i, which has no size: its links too are null or name one of n slots.
+fn slot_fine(names: &[u64], cells: &[u32], n: usize, i: u32) -> bool
+    ensures { λ r. ⌜ r ≡ slotFine n (lentTree (now (names .entry)) (now (cells .entry)) [] []) i ⌝ }
 {
-    let mut k = n;
-    while 0 < k {
-        k -= 1;
-        let fine = slot_fine(names, cells, sizes, n as usize, k);
-        if !fine {
-            return false;
-        }
-    }
-    true
+    links_in(n, cells, i) && state_fine(names, cells, &cells[0..0], i)
 }
 
 // T1 of each of the n slots, which have no sizes.
 pub fn slots_fine(names: &[u64], cells: &[u32], n: u32) -> bool
     ensures { λ r. ⌜ r ≡ slotsFine n n (lentTree (now (names .entry)) (now (cells .entry)) [] []) ⌝ }
 {
-    sized_slots_fine(names, cells, &cells[0..0], n)
+    let mut k = n;
+    while 0 < k {
+        k -= 1;
+        let fine = slot_fine(names, cells, n as usize, k);
+        if !fine {
+            return false;
+        }
+    }
+    true
 }
 
 // 1 for a slot that is not free, 0 for a free one.
@@ -120,17 +116,39 @@ pub fn used_slots(cells: &[u32], n: u32) -> u32
     count
 }
 
-// T1: links are null or name a slot; states are 0, 1 or 2; free slots are cleared; the count is the number of slots not free. And T8 of
-// free slots.
+// T1 of each of the n slots but for their links, T8 of the free ones, and how many are not free, in one pass.
+fn used_if_fine(names: &[u64], cells: &[u32], sizes: &[u32], n: u32) -> Size
+    ensures { λ r. ⌜ sizeOf r ≡ usedIfFine n (lentTree (now (names .entry)) (now (cells .entry)) [] (now (sizes .entry))) ⌝ }
+{
+    let mut count: u32 = 0;
+    let mut k = n;
+    while 0 < k {
+        k -= 1;
+        let fine = state_fine(names, cells, sizes, k);
+        if !fine {
+            return Size::Broken;
+        }
+        let one = used_slot(cells, k);
+        count += one;
+    }
+    Size::Slots(count as usize)
+}
+
+// T1 but for the links of the slots: states are 0, 1 or 2; free slots are cleared; the count is the number of slots not free; root and
+// first are null or name a slot. And T8 of free slots. The links of a used slot are followed by the tree's walk and by the chain.
 fn rules_of_the_slots(names: &[u64], cells: &[u32], head: &[u32], sizes: &[u32]) -> bool
     requires { ⌜ length (now names) ≤ mostNames ⌝ }
-    ensures { λ r. ⌜ r ≡ rule1AndFrees (lentTree (now (names .entry)) (now (cells .entry)) (now (head .entry)) (now (sizes .entry))) ⌝ }
+    ensures { λ r. ⌜ r ≡ rule1Unlinked (lentTree (now (names .entry)) (now (cells .entry)) (now (head .entry)) (now (sizes .entry))) ⌝ }
 {
     let n = names.len() / 2;
-    sized_slots_fine(names, cells, sizes, n as u32)
-        && in_range(n, word(head, ROOT, NULL))
+    let pass = used_if_fine(names, cells, sizes, n as u32);
+    let Size::Slots(m) = pass else {
+        return false;
+    };
+    let count = word(head, COUNT, NULL);
+    in_range(n, word(head, ROOT, NULL))
         && in_range(n, word(head, FIRST, NULL))
-        && word(head, COUNT, NULL) == used_slots(cells, n as u32)
+        && count as usize == m
 }
 
 // The link is null exactly if the count is 0.
@@ -191,7 +209,7 @@ fn rule7(names: &[u64], cells: &[u32], head: &[u32]) -> bool
 
 // The tree obeys T1 to T8.
 fn is_sound(names: &[u64], cells: &[u32], head: &[u32], sizes: &[u32]) -> bool
-    requires { ⌜ length (now names) ≤ mostNames ⌝ }
+    requires { ⌜ fits (lentTree (now names) (now cells) (now head) (now sizes)) ≡ true ⌝ }
     ensures { λ r. ⌜ r ≡ obeysAll (lentTree (now (names .entry)) (now (cells .entry)) (now (head .entry)) (now (sizes .entry))) ⌝ }
 {
     rules_of_the_slots(names, cells, head, sizes)

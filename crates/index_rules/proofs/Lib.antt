@@ -2,6 +2,7 @@ pub mod Built
 pub mod Fit
 pub mod Reading
 pub mod Rules
+pub mod Linked
 pub mod Weighing
 pub mod Passing
 pub mod Building

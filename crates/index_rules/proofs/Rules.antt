@@ -15,7 +15,7 @@ use Rattle.slots.specs.Words.{black, red, code}
 use Rattle.slots.specs.Answers.{Value, some, none}
 use Rattle.tree_rules.specs.Check.{inRange, linksIn, LinksNamed}
 use Rattle.tree_rules.specs.Tree.{Tree, slots, times}
-use Rattle.tree_rules.specs.Chain.{Chain, ended, linked}
+use Rattle.tree_rules.specs.Chain.{Chain, ended, linked, tally}
 use Rattle.tree_rules.proofs.Walking.{named, ranged, links-named, links-in}
 use Rattle.tree_rules.proofs.Counting.{exactly, exactly-length, times-cases, times-head}
 use Rattle.tree_rules.proofs.Reaching.{hangs-stand, hangs-inside, reached-rooted, rooted-most, rooted-reached}
@@ -41,7 +41,7 @@ pub ends : {t : Live} → Fit t → length (t .cells) ≤ 7 * null
 ends h = omega (arith, h .seven, h .most)
 
 module _ (t : Live) where
-  is-cleared : (i : ℕ) → isCleared t i ≡ true → Cleared t i
+  pub is-cleared : (i : ℕ) → isCleared t i ≡ true → Cleared t i
   unfolding isCleared
   is-cleared i e =
       let h1 = both (eqb (nameOf (t .names) i hashPart) 0) _ e in
@@ -190,28 +190,90 @@ chain-prev {n} {q} {i} {k} {cells} (linked {l = l} w p c) z = times-cases k i l 
     go (inl h) = inr (omega (arith, h .0))
     go (inr h) = inr h
 
+-- In a chain that has a member there is a first, and it is one.
+first-in : {n i : ℕ} {cells chain : List ℕ} → Chain n cells null i chain → i ≢ null → 1 ≤ times i chain
+first-in (ended e) d = absurd (d e)
+first-in (linked {i = i} {l = l} w p c) d = omega (arith, times-head i l)
+
+has-first : {n i : ℕ} {cells chain : List ℕ} (k : ℕ) → n ≤ null → Chain n cells null i chain → 1 ≤ times k chain → i ≢ null
+unfolding times
+has-first k s (ended e) z = absurd (omega arith)
+has-first k s (linked w p c) z = omega arith
+
+abbrev firstTest : Live → Bool
+firstTest t = pick (eqb (firstOf t) null) true (pick (eqb (cell (t .cells) (firstOf t) state) free) false true)
+
+module _ (t : Live) where
+  first-used : firstTest t ≡ true → firstOf t ≢ null → cell (t .cells) (firstOf t) state ≢ free
+  first-used e d z = false≢true (rw (ne-eqb (firstOf t) null d, eq-eqb (cell (t .cells) (firstOf t) state) free z) at e)
+
+  used-first : ((firstOf t ≢ null) → cell (t .cells) (firstOf t) state ≢ free) → firstTest t ≡ true
+  used-first h = go (ℕ-discrete (firstOf t) null)
+    where
+      go : Dec (firstOf t ≡ null) → firstTest t ≡ true
+      go (yes e) = rw (eq-eqb (firstOf t) null e)
+      go (no d) = rw (ne-eqb (firstOf t) null d, ne-eqb (cell (t .cells) (firstOf t) state) free (h d))
+
+-- What the tests of T3 and T7 stand on: T1 but for its links.
+pub record Settled (t : Live) : Type 0 where
+  pub cleared : (i : ℕ) → i < slotsOf (t .names) → cell (t .cells) i state ≡ free → Cleared t i
+  pub count : countOf t ≡ tally (slotsOf (t .names)) (used (t .cells))
+
+settled : {t : Live} → T1 t → Settled t
+settled h = record { cleared = h .cleared; count = h .count }
+
+module _ {t : Live} (fit : Fit t) (s : Settled t) where
+  pub tree-of : rule3 t ≡ true → (tree : Tree) × T3 t tree
+  unfolding rule3
+  tree-of e =
+      let h = left-of (slotsOf (t .names)) (countOf t) _ e in
+      let r = reached-rooted (slotsOf (t .names)) (t .cells) (small fit) (rootOf t) (h .0) (h .1) in
+      let tree = r .0 in (
+        tree,
+        record {
+          rooted = r .1;
+          all =
+              exactly (slotsOf (t .names)) (slots tree) (λ k z. hangs-inside (slotsOf (t .names)) (t .cells) (r .1 .hangs) z)
+              (used (t .cells)) (r .1 .once)
+              (λ k z. (let s = hangs-stand (slotsOf (t .names)) (t .cells) (r .1 .hangs) z in
+              used-hued (t .cells) k (s .hue) (s .words .hued)))
+              (omega (arith, r .2, h .2, s .count));
+        },
+      )
+
+  -- A free slot of the chain would be its first.
+  chain-used : {chain : List ℕ} → Chain (slotsOf (t .names)) (t .cells) null (firstOf t) chain → cell (t .cells) (firstOf t) state ≢ free
+      → (k : ℕ) → 1 ≤ times k chain → used (t .cells) k ≡ 1
+  chain-used c d k z = used-not (t .cells) k (λ e. go e (chain-prev c z))
+    where
+      go : cell (t .cells) k state ≡ free
+          → ((cell (t .cells) k prev ≡ null) × (k ≡ firstOf t)) ⊎ (cell (t .cells) k prev < slotsOf (t .names)) → ⊥
+      go e (inl h) = d (rw (h .1) at e)
+      go e (inr h) = omega (arith, small fit, s .cleared k (chain-inside (slotsOf (t .names)) (t .cells) c z) e .prevs)
+
+  pub chain-of : rule7 t ≡ true → (chain : List ℕ) × T7 t chain
+  unfolding rule7
+  chain-of e =
+      let f = both (firstTest t) _ e in
+      let h = left-of (slotsOf (t .names)) (countOf t) _ (f .1) in
+      let r = chained-chain (slotsOf (t .names)) (t .cells) (small fit) (firstOf t) (h .0) (h .1) in
+      let chain = r .0 in (
+        chain,
+        record {
+          linked = r .1;
+          all =
+              exactly (slotsOf (t .names)) chain (λ k z. chain-inside (slotsOf (t .names)) (t .cells) (r .1) z) (used (t .cells))
+              (chain-once (slotsOf (t .names)) (t .cells) (small fit) (firstOf t) (r .1))
+              (λ k z. chain-used (r .1) (first-used t (f .0) (has-first k (small fit) (r .1) z)) k z)
+              (omega (arith, r .2, h .2, s .count));
+        },
+      )
+
 module _ {t : Live} (fit : Fit t) (one : T1 t) where
   pub rule-three : (rule3 t ≡ true) ↔ ((tree : Tree) × T3 t tree)
   unfolding rule3
-  rule-three = (to, λ h. from (h .0) (h .1))
+  rule-three = (tree-of fit (settled one), λ h. from (h .0) (h .1))
     where
-      to : rule3 t ≡ true → (tree : Tree) × T3 t tree
-      to e =
-          let h = left-of (slotsOf (t .names)) (countOf t) _ e in
-          let r = reached-rooted (slotsOf (t .names)) (t .cells) (small fit) (rootOf t) (h .0) (h .1) in
-          let tree = r .0 in (
-            tree,
-            record {
-              rooted = r .1;
-              all =
-                  exactly (slotsOf (t .names)) (slots tree) (λ k z. hangs-inside (slotsOf (t .names)) (t .cells) (r .1 .hangs) z)
-                  (used (t .cells)) (r .1 .once)
-                  (λ k z. (let s = hangs-stand (slotsOf (t .names)) (t .cells) (r .1 .hangs) z in
-                  used-hued (t .cells) k (s .hue) (s .words .hued)))
-                  (omega (arith, r .2, h .2, one .count));
-            },
-          )
-
       from : (tree : Tree) → T3 t tree → rule3 t ≡ true
       from tree h =
           let m = rooted-most (slotsOf (t .names)) (t .cells) (small fit) (rootOf t) (h .rooted) in
@@ -234,67 +296,17 @@ module _ {t : Live} (fit : Fit t) (one : T1 t) where
     unfolding rule6
     rule-six = level-level (slotsOf (t .names)) (t .cells) (small fit) (rootOf t) (three .rooted)
 
-  -- A free slot of the chain would be its first.
-  chain-used : {chain : List ℕ} → Chain (slotsOf (t .names)) (t .cells) null (firstOf t) chain → cell (t .cells) (firstOf t) state ≢ free
-      → (k : ℕ) → 1 ≤ times k chain → used (t .cells) k ≡ 1
-  chain-used c d k z = used-not (t .cells) k (λ e. go e (chain-prev c z))
-    where
-      go : cell (t .cells) k state ≡ free
-          → ((cell (t .cells) k prev ≡ null) × (k ≡ firstOf t)) ⊎ (cell (t .cells) k prev < slotsOf (t .names)) → ⊥
-      go e (inl h) = d (rw (h .1) at e)
-      go e (inr h) = omega (arith, small fit, one .cleared k (chain-inside (slotsOf (t .names)) (t .cells) c z) e .prevs)
-
-  first-in : {n i : ℕ} {cells chain : List ℕ} → Chain n cells null i chain → i ≢ null → 1 ≤ times i chain
-  first-in (ended e) d = absurd (d e)
-  first-in (linked {i = i} {l = l} w p c) d = omega (arith, times-head i l)
-
-  abbrev firstTest : Bool
-  firstTest = pick (eqb (firstOf t) null) true (pick (eqb (cell (t .cells) (firstOf t) state) free) false true)
-
-  first-used : firstTest ≡ true → firstOf t ≢ null → cell (t .cells) (firstOf t) state ≢ free
-  first-used e d z = false≢true (rw (ne-eqb (firstOf t) null d, eq-eqb (cell (t .cells) (firstOf t) state) free z) at e)
-
-  used-first : ((firstOf t ≢ null) → cell (t .cells) (firstOf t) state ≢ free) → firstTest ≡ true
-  used-first h = go (ℕ-discrete (firstOf t) null)
-    where
-      go : Dec (firstOf t ≡ null) → firstTest ≡ true
-      go (yes e) = rw (eq-eqb (firstOf t) null e)
-      go (no d) = rw (ne-eqb (firstOf t) null d, ne-eqb (cell (t .cells) (firstOf t) state) free (h d))
-
-  -- A member of the chain shows that there is a first.
-  has-first : {n i : ℕ} {cells chain : List ℕ} (k : ℕ) → n ≤ null → Chain n cells null i chain → 1 ≤ times k chain → i ≢ null
-  unfolding times
-  has-first k s (ended e) z = absurd (omega arith)
-  has-first k s (linked w p c) z = omega arith
-
   pub rule-seven : (rule7 t ≡ true) ↔ ((chain : List ℕ) × T7 t chain)
   unfolding rule7
-  rule-seven = (to, λ h. from (h .0) (h .1))
+  rule-seven = (chain-of fit (settled one), λ h. from (h .0) (h .1))
     where
-      to : rule7 t ≡ true → (chain : List ℕ) × T7 t chain
-      to e =
-          let f = both firstTest _ e in
-          let h = left-of (slotsOf (t .names)) (countOf t) _ (f .1) in
-          let r = chained-chain (slotsOf (t .names)) (t .cells) (small fit) (firstOf t) (h .0) (h .1) in
-          let chain = r .0 in (
-            chain,
-            record {
-              linked = r .1;
-              all =
-                  exactly (slotsOf (t .names)) chain (λ k z. chain-inside (slotsOf (t .names)) (t .cells) (r .1) z) (used (t .cells))
-                  (chain-once (slotsOf (t .names)) (t .cells) (small fit) (firstOf t) (r .1))
-                  (λ k z. chain-used (r .1) (first-used (f .0) (has-first k (small fit) (r .1) z)) k z)
-                  (omega (arith, r .2, h .2, one .count));
-            },
-          )
-
       from : (chain : List ℕ) → T7 t chain → rule7 t ≡ true
       from chain h =
           let m = chain-most (slotsOf (t .names)) (t .cells) (small fit) (firstOf t) (h .linked) in
           let c =
           exactly-length (slotsOf (t .names)) chain (λ k z. chain-inside (slotsOf (t .names)) (t .cells) (h .linked) z)
           (used (t .cells)) (h .all) in
-          and (used-first (λ d z. unused d z))
+          and (used-first t (λ d z. unused d z))
           (rw (chain-chained (slotsOf (t .names)) (t .cells) (small fit) (firstOf t) (h .linked))
           (eq-eqb _ _ (all-but (slotsOf (t .names)) (length chain) (countOf t) m (c ∙ sym (one .count)))))
         where

@@ -1,61 +1,19 @@
--- Each way out closes by the reads and the tests that led there.
-use Rattle.index_rules.specs.Sound.{isCleared, slotFine, freeFine}
-use borrow.Author.Tests.{eq-eqb, ne-eqb, not-false, not-true}
+-- The links, and then the rest of what T1 asks of a slot that has no size.
 use borrow.Author.Needs.{needs}
-use Rattle.index.proofs.Slots.{and-true}
+use Rattle.index.proofs.Slots.{unsized}
 use Rattle.index.proofs.sound.slot_fine.Statement.{statement}
 use Rattle.index.proofs.sound.slot_fine.Tie as tie
 
 returns : tie.Need-returns
-unfolding slotFine
-returns c = rw (← c .before .links-in .ensures, not-true (c .before .links-in .result) (c .if1 .taken))
+returns c =
+    let at-links = c .before .before .before in
+    rw (unsized, ← at-links .links-in .ensures, c .before .before .if1 .taken, ← c .state-fine .ensures)
 
 returns-2 : tie.Need-returns-2
-unfolding slotFine freeFine isCleared
-returns-2 c =
-    let c1 = c .before in
-    let c2 = c1 .before in
-    let c3 = c2 .before in
-    let c4 = c3 .before in
-    let c5 = c4 .before in
-    let c6 = c5 .before in
-    rw (
-      ← c6 .links-in .ensures,
-      not-false (c6 .links-in .result) (c5 .if1 .left),
-      ← c4 .get .ensures,
-      eq-eqb _ _ (c3 .if2 .taken),
-      ← c2 .is-cleared .ensures,
-      c1 .if3 .taken,
-      ← c .word .ensures,
-    )
-
-returns-3 : tie.Need-returns-3
-unfolding slotFine freeFine isCleared
-returns-3 c =
-    let c1 = c .before in
-    let c2 = c1 .before in
-    let c3 = c2 .before in
-    let c4 = c3 .before in
-    let c5 = c4 .before in
-    rw (
-      ← c5 .links-in .ensures,
-      not-false (c5 .links-in .result) (c4 .if1 .left),
-      ← c3 .get .ensures,
-      eq-eqb _ _ (c2 .if2 .taken),
-      ← c1 .is-cleared .ensures,
-      c .if3 .left,
-    )
-
-returns-4 : tie.Need-returns-4
-unfolding slotFine freeFine isCleared
-returns-4 c =
-    let c1 = c .before in
-    let c2 = c1 .before in
-    let c3 = c2 .before in
-    rw (← c3 .links-in .ensures, not-false (c3 .links-in .result) (c2 .if1 .left), ← c1 .get .ensures, ne-eqb _ _ (c .if2 .left), and-true)
+returns-2 c = rw (unsized, ← c .before .links-in .ensures, c .if1 .left)
 
 pub slot-fine-spec : {M : Type 1} → statement M
 slot-fine-spec =
     tie.close
     (tie.spec
-    (λ c κs. search needs) returns (λ c κs. search needs) (λ c κs. search needs) (λ c κs. search needs) returns-2 returns-3 returns-4)
+    (λ c κs. search needs) (λ c. search needs) (λ c. search needs) (λ c. search needs) (λ c κs. search needs) returns returns-2)

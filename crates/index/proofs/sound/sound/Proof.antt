@@ -1,7 +1,5 @@
--- The test of fitness decides between 1 and the rules; it bounds the capacity, as they require.
+-- The test of fitness decides between 1 and the rules, which require it.
 use mathlib.Core.Path.{sym, _∙_}
-use native.Mathlib.Omega.{arith}
-use Rattle.index_rules.proofs.Fit.{fits-fit}
 use Rattle.index_rules.specs.Sound.{sounds}
 use borrow.Author.Tests.{not-false, not-true}
 use borrow.Author.Needs.{needs}
@@ -17,8 +15,7 @@ returns c =
 is-sound-requires : tie.Need-is-sound-requires
 is-sound-requires c κs =
     let at-fit = c .before in
-    let fit = fits-fit _ (sym (at-fit .fit .ensures) ∙ not-false (at-fit .fit .result) (c .if1 .left)) in
-    omega (arith, fit .most, fit .two)
+    sym (at-fit .fit .ensures) ∙ not-false (at-fit .fit .result) (c .if1 .left)
 
 returns-2 : tie.Need-returns-2
 unfolding sounds
