@@ -29,7 +29,7 @@ use Rattle.word_rules.specs.Words.{SalvageWorded, salvageWorded, MoveWorded, mo
 use Rattle.word_rules.specs.Readers.{ReadWorded, startedReader, chunkRead, endedReader}
 use Rattle.word_rules.specs.Loaders.{SaveWorded, saveWorded, LoaderWorded, startedLoader, LoadWorded}
 use Rattle.word_rules.specs.Loaders.{chunkLoaded, endedLoader}
-use Rattle.word_rules.specs.Cursors.{Kept, startedInto, walkedInto}
+use Rattle.word_rules.specs.Cursors.{Kept, startedCursor, walkedCursor}
 
 pub record Claims : Type 0 where
   pub find-one : (t : Unsized) (hash key : ℕ) → OneAnswer (λ (r : ℕ). r ≡ searchWord (counted (finds t hash key)))
@@ -57,5 +57,5 @@ pub record Claims : Type 0 where
   pub tally-one : (s : Set) (t : List ℕ) → OneAnswer (λ (r : TallyWorded). r ≡ tallyWorded (tallies s t))
   pub accept-one : (s : Set) → OneAnswer (λ (r : ℕ). r ≡ answerWord (accepts s))
   pub lookup-one : (s : Set) (table hash key : ℕ) → OneAnswer (λ (r : ℕ). r ≡ searchWord (counted (lookups s table hash key)))
-  pub start-one : (s : Set) (table : ℕ) (cursor : List ℕ) → OneAnswer (λ (r : Kept). r ≡ startedInto s table cursor)
-  pub walk-one : (s : Set) (cursor : List ℕ) → OneAnswer (λ (r : Kept). r ≡ walkedInto s cursor)
+  pub start-one : (s : Set) (table : ℕ) (cursor : List ℕ) → OneAnswer (λ (r : Kept). r ≡ startedCursor s table cursor)
+  pub walk-one : (s : Set) (cursor : List ℕ) → OneAnswer (λ (r : Kept). r ≡ walkedCursor s cursor)

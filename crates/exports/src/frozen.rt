@@ -14,7 +14,7 @@ ghost use Rattle.set_rules.specs.Accepting.{accepts};
 ghost use Rattle.set_rules.specs.Lookup.{lookups};
 ghost use Rattle.slots.specs.Answers.{answerWord};
 ghost use Rattle.word_rules.specs.Words.{searchWord};
-ghost use Rattle.word_rules.specs.Cursors.{Kept, startedInto, walkedInto};
+ghost use Rattle.word_rules.specs.Cursors.{Kept, startedCursor, walkedCursor};
 
 // Whether a frozen set is accepted.
 #[no_mangle]
@@ -66,16 +66,16 @@ pub extern "C" fn oz_start(
     cursor: &mut [u32],
 ) -> u64
     ensures { λ r. ⌜ record { word = r; cursor = now (cursor .exit) }
-        ≡ startedInto (lentSet (now (lengths .entry)) (now (bins .entry)) (now (heads .entry)) (now (names .entry))
+        ≡ startedCursor (lentSet (now (lengths .entry)) (now (bins .entry)) (now (heads .entry)) (now (names .entry))
         (now (cells .entry))) table (now (cursor .entry)) ⌝ }
 {
     if cursor.len() != 11 {
         return packed(1, 0);
     }
     let start = Cursor::start(lengths, bins, heads, names, cells, table);
-    let startedInto = start.answer;
+    let startedCursor = start.answer;
     let made = start.cursor;
-    let told = answer_word(startedInto.answer());
+    let told = answer_word(startedCursor.answer());
     keep(cursor, told, made);
     told
 }
@@ -91,7 +91,7 @@ pub extern "C" fn oz_walk(
     cursor: &mut [u32],
 ) -> u64
     ensures { λ r. ⌜ record { word = r; cursor = now (cursor .exit) }
-        ≡ walkedInto (lentSet (now (lengths .entry)) (now (bins .entry)) (now (heads .entry)) (now (names .entry)) (now (cells .entry)))
+        ≡ walkedCursor (lentSet (now (lengths .entry)) (now (bins .entry)) (now (heads .entry)) (now (names .entry)) (now (cells .entry)))
         (now (cursor .entry)) ⌝ }
 {
     if cursor.len() != 11 {

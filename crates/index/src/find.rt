@@ -8,8 +8,8 @@ use slots::answer::refused;
 use slots::word;
 use tree::find::Counted;
 use tree::find::Found as Searched;
-use tree::find::count;
 use tree::find::find_tree_node;
+use tree::find::with_looks;
 ghost use mathlib.Core.Path.{_≡_};
 ghost use Rattle.tree_rules.specs.Find.{counted as countedLooks};
 ghost use Rattle.tree.specs.Find.{countedOf};
@@ -31,10 +31,10 @@ impl Found {
         ensures { λ r. ⌜ countedOf r ≡ (foundOf self) ⌝ }
     {
         match self {
-            Found::At(slot, looks) => count(looks, given(slot)),
-            Found::Nothing(looks) => count(looks, nothing()),
-            Found::Unfit => count(0, refused(1)),
-            Found::Lost(looks) => count(looks, refused(9)),
+            Found::At(slot, looks) => with_looks(looks, given(slot)),
+            Found::Nothing(looks) => with_looks(looks, nothing()),
+            Found::Unfit => with_looks(0, refused(1)),
+            Found::Lost(looks) => with_looks(looks, refused(9)),
         }
     }
 }

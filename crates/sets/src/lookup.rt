@@ -18,8 +18,8 @@ use slots::get;
 use slots::name;
 use tree::find::Counted;
 use tree::find::Found;
-use tree::find::count;
 use tree::find::find_tree_node;
+use tree::find::with_looks;
 ghost use mathlib.Core.Path.{_≡_};
 ghost use Prim.Native.Nat.{_+_, _-_, _<_, _≤_};
 ghost use lib.ListN.{length, getD};
@@ -157,11 +157,11 @@ impl Looked {
         ensures { λ r. ⌜ countedOf r ≡ (lookedOf self) ⌝ }
     {
         match self {
-            Looked::At(slot, looks) => count(looks, given(slot)),
-            Looked::Nothing(looks) => count(looks, nothing()),
-            Looked::Unfit => count(0, refused(1)),
-            Looked::Unknown => count(0, refused(10)),
-            Looked::Lost(looks) => count(looks, refused(9)),
+            Looked::At(slot, looks) => with_looks(looks, given(slot)),
+            Looked::Nothing(looks) => with_looks(looks, nothing()),
+            Looked::Unfit => with_looks(0, refused(1)),
+            Looked::Unknown => with_looks(0, refused(10)),
+            Looked::Lost(looks) => with_looks(looks, refused(9)),
         }
     }
 }

@@ -79,7 +79,7 @@ claims =
     record {
       found-one-to-one = found-one-to-one;
       counted-one-to-one = counted-one-to-one;
-      count-one = λ _ _ a b p q. counted-one-to-one a b (p ∙ sym q);
+      with-looks-one = λ _ _ a b p q. counted-one-to-one a b (p ∙ sym q);
       find-tree-node-one = λ names cells root hash key a b p q. found-one-to-one a b (p ∙ sym q);
       checked-one-to-one = checked-one-to-one;
       check-invariants-one = λ names cells root a b p q. checked-one-to-one a b (p ∙ sym q);

@@ -1,4 +1,5 @@
 pub mod Searching
+pub mod Testing
 pub mod Visiting
 pub mod Ruling
 pub mod Depth

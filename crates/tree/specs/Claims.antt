@@ -22,7 +22,7 @@ pub record Claims : Type 0 where
   pub found-one-to-one : (a b : Found) → searchedOf a ≡ searchedOf b → a ≡ b
   -- find_tree_node's promise allows one answer
   pub counted-one-to-one : (a b : CountedCode) → countedOf a ≡ countedOf b → a ≡ b
-  pub count-one : (looks : ℕ) (a : Answer) → OneAnswer (λ r. countedOf r ≡ withLooks looks a)
+  pub with-looks-one : (looks : ℕ) (a : Answer) → OneAnswer (λ r. countedOf r ≡ withLooks looks a)
   pub find-tree-node-one : (names cells : List ℕ) (root hash key : ℕ)
       → OneAnswer (λ r. searchedOf r ≡ counted (found names cells root hash key))
   -- so for the source's check

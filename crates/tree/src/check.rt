@@ -15,6 +15,7 @@ ghost use lib.ListN.{length};
 ghost use Rattle.slots.specs.Words.{cell};
 ghost use Rattle.tree.specs.Check.{walkOf, checkedOf};
 ghost use Rattle.tree_rules.specs.Check.{pointsBack, isChild, leftHash, rightHash, notAllRed, firstFailing};
+ghost use Rattle.tree_rules.specs.Check.{test as holds};
 ghost use Rattle.tree_rules.specs.Check.{inRange, linksIn, walked, checked};
 
 // The neighbour of i along the field f, if any, points back to i along the field g.
@@ -58,41 +59,33 @@ fn not_all_red(cells: &[u32], i: u32) -> bool
     !is_red(cells, i) || l == NULL || r == NULL || !is_red(cells, l) || !is_red(cells, r)
 }
 
+// Whether test t of the eight holds at slot i, in source order.
+fn test(names: &[u64], cells: &[u32], t: u8, i: u32) -> bool
+    ensures { λ r. ⌜ r ≡ holds (now (names .entry)) (now (cells .entry)) t i ⌝ }
+{
+    match t {
+        1 => points_back(cells, i, PREV, NEXT),
+        2 => points_back(cells, i, NEXT, PREV),
+        3 => is_child(cells, i),
+        4 => points_back(cells, i, LEFT, PARENT),
+        5 => left_hash(names, cells, i),
+        6 => points_back(cells, i, RIGHT, PARENT),
+        7 => right_hash(names, cells, i),
+        _ => not_all_red(cells, i),
+    }
+}
+
 // The number of the first of the eight tests that fails at slot i; 0 where none does.
 fn first_failing(names: &[u64], cells: &[u32], i: u32) -> u8
     ensures { λ r. ⌜ r ≡ firstFailing (now (names .entry)) (now (cells .entry)) i ⌝ }
 {
-    let t1 = points_back(cells, i, PREV, NEXT);
-    if !t1 {
-        return 1;
-    }
-    let t2 = points_back(cells, i, NEXT, PREV);
-    if !t2 {
-        return 2;
-    }
-    let t3 = is_child(cells, i);
-    if !t3 {
-        return 3;
-    }
-    let t4 = points_back(cells, i, LEFT, PARENT);
-    if !t4 {
-        return 4;
-    }
-    let t5 = left_hash(names, cells, i);
-    if !t5 {
-        return 5;
-    }
-    let t6 = points_back(cells, i, RIGHT, PARENT);
-    if !t6 {
-        return 6;
-    }
-    let t7 = right_hash(names, cells, i);
-    if !t7 {
-        return 7;
-    }
-    let t8 = not_all_red(cells, i);
-    if !t8 {
-        return 8;
+    let mut t: u8 = 1;
+    while t <= 8 {
+        let fine = test(names, cells, t, i);
+        if !fine {
+            return t;
+        }
+        t += 1;
     }
     0
 }

@@ -86,7 +86,7 @@ pub struct Counted {
 }
 
 // An answer with so many looks.
-pub fn count(looks: u32, answer: Answer) -> Counted
+pub fn with_looks(looks: u32, answer: Answer) -> Counted
     ensures { λ r. ⌜ countedOf r ≡ withLooks looks (answerOf answer) ⌝ }
 {
     Counted { answer, looks }

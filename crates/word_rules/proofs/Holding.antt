@@ -23,7 +23,7 @@ use Rattle.set_rules.specs.Whole.{Listing}
 use Rattle.set_rules.proofs.Claims.{claims}
 use Rattle.word_rules.specs.Told as T
 use Rattle.word_rules.specs.Told.{gives, refuses, WordTells}
-use Rattle.word_rules.specs.Cursors.{cursorIn, written, leftIn, ofEleven, startedInto, walkedInto}
+use Rattle.word_rules.specs.Cursors.{cursorIn, written, leftIn, ofEleven, startedCursor, walkedCursor}
 use Rattle.word_rules.specs.Lent.{CursorWords}
 use Rattle.word_rules.specs.Leaving.{RefusedBy, UnknownCursor, CursorMade, WalkTold, WordsListing, WordsWalk}
 use Rattle.word_rules.proofs.Telling.{answers-apart, one-word, plainly, answer-tells}
@@ -180,7 +180,7 @@ module _ (w : List ℕ) (r : Step) where
       rw (ne-eqb (length w) 11 d) (answer-tells (plainly 1 refl), refl)
 
 pub start-tells : (s : Set) (t : ℕ) (w : List ℕ) → CursorMade s t w
-unfolding startedInto
+unfolding startedCursor
 start-tells s t w =
     record {
       tells = λ l. kept-tells w (starts s t) l (starts-valued s t);
@@ -207,12 +207,12 @@ module _ (s : Set) (w : List ℕ) where
     is-read : cursorIn w ≡ c
     is-read = cursor-words w (h .eleven) c .1 h
 
-    walk-word : WordTells null (nexts s c .answer) (walkedInto s w .word)
-    unfolding walkedInto
+    walk-word : WordTells null (nexts s c .answer) (walkedCursor s w .word)
+    unfolding walkedCursor
     walk-word = rw is-read (kept-tells w (nexts s c) (h .eleven) (nexts-valued s c))
 
-    walk-steps : CursorWords (walkedInto s w .cursor) (nexts s c .cursor)
-    unfolding walkedInto
+    walk-steps : CursorWords (walkedCursor s w .cursor) (nexts s c .cursor)
+    unfolding walkedCursor
     walk-steps = rw is-read (go (ℕ-discrete (ofEleven w (nexts s c) .word / 4294967296) 0))
       where
         told : WordTells null (nexts s c .answer) (ofEleven w (nexts s c) .word)
@@ -223,7 +223,7 @@ module _ (s : Set) (w : List ℕ) where
         go (no n) = rw (kept-refused w (nexts s c) n, refused-same s c (λ e. n (told .number ∙ e))) h
 
   pub walk-tells : WalkTold s w
-  unfolding walkedInto
+  unfolding walkedCursor
   walk-tells =
       record {
         tells = walk-word;
@@ -251,22 +251,22 @@ list-words s {c} (Listing.done e) w h = WordsListing.done (one-word (rw e at (wa
 list-words s {c} (Listing.step {x = x} e k) w h =
     let b = walk-tells s w .below c x e in
     WordsListing.step {x = x} (one-word (rw e at (walk-tells s w .tells c h)) (slot-word x (omega arith))) (omega arith)
-    (list-words s k (walkedInto s w .cursor) (walk-tells s w .steps c h))
+    (list-words s k (walkedCursor s w .cursor) (walk-tells s w .steps c h))
 
 pub walk-lists : (s : Set) (w : List ℕ) (c : Cursor) → CursorWords w c → (l : List ℕ) → WordsListing s w l ↔ Listing s c l
 walk-lists s w c h l = (λ k. words-list s k c h, λ k. list-words s k w h)
 
-pub walk-done : (s : Set) (w : List ℕ) → (walkedInto s w .word ≡ null) ↔ ((length w ≡ 11) × (nexts s (cursorIn w) .answer ≡ nothing))
+pub walk-done : (s : Set) (w : List ℕ) → (walkedCursor s w .word ≡ null) ↔ ((length w ≡ 11) × (nexts s (cursorIn w) .answer ≡ nothing))
 walk-done s w = (λ e. to e (ℕ-discrete (length w) 11), λ h. back (h .0) (h .1))
   where
     here : length w ≡ 11 → CursorWords w (cursorIn w)
     here l = cursor-words w l (cursorIn w) .0 refl
 
-    to : walkedInto s w .word ≡ null → Dec (length w ≡ 11) → (length w ≡ 11) × (nexts s (cursorIn w) .answer ≡ nothing)
+    to : walkedCursor s w .word ≡ null → Dec (length w ≡ 11) → (length w ≡ 11) × (nexts s (cursorIn w) .answer ≡ nothing)
     to e (yes l) = (l, answers-apart (walk-tells s w .tells (cursorIn w) (here l)) (rw e done-word))
     to e (no d) = absurd (omega (arith, walk-tells s w .another d .0 .number))
 
-    back : length w ≡ 11 → nexts s (cursorIn w) .answer ≡ nothing → walkedInto s w .word ≡ null
+    back : length w ≡ 11 → nexts s (cursorIn w) .answer ≡ nothing → walkedCursor s w .word ≡ null
     back l e = one-word (rw e at (walk-tells s w .tells (cursorIn w) (here l))) done-word
 
 pub walk-whole : (s : Set) → Fit s → Accepted s → (t : ℕ) → t < tablesOf s → (w : List ℕ) → length w ≡ 11 → WordsWalk s t w
@@ -274,7 +274,7 @@ walk-whole s f a t b w l =
     let g = claims .walked .whole-walk s f a t b in
     let m = start-tells s t w in
     let e = ap (λ (r : Step). r .answer) (claims .walked .starting s t .made .1 (f, b)) in
-    let z : startedInto s t w .word / 4294967296 ≡ 0 = m .tells l .number ∙ number e in
+    let z : startedCursor s t w .word / 4294967296 ≡ 0 = m .tells l .number ∙ number e in
     let c = m .made l z in
     record {
       walk = g;

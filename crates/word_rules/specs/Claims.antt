@@ -43,7 +43,7 @@ use Rattle.word_rules.specs.Words.{salvageWorded, moveWorded, tallyWorde
 use Rattle.word_rules.specs.Readers.{saying, readerIn, chunkRead, endedReader}
 use Rattle.word_rules.specs.Loaders.{saveWorded, sayingLoader, loaderIn}
 use Rattle.word_rules.specs.Loaders.{chunkLoaded, endedLoader}
-use Rattle.word_rules.specs.Cursors.{cursorIn, walkedInto}
+use Rattle.word_rules.specs.Cursors.{cursorIn, walkedCursor}
 use Rattle.word_rules.specs.Told.{WordTells, LooksTold}
 use Rattle.word_rules.specs.Lent.{ReaderWords, LoaderWords, CursorWords, ReportWord}
 use Rattle.word_rules.specs.Filed.{SaveTold, LoadStartTold, LoadTold, UnknownLoader, LoadContinued, FileTold}
@@ -118,4 +118,4 @@ pub record Claims : Type 0 where
   pub walk-whole : (s : Set) → Fit s → Accepted s → (t : ℕ) → t < tablesOf s → (w : List ℕ) → length w ≡ 11 → WordsWalk s t w
   -- null in the walk's word is Done, with a cursor of eleven words
   pub walk-done : (s : Set) (cursor : List ℕ)
-      → (walkedInto s cursor .word ≡ null) ↔ ((length cursor ≡ 11) × (nexts s (cursorIn cursor) .answer ≡ nothing))
+      → (walkedCursor s cursor .word ≡ null) ↔ ((length cursor ≡ 11) × (nexts s (cursorIn cursor) .answer ≡ nothing))

@@ -44,8 +44,8 @@ keptStep w s = record { word = answerWord (s .answer); cursor = leftIn w (answer
 abbrev pub ofEleven : List ℕ → Step → Kept
 ofEleven w s = pick (eqb (length w) 11) (keptStep w s) (record { word = answerWord (refused 1); cursor = w })
 
-unfoldable pub startedInto : Set → ℕ → List ℕ → Kept
-startedInto s table w = ofEleven w (starts s table)
+unfoldable pub startedCursor : Set → ℕ → List ℕ → Kept
+startedCursor s table w = ofEleven w (starts s table)
 
-unfoldable pub walkedInto : Set → List ℕ → Kept
-walkedInto s w = ofEleven w (nexts s (cursorIn w))
+unfoldable pub walkedCursor : Set → List ℕ → Kept
+walkedCursor s w = ofEleven w (nexts s (cursorIn w))

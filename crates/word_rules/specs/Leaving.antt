@@ -31,7 +31,7 @@ use Rattle.word_rules.specs.Told.{WordTells}
 use Rattle.word_rules.specs.Lent.{ReaderWords, CursorWords, AccountWords, SaysNothing, ReportWord}
 use Rattle.word_rules.specs.Words.{Worded, batchWorded, WhyWorded, SalvageWorded}
 use Rattle.word_rules.specs.Readers.{ReadWorded, startedReader, chunkRead, endedReader}
-use Rattle.word_rules.specs.Cursors.{Kept, startedInto, walkedInto}
+use Rattle.word_rules.specs.Cursors.{Kept, startedCursor, walkedCursor}
 
 -- "Number 0 is no refusal": the word is that of a refusal.
 abbrev pub RefusedBy : ℕ → Type 0
@@ -152,29 +152,29 @@ UnknownCursor w k = WordTells null (refused 1) (k .word) × (k .cursor ≡ w)
 
 -- oz_start, on any words of the cursor.
 pub record CursorMade (s : Set) (t : ℕ) (w : List ℕ) : Type 0 where
-  pub tells : length w ≡ 11 → WordTells null (starts s t .answer) (startedInto s t w .word)
-  pub made : length w ≡ 11 → startedInto s t w .word / 4294967296 ≡ 0 → CursorWords (startedInto s t w .cursor) (starts s t .cursor)
+  pub tells : length w ≡ 11 → WordTells null (starts s t .answer) (startedCursor s t w .word)
+  pub made : length w ≡ 11 → startedCursor s t w .word / 4294967296 ≡ 0 → CursorWords (startedCursor s t w .cursor) (starts s t .cursor)
   -- "a refused call leaves it as it was"
-  pub refuses : RefusedBy (startedInto s t w .word) → startedInto s t w .cursor ≡ w
+  pub refuses : RefusedBy (startedCursor s t w .word) → startedCursor s t w .cursor ≡ w
   -- "another length is 1"
-  pub another : length w ≢ 11 → UnknownCursor w (startedInto s t w)
+  pub another : length w ≢ 11 → UnknownCursor w (startedCursor s t w)
 
 -- oz_walk, on any words of the cursor.
 pub record WalkTold (s : Set) (w : List ℕ) : Type 0 where
   -- a step from the cursor that the words are, and then they are the cursor after it
-  pub tells : (c : Cursor) → CursorWords w c → WordTells null (nexts s c .answer) (walkedInto s w .word)
+  pub tells : (c : Cursor) → CursorWords w c → WordTells null (nexts s c .answer) (walkedCursor s w .word)
   pub below : (c : Cursor) → (x : ℕ) → nexts s c .answer ≡ given x → x < mostSlots
-  pub steps : (c : Cursor) → CursorWords w c → CursorWords (walkedInto s w .cursor) (nexts s c .cursor)
-  pub refuses : RefusedBy (walkedInto s w .word) → walkedInto s w .cursor ≡ w
-  pub another : length w ≢ 11 → UnknownCursor w (walkedInto s w)
+  pub steps : (c : Cursor) → CursorWords w c → CursorWords (walkedCursor s w .cursor) (nexts s c .cursor)
+  pub refuses : RefusedBy (walkedCursor s w .word) → walkedCursor s w .cursor ≡ w
+  pub another : length w ≢ 11 → UnknownCursor w (walkedCursor s w)
 
 -- The slots that calls of oz_walk answer, each lent the words that the one before left, until Done.
 pub data WordsListing (s : Set) : List ℕ → List ℕ → Type 0 where
-  done : {w : List ℕ} → walkedInto s w .word ≡ null → WordsListing s w []
-  step : {w : List ℕ} {x : ℕ} {l : List ℕ} → walkedInto s w .word ≡ x → x < null → WordsListing s (walkedInto s w .cursor) l
+  done : {w : List ℕ} → walkedCursor s w .word ≡ null → WordsListing s w []
+  step : {w : List ℕ} {x : ℕ} {l : List ℕ} → walkedCursor s w .word ≡ x → x < null → WordsListing s (walkedCursor s w .cursor) l
       → WordsListing s w (x ∷ l)
 
 -- From the words that oz_start leaves for table t: what set_rules says of a whole walk is said of them.
 pub record WordsWalk (s : Set) (t : ℕ) (w : List ℕ) : Type 0 where
   pub walk : WholeWalk s t
-  pub same : (l : List ℕ) → WordsListing s (startedInto s t w .cursor) l ↔ (l ≡ walk .given-slots)
+  pub same : (l : List ℕ) → WordsListing s (startedCursor s t w .cursor) l ↔ (l ≡ walk .given-slots)

@@ -1,6 +1,6 @@
 -- A cursor of another length is refused; else the library starts a walk, and what it made is kept.
 use mathlib.Core.Path.{ap, _∙_}
-use Rattle.word_rules.specs.Cursors.{startedInto}
+use Rattle.word_rules.specs.Cursors.{startedCursor}
 use Rattle.exports.proofs.Keeping.{short, long}
 use denote.Ref.{now}
 use Rattle.slots.specs.Answers.{answerWord}
@@ -9,11 +9,11 @@ use Rattle.exports.proofs.frozen.oz_start.Statement.{statement}
 use Rattle.exports.proofs.frozen.oz_start.Tie as tie
 
 returns : tie.Need-returns
-unfolding startedInto
+unfolding startedCursor
 returns c = short _ (c .before .if1 .taken) (c .packed .ensures)
 
 returns-2 : tie.Need-returns-2
-unfolding startedInto
+unfolding startedCursor
 returns-2 c =
     let at-keep = c .before .before in
     let at-word = at-keep .before .before in

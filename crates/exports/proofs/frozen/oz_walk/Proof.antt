@@ -1,7 +1,7 @@
 -- A cursor of another length is refused; else the library takes a step, and the new cursor is kept.
 use mathlib.Core.Path.{ap, _∙_}
 use Rattle.set_rules.specs.Walk.{nexts}
-use Rattle.word_rules.specs.Cursors.{walkedInto}
+use Rattle.word_rules.specs.Cursors.{walkedCursor}
 use Rattle.exports.proofs.Keeping.{short, long}
 use denote.Ref.{now}
 use Rattle.slots.specs.Answers.{answerWord}
@@ -10,11 +10,11 @@ use Rattle.exports.proofs.frozen.oz_walk.Statement.{statement}
 use Rattle.exports.proofs.frozen.oz_walk.Tie as tie
 
 returns : tie.Need-returns
-unfolding walkedInto
+unfolding walkedCursor
 returns c = short _ (c .before .if1 .taken) (c .packed .ensures)
 
 returns-2 : tie.Need-returns-2
-unfolding walkedInto
+unfolding walkedCursor
 returns-2 c =
     let at-keep = c .before .before in
     let at-word = at-keep .before .before in

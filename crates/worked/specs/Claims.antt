@@ -18,8 +18,8 @@ use Rattle.set_rules.specs.Accepting.{accepts}
 use Rattle.set_rules.specs.Cursor.{starts}
 use Rattle.set_rules.specs.Walk.{nexts}
 use Rattle.set_rules.specs.Held.{cursorAfter as stepped}
-use Rattle.examples.specs.Worked.{empty, add, take, none, black, red, drawn, chainOf, tables, bin}
-use Rattle.examples.specs.Worked.{entriesGiven as walks}
+use Rattle.worked.specs.Worked.{empty, add, take, none, black, red, drawn, chainOf, tables, bin}
+use Rattle.worked.specs.Worked.{entriesGiven as walks}
 
 -- 1, 2, 3 and then 4; then without 1.
 abbrev pub three : Index

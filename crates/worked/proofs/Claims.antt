@@ -41,9 +41,9 @@ use Rattle.set_rules.specs.Accepting.{binAsks, belowFine, binFine, tableFine, i
 use Rattle.set_rules.specs.Cursor.{starts, levelFine, levelsFine, baseFine, fine}
 use Rattle.set_rules.specs.Walk.{kept, advanced, sought, under, stepsOn, nexts}
 use Rattle.set_rules.specs.Held.{cursorAfter as stepped}
-use Rattle.examples.specs.Claims.{Claims}
-use Rattle.examples.specs.Worked.{empty, zeros, freeSlots, drawn, drawnFrom, chainOf, chainFrom, listSlots, tables, bin}
-use Rattle.examples.specs.Worked.{entriesGiven as walks}
+use Rattle.worked.specs.Claims.{Claims}
+use Rattle.worked.specs.Worked.{empty, zeros, freeSlots, drawn, drawnFrom, chainOf, chainFrom, listSlots, tables, bin}
+use Rattle.worked.specs.Worked.{entriesGiven as walks}
 
 empty-find : (t : Live) → Fit t → Sound t → countOf t ≡ 0 → (hash key : ℕ) → finds (unsizedOf t) hash key ≡ ends nothing
 unfolding finds found
