@@ -1,18 +1,17 @@
--- The steps of the loops over the slots. What is asked of a slot does not read the header, and T8 asks nothing of one that has no size.
+-- The steps of the loops over the slots. What is asked of a slot does not read the header.
 use mathlib.Core.Path.{_≡_, refl, sym, _∙_}
 use mathlib.Core.Bool.{Bool, true, false}
-use mathlib.Core.List.{List, []}
+use mathlib.Core.List.{List}
 use Prim.Native.Nat.{ℕ, zero, suc, _+_, _-_, _<_, _≤_}
 use native.Mathlib.Numerals.{sub-one}
 use native.Mathlib.Omega.{arith}
 use lib.Dec.{eqb}
-use Rattle.slots.specs.Words.{pick, state, free, cell, _and_}
+use Rattle.slots.specs.Words.{pick, state, free, cell}
 use Rattle.slots.specs.Answers.{none, some}
 use Rattle.slots.proofs.Laws.{none-some, some-is}
-use Rattle.tree_rules.specs.Check.{linksIn}
 use Rattle.tree_rules.specs.Chain.{tally}
 use Rattle.index_rules.specs.Live.{Live, lentTree}
-use Rattle.index_rules.specs.Sound.{used, isCleared, slotFine}
+use Rattle.index_rules.specs.Sound.{used, isCleared}
 use Rattle.index.specs.Sound.{stateFine, statesFine, usedIfFine}
 
 pub any-head : (names cells a b sizes : List ℕ) (k : ℕ)
@@ -24,11 +23,6 @@ any-head names cells a b sizes (suc k) = rw (any-head names cells a b sizes k)
 pub and-true : (b : Bool) → pick b true false ≡ b
 and-true true = refl
 and-true false = refl
-
-pub unsized : (n : ℕ) (names cells : List ℕ) (i : ℕ)
-    → slotFine n (lentTree names cells [] []) i ≡ linksIn n cells i and stateFine (lentTree names cells [] []) i
-unfolding slotFine stateFine
-unsized n names cells i = rw (and-true (isCleared (lentTree names cells [] []) i))
 
 -- A test of each slot, asked of the first k: the last of them, and then those below it.
 module _ (test : ℕ → Bool) (all : ℕ → Bool) (nothing : all 0 ≡ true) (step : (k : ℕ) → all (suc k) ≡ pick (test k) (all k) false) where

@@ -20,7 +20,9 @@ use Rattle.index_rules.specs.Remove.{shrunk}
 use Rattle.index_rules.specs.Replace.{placedAt}
 use Rattle.index_rules.specs.Rollback.{Undo, stays, misfit, takenBack, putBack, putBehind, placedBack, undoneInto}
 use Rattle.index_rules.specs.Checked.{lesser, lowestFrom, slotIn, freedBy, unrolledFrom}
-use Rattle.index.specs.Rolls.{undoOf, freedIs}
+use Rattle.index.specs.Rolls.{undoneOf, undoOf, freedIs}
+use Rattle.index.specs.declared.lines.Undone.{Undone}
+use Rattle.index.specs.declared.lines.Undone.the-variants.{Freed, Misfit as LineMisfit}
 use Rattle.index.specs.declared.lines.Undoing.{Undoing}
 use Rattle.index.specs.declared.lines.Undoing.the-variants.{Done, Misfit}
 use Rattle.tree_rules.specs.Find.{slotsOf}
@@ -111,7 +113,7 @@ module _ (t : Live) (lines : List ℕ) (k x : ℕ) {kind hash key p : ℕ}
 -- The slot that a line's undoing frees.
 module _ (t : Live) (lines : List ℕ) (k : ℕ) {kind hash key : ℕ} (e1 : kind ≡ lineWord lines k 0) (e2 : hash ≡ lineWord lines k 1)
     (e3 : key ≡ lineWord lines k 2)
-    (r : Undoing) where
+    (r : Undone) where
   pub frees-own : kind ≡ 1 → freedIs r (slotIn (soughtIn t hash key)) → freedIs r (freedBy t (lineOf lines k))
   unfolding freedBy
   frees-own h f = rw (← e1, ← e2, ← e3, eq-eqb kind 1 h) f
@@ -230,16 +232,16 @@ module _ {t₀ : Live} {lines : List ℕ} {m count : ℕ} {t : Live} {floor c x 
   unfolding lowestFrom
   from = rw (turn .names) e0
 
-  pub turn-on : {r : Undoing} {u : Live} {freed floor′ : ℕ} → 0 < c → undoOf r u ≡ undoneInto x t (lineOf lines (m + (c - 1)))
-      → freedIs r (freedBy t (lineOf lines (m + (c - 1)))) → r ≡ Done freed → floor′ ≡ lesser freed x
+  pub turn-on : {r : Undone} {u : Live} {freed floor′ : ℕ} → 0 < c → undoneOf r u ≡ undoneInto x t (lineOf lines (m + (c - 1)))
+      → freedIs r (freedBy t (lineOf lines (m + (c - 1)))) → r ≡ Freed freed → floor′ ≡ lesser freed x
       → length (u .names) ≡ length (t .names) → length (u .cells) ≡ length (t .cells) → length (u .head) ≡ length (t .head)
       → length (u .sizes) ≡ length (t .sizes)
       → Turn t₀ lines m count u floor′ (c - 1)
   turn-on {r} {u} {freed} {floor′} h e w f k n1 n2 n3 n4 =
       let line = lineOf lines (m + (c - 1)) in
-      let g : stays u ≡ undoneInto x t line = ap (λ (b : Undoing). undoOf b u) (sym f) ∙ e in
+      let g : stays u ≡ undoneInto x t line = ap (λ (b : Undone). undoneOf b u) (sym f) ∙ e in
       let l : countOf t < null = omega (arith, turn .small) in
-      let z : freed ≡ freedBy t line = subst (λ (b : Undoing). freedIs b (freedBy t line)) f w in
+      let z : freed ≡ freedBy t line = subst (λ (b : Undone). freedIs b (freedBy t line)) f w in
       record {
         same = unroll-on lines m t floor from c h g (k ∙ ap (λ (i : ℕ). lesser i x) z) ∙ turn .same;
         small = omega (arith, turn .small, undone-count t u l x line (sym g));
@@ -249,9 +251,9 @@ module _ {t₀ : Live} {lines : List ℕ} {m count : ℕ} {t : Live} {floor c x 
         sizes = n4 ∙ turn .sizes;
       }
 
-  pub turn-not : {r : Undoing} (u : Live) → 0 < c → undoOf r u ≡ undoneInto x t (lineOf lines (m + (c - 1))) → r ≡ Misfit
+  pub turn-not : {r : Undone} (u : Live) → 0 < c → undoneOf r u ≡ undoneInto x t (lineOf lines (m + (c - 1))) → r ≡ LineMisfit
       → misfit ≡ unrolledFrom count 0 t₀ lines m
-  turn-not {r} u h e f = unroll-not lines m t floor from c h (ap (λ (b : Undoing). undoOf b u) (sym f) ∙ e) ∙ turn .same
+  turn-not {r} u h e f = unroll-not lines m t floor from c h (ap (λ (b : Undone). undoneOf b u) (sym f) ∙ e) ∙ turn .same
 
 pub turn-end : {t₀ : Live} {lines : List ℕ} {m count : ℕ} {t : Live} {floor c : ℕ} → Turn t₀ lines m count t floor c → c ≤ 0
     → stays t ≡ unrolledFrom count 0 t₀ lines m
@@ -264,13 +266,13 @@ copy-on src dst i a b e =
     rw (add-one) (take-suc-set dst i (getD src i 0) b ∙ ap (λ (l : List ℕ). l ++ (getD src i 0 ∷ [])) e ∙ sym (take-suc src i 0 a))
 
 -- Lines were undone, or they do not fit.
-pub undo-done : {r : Undoing} (u : Live) {o : Undo} {freed : ℕ} → undoOf r u ≡ o → r ≡ Done freed → stays u ≡ o
+pub undo-done : {r : Undoing} (u : Live) {o : Undo} → undoOf r u ≡ o → r ≡ Done → stays u ≡ o
 undo-done u e f = ap (λ (b : Undoing). undoOf b u) (sym f) ∙ e
 
 pub undo-not : {r : Undoing} (u : Live) {o : Undo} → undoOf r u ≡ o → r ≡ Misfit → misfit ≡ o
 undo-not u e f = ap (λ (b : Undoing). undoOf b u) (sym f) ∙ e
 
-pub done-not : {freed : ℕ} → Done freed ≡ Misfit → ⊥
+pub done-not : Done ≡ Misfit → ⊥
 done-not e = let z : _≡_ {A = ℕ} 0 1 = cc in omega arith
 
 -- Words that were kept aside come back.

@@ -10,8 +10,10 @@ use Rattle.index_rules.specs.Index.{Index, fitsIndex, lengthOf}
 use Rattle.index_rules.specs.Rollback.{Undo, stays, misfit}
 use Rattle.index.specs.declared.rollback.RolledBack.{RolledBack}
 use Rattle.index.specs.declared.rollback.RolledBack.the-variants.{Lines, Unfit, Damaged, BadMark, Misfit}
+use Rattle.index.specs.declared.lines.Undone.{Undone}
+use Rattle.index.specs.declared.lines.Undone.the-variants.{Freed, Misfit as LineMisfit}
 use Rattle.index.specs.declared.lines.Undoing.{Undoing}
-use Rattle.index.specs.declared.lines.Undoing.the-variants.{Done, Misfit as LineMisfit}
+use Rattle.index.specs.declared.lines.Undoing.the-variants.{Done, Misfit as LinesMisfit}
 
 abbrev pub rolledOf : RolledBack → Answer
 rolledOf (Lines count) = given count
@@ -28,12 +30,16 @@ opened ix m =
     (pick (ltb (lengthOf (ix .lines)) m) (refused 7) (given (lengthOf (ix .lines) - m))) (refused 2))
     (refused 1)
 
--- What came of undoing, with the tree that is left: where a line does not fit, nothing is said of it.
-abbrev pub undoOf : Undoing → Live → Undo
-undoOf (Done freed) t = stays t
-undoOf LineMisfit t = misfit
+-- What came of undoing a line, or lines, with the tree that is left: where a line does not fit, nothing is said of it.
+abbrev pub undoneOf : Undone → Live → Undo
+undoneOf (Freed x) t = stays t
+undoneOf LineMisfit t = misfit
 
--- What is done freed this slot, null where it freed none.
-abbrev pub freedIs : Undoing → ℕ → Type 0
-freedIs (Done freed) x = freed ≡ x
-freedIs LineMisfit x = Unit
+abbrev pub undoOf : Undoing → Live → Undo
+undoOf Done t = stays t
+undoOf LinesMisfit t = misfit
+
+-- A line that is undone freed this slot, null where it freed none.
+abbrev pub freedIs : Undone → ℕ → Type 0
+freedIs (Freed x) y = x ≡ y
+freedIs LineMisfit y = Unit

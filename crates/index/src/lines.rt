@@ -32,11 +32,17 @@ ghost use Rattle.index_rules.specs.Index.{lineMade, lineOf};
 ghost use Rattle.index_rules.specs.Insert.{soughtIn};
 ghost use Rattle.index_rules.specs.Rollback.{takenBack, putBack, putBehind, placedBack, undoneInto};
 ghost use Rattle.index_rules.specs.Checked.{slotIn, freedBy, unrolledFrom};
-ghost use Rattle.index.specs.Rolls.{undoOf, freedIs};
+ghost use Rattle.index.specs.Rolls.{undoneOf, undoOf, freedIs};
 
-// What comes of undoing: it is done, with the slot that it freed, null where it freed none; or a line does not fit.
+// What comes of undoing a line: it is undone, with the slot that it freed, null where it freed none; or it does not fit.
+enum Undone {
+    Freed(u32),
+    Misfit,
+}
+
+// What comes of undoing lines: they are undone; or one does not fit.
 pub(crate) enum Undoing {
-    Done(u32),
+    Done,
     Misfit,
 }
 
@@ -49,9 +55,9 @@ fn take_back(
     hash: u64,
     key: u64,
     place: u64,
-) -> Undoing
+) -> Undone
     requires { ⌜ length (now names) ≤ mostNames ⌝ }
-    ensures { λ r. ⌜ undoOf r (lentTree (now (names .exit)) (now (cells .exit)) (now (head .exit)) (now (sizes .exit)))
+    ensures { λ r. ⌜ undoneOf r (lentTree (now (names .exit)) (now (cells .exit)) (now (head .exit)) (now (sizes .exit)))
         ≡ takenBack (lentTree (now (names .entry)) (now (cells .entry)) (now (head .entry)) (now (sizes .entry)))
         (soughtIn (lentTree (now (names .entry)) (now (cells .entry)) (now (head .entry)) (now (sizes .entry))) hash key) place ⌝ }
     ensures { λ r. ⌜ freedIs r
@@ -60,14 +66,14 @@ fn take_back(
     let root = word(head, ROOT, NULL);
     let found = find_tree_node(names, cells, root, hash, key);
     let Found::At(x, _) = found else {
-        return Undoing::Misfit;
+        return Undone::Misfit;
     };
     let own = get(cells, x, PLACE);
     if own as u64 != place {
-        return Undoing::Misfit;
+        return Undone::Misfit;
     }
     shrink(names, cells, head, sizes, x);
-    Undoing::Done(x)
+    Undone::Freed(x)
 }
 
 // A remove line is undone by an insert into the free slot x, right behind the slot y, at the front where y is null: its pair is not there,
@@ -82,10 +88,10 @@ fn put_back(
     place: u64,
     x: u32,
     y: u32,
-) -> Undoing
+) -> Undone
     requires { ⌜ length (now names) ≤ mostNames ⌝ }
     requires { ⌜ getD (now head) 2 null < null ⌝ }
-    ensures { λ r. ⌜ ((kind priorHash priorKey : ℕ) → undoOf r
+    ensures { λ r. ⌜ ((kind priorHash priorKey : ℕ) → undoneOf r
         (lentTree (now (names .exit)) (now (cells .exit)) (now (head .exit)) (now (sizes .exit)))
         ≡ putBack (lentTree (now (names .entry)) (now (cells .entry)) (now (head .entry)) (now (sizes .entry))) x
         (soughtIn (lentTree (now (names .entry)) (now (cells .entry)) (now (head .entry)) (now (sizes .entry))) hash key)
@@ -95,16 +101,16 @@ fn put_back(
     let root = word(head, ROOT, NULL);
     let found = find_tree_node(names, cells, root, hash, key);
     if let Found::At(_, _) = found {
-        return Undoing::Misfit;
+        return Undone::Misfit;
     }
     if x == NULL {
-        return Undoing::Misfit;
+        return Undone::Misfit;
     }
     if MOST_PLACES <= place {
-        return Undoing::Misfit;
+        return Undone::Misfit;
     }
     grow(names, cells, head, sizes, x, y, hash, key, place as u32);
-    Undoing::Done(NULL)
+    Undone::Freed(NULL)
 }
 
 // A remove line that notes a pair is undone right behind that one. Misfit where it is not there.
@@ -119,10 +125,10 @@ fn put_behind(
     prehash: u64,
     prekey: u64,
     x: u32,
-) -> Undoing
+) -> Undone
     requires { ⌜ length (now names) ≤ mostNames ⌝ }
     requires { ⌜ getD (now head) 2 null < null ⌝ }
-    ensures { λ r. ⌜ ((kind : ℕ) → undoOf r (lentTree (now (names .exit)) (now (cells .exit)) (now (head .exit)) (now (sizes .exit)))
+    ensures { λ r. ⌜ ((kind : ℕ) → undoneOf r (lentTree (now (names .exit)) (now (cells .exit)) (now (head .exit)) (now (sizes .exit)))
         ≡ putBehind (lentTree (now (names .entry)) (now (cells .entry)) (now (head .entry)) (now (sizes .entry))) x
         (soughtIn (lentTree (now (names .entry)) (now (cells .entry)) (now (head .entry)) (now (sizes .entry))) prehash prekey)
         (soughtIn (lentTree (now (names .entry)) (now (cells .entry)) (now (head .entry)) (now (sizes .entry))) hash key)
@@ -132,7 +138,7 @@ fn put_behind(
     let root = word(head, ROOT, NULL);
     let found = find_tree_node(names, cells, root, prehash, prekey);
     let Found::At(y, _) = found else {
-        return Undoing::Misfit;
+        return Undone::Misfit;
     };
     put_back(names, cells, head, sizes, hash, key, place, x, y)
 }
@@ -146,8 +152,8 @@ fn place_back(
     hash: u64,
     key: u64,
     places: u64,
-) -> Undoing
-    ensures { λ r. ⌜ undoOf r (lentTree (now (names .entry)) (now (cells .exit)) (now (head .entry)) (now (sizes .entry)))
+) -> Undone
+    ensures { λ r. ⌜ undoneOf r (lentTree (now (names .entry)) (now (cells .exit)) (now (head .entry)) (now (sizes .entry)))
         ≡ placedBack (lentTree (now (names .entry)) (now (cells .entry)) (now (head .entry)) (now (sizes .entry)))
         (soughtIn (lentTree (now (names .entry)) (now (cells .entry)) (now (head .entry)) (now (sizes .entry))) hash key) places ⌝ }
     ensures { λ r. ⌜ freedIs r null ⌝ }
@@ -155,14 +161,14 @@ fn place_back(
     let root = word(head, ROOT, NULL);
     let found = find_tree_node(names, cells, root, hash, key);
     let Found::At(x, _) = found else {
-        return Undoing::Misfit;
+        return Undone::Misfit;
     };
     let own = get(cells, x, PLACE);
     if own as u64 != places % MOST_PLACES {
-        return Undoing::Misfit;
+        return Undone::Misfit;
     }
     put(cells, x, PLACE, (places / MOST_PLACES) as u32);
-    Undoing::Done(NULL)
+    Undone::Freed(NULL)
 }
 
 // Line k is undone; a pair that comes back takes the free slot x. Misfit where it does not fit; the slices are then left anyhow.
@@ -174,10 +180,10 @@ fn undo_line(
     lines: &[u64],
     k: usize,
     x: u32,
-) -> Undoing
+) -> Undone
     requires { ⌜ length (now names) ≤ mostNames ⌝ }
     requires { ⌜ getD (now head) 2 null < null ⌝ }
-    ensures { λ r. ⌜ undoOf r (lentTree (now (names .exit)) (now (cells .exit)) (now (head .exit)) (now (sizes .exit)))
+    ensures { λ r. ⌜ undoneOf r (lentTree (now (names .exit)) (now (cells .exit)) (now (head .exit)) (now (sizes .exit)))
         ≡ undoneInto x (lentTree (now (names .entry)) (now (cells .entry)) (now (head .entry)) (now (sizes .entry)))
         (lineOf (now (lines .entry)) k) ⌝ }
     ensures { λ r. ⌜ freedIs r
@@ -213,7 +219,7 @@ fn undo_line(
     if kind == REPLACE {
         return place_back(names, cells, head, sizes, hash, key, place);
     }
-    Undoing::Misfit
+    Undone::Misfit
 }
 
 // So many lines from m on are undone, from the last down; the search for a free slot goes on where the last one ended, or at a lower slot
@@ -240,10 +246,10 @@ pub(crate) fn unroll(
         c -= 1;
         let x = lowest_free(cells, n, floor);
         let undone = undo_line(names, cells, head, sizes, lines, m as usize + c as usize, x);
-        let Undoing::Done(freed) = undone else {
+        let Undone::Freed(freed) = undone else {
             return Undoing::Misfit;
         };
         floor = lesser(freed, x);
     }
-    Undoing::Done(NULL)
+    Undoing::Done
 }

@@ -118,7 +118,7 @@ fn undo(
     let first = word(head, FIRST, NULL);
     let entries = word(head, COUNT, NULL);
     let unrolled = unroll(names, cells, head, sizes, lines, m, count);
-    let Undoing::Done(_) = unrolled else {
+    let Undoing::Done = unrolled else {
         let n = names.len();
         let k = cells.len();
         let z = sizes.len();
@@ -128,7 +128,7 @@ fn undo(
         head_put(head, root, first, entries);
         return Undoing::Misfit;
     };
-    Undoing::Done(NULL)
+    Undoing::Done
 }
 
 // rollback where the full check has said yes.
@@ -149,7 +149,7 @@ pub fn rollback_sound(
         return asked;
     };
     let undone = undo(names, cells, head, sizes, lines, mark, count);
-    let Undoing::Done(_) = undone else {
+    let Undoing::Done = undone else {
         return RolledBack::Misfit;
     };
     cut(lines, mark, count);

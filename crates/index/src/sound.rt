@@ -73,7 +73,15 @@ fn state_fine(names: &[u64], cells: &[u32], sizes: &[u32], i: u32) -> bool
 fn slot_fine(names: &[u64], cells: &[u32], n: usize, i: u32) -> bool
     ensures { λ r. ⌜ r ≡ slotFine n (lentTree (now (names .entry)) (now (cells .entry)) [] []) i ⌝ }
 {
-    links_in(n, cells, i) && state_fine(names, cells, &cells[0..0], i)
+    let named = links_in(n, cells, i);
+    if !named {
+        return false;
+    }
+    let state = get(cells, i, STATE);
+    if state == FREE {
+        return is_cleared(names, cells, i);
+    }
+    state <= RED
 }
 
 // T1 of each of the n slots, which have no sizes.

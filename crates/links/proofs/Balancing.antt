@@ -12,7 +12,7 @@ use Rattle.slots.proofs.Laws.{pick-eq, pick-ne}
 use Rattle.redblack.specs.Links.{Links, lentLinks, read, isRed, colourOf, Turn, done, more}
 use Rattle.redblack.specs.Rotate.{rotated}
 use Rattle.redblack.specs.Insertion.{raised, straightened, lifted, insertionTurn, insertionTurns, balancedInsertion}
-use Rattle.redblack.specs.Deletion.{capped, settled, tucked, eased, sunk, deletionTurn, balancedDeletion}
+use Rattle.redblack.specs.Deletion.{capped, outerRed, innerRed, darkSib, bySib, deletionTurn, balancedDeletion}
 use Rattle.links.specs.Turns.{turnOf}
 use Rattle.links.specs.declared.balance.Step.{Step}
 use Rattle.links.specs.declared.balance.Step.the-variants.{Done, More}
@@ -117,40 +117,40 @@ started budget s x e1 e2 = rw (← e1) e2
 
 -- The steps of balance_deletion.
 module _ (near far : ℕ) (s : Links) (xp y : ℕ) where
-  pub settle : {h o : ℕ} {l1 l2 l3 : List ℕ} {t : Links}
+  pub outer-turn : {h o : ℕ} {l1 l2 l3 : List ℕ} {t : Links}
       → h ≡ code (colourOf s xp) → l1 ≡ write (s .cells) y state h → o ≡ cell l1 y far
       → l2 ≡ write l1 o state (code black) → l3 ≡ write l2 xp state (code black)
       → t ≡ rotated near far (lentLinks l3 (s .root) (s .sizes)) xp
-      → more t (t .root) ≡ settled near far s xp y
-  unfolding settled capped
-  settle e1 e2 e3 e4 e5 e6 = rw (← e1, ← e2, ← e3, ← e4, ← e5, ← e6)
+      → more t (t .root) ≡ outerRed near far s xp y
+  unfolding outerRed capped
+  outer-turn e1 e2 e3 e4 e5 e6 = rw (← e1, ← e2, ← e3, ← e4, ← e5, ← e6)
 
 module _ (near far : ℕ) (s : Links) (y : ℕ) where
-  pub tuck : {i : ℕ} {l1 l2 : List ℕ} {t : Links}
+  pub inner-turn : {i : ℕ} {l1 l2 : List ℕ} {t : Links}
       → i ≡ read s y near → l1 ≡ write (s .cells) i state (code black) → l2 ≡ write l1 y state (code red)
-      → t ≡ rotated far near (lentLinks l2 (s .root) (s .sizes)) y → t ≡ tucked near far s y
-  unfolding tucked
-  tuck e1 e2 e3 e4 = rw (← e1, ← e2, ← e3) e4
+      → t ≡ rotated far near (lentLinks l2 (s .root) (s .sizes)) y → t ≡ innerRed near far s y
+  unfolding innerRed
+  inner-turn e1 e2 e3 e4 = rw (← e1, ← e2, ← e3) e4
 
 -- The outer nephew is red, the inner alone, neither.
 module _ (near far : ℕ) (s : Links) (x xp y : ℕ) where
   pub outer-red : {o : ℕ} {b : Bool} {v : Turn}
-      → o ≡ read s y far → b ≡ isRed s o → b ≡ true → v ≡ settled near far s xp y → v ≡ eased near far s x xp y
-  unfolding eased
+      → o ≡ read s y far → b ≡ isRed s o → b ≡ true → v ≡ outerRed near far s xp y → v ≡ darkSib near far s x xp y
+  unfolding darkSib
   outer-red e1 e2 h e3 = rw (← e1, ← e2, h) e3
 
   pub inner-red : {o i q z : ℕ} {b d : Bool} {t : Links} {v : Turn}
       → o ≡ read s y far → b ≡ isRed s o → b ≡ false → i ≡ read s y near → d ≡ isRed s i → d ≡ true
-      → t ≡ tucked near far s y → q ≡ read t x parent → z ≡ read t q far → v ≡ settled near far t q z
-      → v ≡ eased near far s x xp y
-  unfolding eased
+      → t ≡ innerRed near far s y → q ≡ read t x parent → z ≡ read t q far → v ≡ outerRed near far t q z
+      → v ≡ darkSib near far s x xp y
+  unfolding darkSib
   inner-red e1 e2 h e3 e4 k e5 e6 e7 e8 = rw (← e1, ← e2, h, ← e3, ← e4, k, ← e5, ← e6, ← e7) e8
 
   pub none-red : {o i : ℕ} {b d : Bool} {l : List ℕ}
       → o ≡ read s y far → b ≡ isRed s o → b ≡ false → i ≡ read s y near → d ≡ isRed s i → d ≡ false
       → l ≡ write (s .cells) y state (code red)
-      → more (lentLinks l (s .root) (s .sizes)) xp ≡ eased near far s x xp y
-  unfolding eased
+      → more (lentLinks l (s .root) (s .sizes)) xp ≡ darkSib near far s x xp y
+  unfolding darkSib
   none-red e1 e2 h e3 e4 k e5 = rw (← e1, ← e2, h, ← e3, ← e4, k, ← e5)
 
 module _ (near far : ℕ) (s : Links) (x xp : ℕ) where
@@ -158,14 +158,14 @@ module _ (near far : ℕ) (s : Links) (x xp : ℕ) where
       → y ≡ read s xp far → b ≡ isRed s y → b ≡ true
       → l1 ≡ write (s .cells) y state (code black) → l2 ≡ write l1 xp state (code red)
       → t ≡ rotated near far (lentLinks l2 (s .root) (s .sizes)) xp
-      → q ≡ read t x parent → z ≡ read t q far → v ≡ eased near far t x q z
-      → v ≡ sunk near far s x xp
-  unfolding sunk
+      → q ≡ read t x parent → z ≡ read t q far → v ≡ darkSib near far t x q z
+      → v ≡ bySib near far s x xp
+  unfolding bySib
   sibling-red e1 e2 h e3 e4 e5 e6 e7 e8 = rw (← e1, ← e2, h, ← e3, ← e4, ← e5, ← e6, ← e7) e8
 
   pub sibling-black : {y : ℕ} {b : Bool} {v : Turn}
-      → y ≡ read s xp far → b ≡ isRed s y → b ≡ false → v ≡ eased near far s x xp y → v ≡ sunk near far s x xp
-  unfolding sunk
+      → y ≡ read s xp far → b ≡ isRed s y → b ≡ false → v ≡ darkSib near far s x xp y → v ≡ bySib near far s x xp
+  unfolding bySib
   sibling-black e1 e2 h e3 = rw (← e1, ← e2, h) e3
 
 -- The ways out of a turn: x is null, is the root, has no parent, is red, stands on the left or on the right.
@@ -192,14 +192,14 @@ module _ (s : Links) (x : ℕ) where
 
   pub from-left : {xp c : ℕ} {b : Bool} {v : Turn}
       → x ≢ null → x ≢ s .root → xp ≡ read s x parent → xp ≢ null → b ≡ isRed s x → b ≡ false
-      → c ≡ read s xp left → c ≡ x → v ≡ sunk left right s x xp
+      → c ≡ read s xp left → c ≡ x → v ≡ bySib left right s x xp
       → v ≡ deletionTurn s x
   unfolding deletionTurn
   from-left n m e1 h e2 t e3 p e4 = rw (pick-ne _ _ n, pick-ne _ _ m, ← e1, pick-ne _ _ h, ← e2, t, ← e3, pick-eq _ _ p) e4
 
   pub from-right : {xp c : ℕ} {b : Bool} {v : Turn}
       → x ≢ null → x ≢ s .root → xp ≡ read s x parent → xp ≢ null → b ≡ isRed s x → b ≡ false
-      → c ≡ read s xp left → c ≢ x → v ≡ sunk right left s x xp
+      → c ≡ read s xp left → c ≢ x → v ≡ bySib right left s x xp
       → v ≡ deletionTurn s x
   unfolding deletionTurn
   from-right n m e1 h e2 t e3 p e4 = rw (pick-ne _ _ n, pick-ne _ _ m, ← e1, pick-ne _ _ h, ← e2, t, ← e3, pick-ne _ _ p) e4

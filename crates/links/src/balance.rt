@@ -15,7 +15,7 @@ use slots::put;
 ghost use mathlib.Core.Path.{_≡_};
 ghost use Rattle.slots.specs.Words.{state, write};
 ghost use Rattle.redblack.specs.Insertion.{raised, straightened, lifted, insertionTurn, insertionTurns, balancedInsertion};
-ghost use Rattle.redblack.specs.Deletion.{settled, tucked, eased, sunk, deletionTurn, balancedDeletion};
+ghost use Rattle.redblack.specs.Deletion.{outerRed, innerRed, darkSib, bySib, deletionTurn, balancedDeletion};
 ghost use Rattle.links.specs.Turns.{turnOf};
 ghost use Rattle.redblack.specs.Links.{lentLinks};
 
@@ -163,7 +163,7 @@ pub(crate) fn balance_insertion(
 
 // The outer nephew is red: the sibling takes the parent's colour, its outer child and the parent turn black, and the
 // parent goes down. The loop goes on from the root, where it ends.
-fn settle(
+fn outer_red(
     cells: &mut [u32],
     sizes: &mut [u32],
     root: u32,
@@ -173,7 +173,7 @@ fn settle(
     far: u32,
 ) -> Step
     ensures { λ r. ⌜ turnOf r (now (cells .exit)) (now (sizes .exit))
-        ≡ settled near far (lentLinks (now (cells .entry)) root (now (sizes .entry))) xp y ⌝ }
+        ≡ outerRed near far (lentLinks (now (cells .entry)) root (now (sizes .entry))) xp y ⌝ }
 {
     let hue = colour(cells, xp);
     paint(cells, y, hue);
@@ -186,9 +186,9 @@ fn settle(
 
 // The inner nephew is red and the outer is not: the inner one turns black, the sibling red, and the sibling goes down on
 // the far side.
-fn tuck(cells: &mut [u32], sizes: &mut [u32], root: u32, y: u32, near: u32, far: u32) -> u32
+fn inner_red(cells: &mut [u32], sizes: &mut [u32], root: u32, y: u32, near: u32, far: u32) -> u32
     ensures { λ top. ⌜ lentLinks (now (cells .exit)) top (now (sizes .exit))
-        ≡ tucked near far (lentLinks (now (cells .entry)) root (now (sizes .entry))) y ⌝ }
+        ≡ innerRed near far (lentLinks (now (cells .entry)) root (now (sizes .entry))) y ⌝ }
 {
     let inner = get(cells, y, near);
     paint(cells, inner, BLACK);
@@ -197,7 +197,7 @@ fn tuck(cells: &mut [u32], sizes: &mut [u32], root: u32, y: u32, near: u32, far:
 }
 
 // The sibling y is not red. With no red nephew it turns red, and the loop goes on from the parent.
-fn ease(
+fn dark_sibling(
     cells: &mut [u32],
     sizes: &mut [u32],
     root: u32,
@@ -208,25 +208,25 @@ fn ease(
     far: u32,
 ) -> Step
     ensures { λ r. ⌜ turnOf r (now (cells .exit)) (now (sizes .exit))
-        ≡ eased near far (lentLinks (now (cells .entry)) root (now (sizes .entry))) x xp y ⌝ }
+        ≡ darkSib near far (lentLinks (now (cells .entry)) root (now (sizes .entry))) x xp y ⌝ }
 {
     let outer = get(cells, y, far);
     if is_red(cells, outer) {
-        return settle(cells, sizes, root, xp, y, near, far);
+        return outer_red(cells, sizes, root, xp, y, near, far);
     }
     let inner = get(cells, y, near);
     if is_red(cells, inner) {
-        let low = tuck(cells, sizes, root, y, near, far);
+        let low = inner_red(cells, sizes, root, y, near, far);
         let q = get(cells, x, PARENT);
         let z = get(cells, q, far);
-        return settle(cells, sizes, low, q, z, near, far);
+        return outer_red(cells, sizes, low, q, z, near, far);
     }
     paint(cells, y, RED);
     Step::More(root, xp)
 }
 
 // A red sibling turns black, the parent red, and the parent goes down first.
-fn sink(
+fn by_sibling(
     cells: &mut [u32],
     sizes: &mut [u32],
     root: u32,
@@ -236,7 +236,7 @@ fn sink(
     far: u32,
 ) -> Step
     ensures { λ r. ⌜ turnOf r (now (cells .exit)) (now (sizes .exit))
-        ≡ sunk near far (lentLinks (now (cells .entry)) root (now (sizes .entry))) x xp ⌝ }
+        ≡ bySib near far (lentLinks (now (cells .entry)) root (now (sizes .entry))) x xp ⌝ }
 {
     let y = get(cells, xp, far);
     if is_red(cells, y) {
@@ -245,9 +245,9 @@ fn sink(
         let low = rotate(cells, sizes, root, xp, near, far);
         let q = get(cells, x, PARENT);
         let z = get(cells, q, far);
-        return ease(cells, sizes, low, x, q, z, near, far);
+        return dark_sibling(cells, sizes, low, x, q, z, near, far);
     }
-    ease(cells, sizes, root, x, xp, y, near, far)
+    dark_sibling(cells, sizes, root, x, xp, y, near, far)
 }
 
 // One turn of balance_deletion: it ends at null and at the root, before it looks at the colour; x with no parent is the
@@ -272,9 +272,9 @@ fn deletion_turn(cells: &mut [u32], sizes: &mut [u32], root: u32, x: u32) -> Ste
         return Step::Done(root);
     }
     if get(cells, xp, LEFT) == x {
-        return sink(cells, sizes, root, x, xp, LEFT, RIGHT);
+        return by_sibling(cells, sizes, root, x, xp, LEFT, RIGHT);
     }
-    sink(cells, sizes, root, x, xp, RIGHT, LEFT)
+    by_sibling(cells, sizes, root, x, xp, RIGHT, LEFT)
 }
 
 // From x on, the loop runs for at most budget turns. Returns the root.

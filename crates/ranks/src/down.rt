@@ -8,17 +8,10 @@ use slots::comes_before;
 use slots::get;
 use slots::name;
 use slots::word;
+use std::num::wrapping_add_u32;
 ghost use mathlib.Core.Path.{_≡_};
 ghost use Rattle.tree_rules.specs.Ranks.{kthFrom, rankFrom};
-ghost use Rattle.slots.specs.Words.{sum};
 ghost use Rattle.ranks.specs.Ways.{rankOf};
-
-// A sum of 32-bit words, which begins again at 0 past the last.
-fn add(a: u32, b: u32) -> u32
-    ensures { λ r. ⌜ r ≡ sum a b ⌝ }
-{
-    std::num::wrapping_add_u32(a, b)
-}
 
 // The slot at position k below root, counted from 0.
 pub(crate) fn kth_slot(cells: &[u32], sizes: &[u32], root: u32, k: u32, steps: u32) -> u32
@@ -50,7 +43,7 @@ pub(crate) enum Rank {
     Absent,
 }
 
-// The position of the pair below root.
+// The position of the pair below root. A sum begins again at 0 past the last word, as the model's does.
 pub(crate) fn pair_rank(
     names: &[u64],
     cells: &[u32],
@@ -78,9 +71,9 @@ pub(crate) fn pair_rank(
         } else {
             let w = word(sizes, l as usize, 0);
             if !comes_before(at, own, hash, key) {
-                return Rank::At(add(m, w));
+                return Rank::At(wrapping_add_u32(m, w));
             }
-            m = add(add(m, w), 1);
+            m = wrapping_add_u32(wrapping_add_u32(m, w), 1);
             i = get(cells, i, RIGHT);
         }
     }

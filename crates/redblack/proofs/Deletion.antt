@@ -15,7 +15,7 @@ use Rattle.redblack.specs.Links.{Links, read, painted, isRed, Turn, done
 use Rattle.redblack.specs.Sided.{Sided, Frame, Way, top, plug, around, slots, count, countWay, Cap, Site, fork, frame, home}
 use Rattle.redblack.specs.Balance.{RedBlack, Wants, crown, Mended, void, dark, rosy, atop, below, under}
 use Rattle.redblack.specs.Rotate.{rotated}
-use Rattle.redblack.specs.Deletion.{capped, settled, tucked, eased, sunk, deletionTurn, balancedDeletion}
+use Rattle.redblack.specs.Deletion.{capped, outerRed, innerRed, darkSib, bySib, deletionTurn, balancedDeletion}
 use Rattle.redblack.proofs.Reading.{reads, roomy-cap, solid}
 use Rattle.redblack.proofs.Frames.{hit-same, apart, count-top, cell-of, this-of, that-of, way-cell, way-tree, outward, inward, turn}
 use Rattle.redblack.proofs.Frames.{turn′, not-root}
@@ -46,15 +46,15 @@ turn-red {f = frame τ c xp y} h =
     let k = cell-of (h .tree) in
     rw (solid (k .inside) (h .cap .small), ne-eqb _ _ (not-root h), k .above, solid (way-cell (h .way) .inside) (h .cap .small), k .hued)
 
-turn-sunk : {n : ℕ} {s : Links} {σ τ : Side} {c : Colour} {C : Way} {a b y : Sided} {x xp : ℕ}
-    → Site n s (frame τ c xp y ∷ C) (fork σ black a x b) → deletionTurn s x ≡ sunk (toward τ) (toward (other τ)) s x xp
+turn-bySib : {n : ℕ} {s : Links} {σ τ : Side} {c : Colour} {C : Way} {a b y : Sided} {x xp : ℕ}
+    → Site n s (frame τ c xp y ∷ C) (fork σ black a x b) → deletionTurn s x ≡ bySib (toward τ) (toward (other τ)) s x xp
 unfolding deletionTurn count countWay
-turn-sunk {s = s} {τ = τ} {y = y} {x} {xp} h =
+turn-bySib {s = s} {τ = τ} {y = y} {x} {xp} h =
     let k = cell-of (h .tree) in
     let m = way-cell (h .way) in
     let ne : x ≢ top y = apart (omega (arith, h .once x, hit-same x, count-top x y (omega (arith, k .inside, h .cap .small)))) in
     rw (solid (k .inside) (h .cap .small), ne-eqb _ _ (not-root h), k .above, solid (m .inside) (h .cap .small), k .hued)
-    (pick-side s τ x xp (λ (f g : ℕ). sunk f g s x xp) (m .this) (λ e. ne (sym e ∙ m .that)))
+    (pick-side s τ x xp (λ (f g : ℕ). bySib f g s x xp) (m .this) (λ e. ne (sym e ∙ m .that)))
 
 -- The sibling i has the colour c that xp had, its outer child j and xp are black, and no other word is written.
 record Caps (s t : Links) (c : Colour) (i j xp : ℕ) : Type 0 where
@@ -79,36 +79,37 @@ caps s τ c xp i j k wi wj wp a b d hc kj =
       lower = simp (reads, roomy-cap xp k wp);
     }
 
-tucked-is : (s : Links) (τ : Side) (i j : ℕ) → read s i (toward τ) ≡ j
-    → tucked (toward τ) (toward (other τ)) s i ≡ rotated (toward (other τ)) (toward τ) (painted (painted s j black) i red) i
-unfolding tucked
-tucked-is s τ i j e = ap (λ (k : ℕ). rotated (toward (other τ)) (toward τ) (painted (painted s k black) i red) i) e
+innerRed-is : (s : Links) (τ : Side) (i j : ℕ) → read s i (toward τ) ≡ j
+    → innerRed (toward τ) (toward (other τ)) s i ≡ rotated (toward (other τ)) (toward τ) (painted (painted s j black) i red) i
+unfolding innerRed
+innerRed-is s τ i j e = ap (λ (k : ℕ). rotated (toward (other τ)) (toward τ) (painted (painted s k black) i red) i) e
 
-eased-outer : (near far : ℕ) (s : Links) (x xp i j : ℕ) → read s i far ≡ j → isRed s j ≡ true
-    → eased near far s x xp i ≡ settled near far s xp i
-unfolding eased
-eased-outer near far s x xp i j e f = rw (e, f)
+darkSib-outer : (near far : ℕ) (s : Links) (x xp i j : ℕ) → read s i far ≡ j → isRed s j ≡ true
+    → darkSib near far s x xp i ≡ outerRed near far s xp i
+unfolding darkSib
+darkSib-outer near far s x xp i j e f = rw (e, f)
 
-eased-inner : (near far : ℕ) (s : Links) (x xp i j k z : ℕ) → read s i far ≡ j → isRed s j ≡ false → read s i near ≡ k → isRed s k ≡ true
-    → read (tucked near far s i) x parent ≡ xp → read (tucked near far s i) xp far ≡ z
-    → eased near far s x xp i ≡ settled near far (tucked near far s i) xp z
-unfolding eased
-eased-inner near far s x xp i j k z e f e′ f′ p q = rw (e, f, e′, f′, p, q)
+darkSib-inner : (near far : ℕ) (s : Links) (x xp i j k z : ℕ) → read s i far ≡ j → isRed s j ≡ false → read s i near ≡ k → isRed s k ≡ true
+    → read (innerRed near far s i) x parent ≡ xp → read (innerRed near far s i) xp far ≡ z
+    → darkSib near far s x xp i ≡ outerRed near far (innerRed near far s i) xp z
+unfolding darkSib
+darkSib-inner near far s x xp i j k z e f e′ f′ p q = rw (e, f, e′, f′, p, q)
 
-eased-dark : (near far : ℕ) (s : Links) (x xp i j k : ℕ) → read s i far ≡ j → isRed s j ≡ false → read s i near ≡ k → isRed s k ≡ false
-    → eased near far s x xp i ≡ more (painted s i red) xp
-unfolding eased
-eased-dark near far s x xp i j k e f e′ f′ = rw (e, f, e′, f′)
+darkSib-dark : (near far : ℕ) (s : Links) (x xp i j k : ℕ) → read s i far ≡ j → isRed s j ≡ false → read s i near ≡ k → isRed s k ≡ false
+    → darkSib near far s x xp i ≡ more (painted s i red) xp
+unfolding darkSib
+darkSib-dark near far s x xp i j k e f e′ f′ = rw (e, f, e′, f′)
 
-sunk-dark : (near far : ℕ) (s : Links) (x xp i : ℕ) → read s xp far ≡ i → isRed s i ≡ false → sunk near far s x xp ≡ eased near far s x xp i
-unfolding sunk
-sunk-dark near far s x xp i e f = rw (e, f)
+bySib-dark : (near far : ℕ) (s : Links) (x xp i : ℕ) → read s xp far ≡ i → isRed s i ≡ false
+    → bySib near far s x xp ≡ darkSib near far s x xp i
+unfolding bySib
+bySib-dark near far s x xp i e f = rw (e, f)
 
-sunk-red : (near far : ℕ) (s : Links) (x xp i z : ℕ) → read s xp far ≡ i → isRed s i ≡ true
+bySib-red : (near far : ℕ) (s : Links) (x xp i z : ℕ) → read s xp far ≡ i → isRed s i ≡ true
     → (let t = rotated near far (painted (painted s i black) xp red) xp in
-    read t x parent ≡ xp → read t xp far ≡ z → sunk near far s x xp ≡ eased near far t x xp z)
-unfolding sunk
-sunk-red near far s x xp i z e f p q = rw (e, f, p, q)
+    read t x parent ≡ xp → read t xp far ≡ z → bySib near far s x xp ≡ darkSib near far t x xp z)
+unfolding bySib
+bySib-red near far s x xp i z e f p q = rw (e, f, p, q)
 
 -- The view goes over to the sibling, and back.
 over : {n : ℕ} {s : Links} {τ : Side} {c : Colour} {i : ℕ} {t y : Sided} {C : Way} → Site n s (frame τ c i y ∷ C) t
@@ -120,12 +121,12 @@ over′ : {n : ℕ} {s : Links} {τ : Side} {c : Colour} {i : ℕ} {t y : Sided}
 over′ h = inward (turn′ (outward h))
 
 -- The outer nephew is red.
-settled-site : {n : ℕ} {s : Links} {τ β : Side} {c : Colour} {C : Way} {t a b d : Sided} {xp i j : ℕ} → crown C c ≡ c
+outerRed-site : {n : ℕ} {s : Links} {τ β : Side} {c : Colour} {C : Way} {t a b d : Sided} {xp i j : ℕ} → crown C c ≡ c
     → Site n s (frame τ c xp (fork τ black a i (fork β red b j d)) ∷ C) t
     → (let u = capped (toward τ) (toward (other τ)) s xp i in
     Site n (rotated (toward τ) (toward (other τ)) u xp) (frame τ black xp a ∷ (frame τ c i (fork β black b j d) ∷ C)) t)
 unfolding count countWay
-settled-site {s = s} {τ} {c = c} {xp = xp} {i} {j} e h =
+outerRed-site {s = s} {τ} {c = c} {xp = xp} {i} {j} e h =
     let w = way-cell (h .way) in
     let y = way-tree (h .way) in
     let wi = cell-of y .inside in
@@ -139,16 +140,16 @@ settled-site {s = s} {τ} {c = c} {xp = xp} {i} {j} e h =
     inward (inward (rw e at v))
 
 -- The inner one.
-tucked-site : {n : ℕ} {s : Links} {τ : Side} {c : Colour} {C : Way} {t p q b : Sided} {xp i j : ℕ}
+innerRed-site : {n : ℕ} {s : Links} {τ : Side} {c : Colour} {C : Way} {t p q b : Sided} {xp i j : ℕ}
     → Site n s (frame τ c xp (fork τ black (fork (other τ) red p j q) i b) ∷ C) t
     → Site n (rotated (toward (other τ)) (toward τ) (painted (painted s j black) i red) i)
     (frame τ c xp (fork τ black q j (fork (other τ) red b i p)) ∷ C) t
-tucked-site {τ = τ} h = over′ (turn′ (rotation′ τ (turn (painting red (painting-this black (over h))))))
+innerRed-site {τ = τ} h = over′ (turn′ (rotation′ τ (turn (painting red (painting-this black (over h))))))
 
 -- The sibling is red.
-sunk-site : {n : ℕ} {s : Links} {τ : Side} {C : Way} {t a b : Sided} {xp i : ℕ} → Site n s (frame τ black xp (fork τ red a i b) ∷ C) t
+bySib-site : {n : ℕ} {s : Links} {τ : Side} {C : Way} {t a b : Sided} {xp i : ℕ} → Site n s (frame τ black xp (fork τ red a i b) ∷ C) t
     → Site n (rotated (toward τ) (toward (other τ)) (painted (painted s i black) xp red) xp) (frame τ red xp a ∷ (frame τ black i b ∷ C)) t
-sunk-site {C = C} h = let v = rotation (painting red (painting-that black (outward h))) in inward (inward (rw (crown-black C) at v))
+bySib-site {C = C} h = let v = rotation (painting red (painting-that black (outward h))) in inward (inward (rw (crown-black C) at v))
 
 -- The same of links that are the same, and of a way that lists the same slots.
 renamed : {n : ℕ} {s s′ : Links} {C D : Way} {t g : Sided} → s ≡ s′ → ((v : Sided) → slots (plug D v) ≡ slots (plug C v))
@@ -201,8 +202,8 @@ ending : {n h : ℕ} {s : Links} {τ β : Side} {c ca e : Colour} {C : Way} {t g
     → Wants (suc h) e (frame τ c xp (fork τ black a i (fork β red b j d)) ∷ C) → RedBlack black h g → RedBlack ca h a → RedBlack black h b
     → RedBlack black h d
     → Site n s (frame τ c xp (fork τ black a i (fork β red b j d)) ∷ C) t
-    → Mended n (resumed m (settled (toward τ) (toward (other τ)) s xp i)) (frame τ c xp (fork τ black a i (fork β red b j d)) ∷ C) t g
-unfolding plug slots settled
+    → Mended n (resumed m (outerRed (toward τ) (toward (other τ)) s xp i)) (frame τ c xp (fork τ black a i (fork β red b j d)) ∷ C) t g
+unfolding plug slots outerRed
 ending {s = s} {τ} {β} {c} {C = C} {g = g} {a} {b} {d} {xp} {i} {j} m w sg sa sb sd h =
     let s2 = rotated (toward τ) (toward (other τ)) (capped (toward τ) (toward (other τ)) s xp i) xp in
     let z = crowned τ i w (dark sg sa) (dark sb sd) in
@@ -210,7 +211,7 @@ ending {s = s} {τ} {β} {c} {C = C} {g = g} {a} {b} {d} {xp} {i} {j} m w sg sa 
     (record {
       path = frame τ black xp a ∷ (frame τ c i (fork β black b j d) ∷ C);
       height = z .0;
-      site = settled-site (crown-is w) h;
+      site = outerRed-site (crown-is w) h;
       sound = z .1;
       same = λ v. slots-plug C (fork τ c (fork τ black v xp a) i (fork β black b j d)) (fork τ c v xp (fork τ black a i (fork β red b j d)))
           (around-spin τ (slots v) xp (slots a) i (around β (slots b) j (slots d)));
@@ -220,10 +221,10 @@ outer : {n h : ℕ} {s : Links} {τ β : Side} {c ca e : Colour} {C : Way} {t g 
     → Wants (suc h) e (frame τ c xp (fork τ black a i (fork β red b j d)) ∷ C) → RedBlack black h g → RedBlack ca h a → RedBlack black h b
     → RedBlack black h d
     → Site n s (frame τ c xp (fork τ black a i (fork β red b j d)) ∷ C) t
-    → Mended n (resumed m (eased (toward τ) (toward (other τ)) s x xp i)) (frame τ c xp (fork τ black a i (fork β red b j d)) ∷ C) t g
+    → Mended n (resumed m (darkSib (toward τ) (toward (other τ)) s x xp i)) (frame τ c xp (fork τ black a i (fork β red b j d)) ∷ C) t g
 outer {s = s} {τ} {xp = xp} {i} {j} m x w sg sa sb sd h =
     let y = way-tree (h .way) in
-    carried (ap (resumed m) (eased-outer (toward τ) (toward (other τ)) s x xp i j (cell-of y .that) (red-top (that-of y))))
+    carried (ap (resumed m) (darkSib-outer (toward τ) (toward (other τ)) s x xp i j (cell-of y .that) (red-top (that-of y))))
     (ending m w sg sa sb sd h)
 
 -- The inner one is red, and the outer one is not.
@@ -236,15 +237,15 @@ inner : {n h : ℕ} {s : Links} {τ ρ : Side} {c e : Colour} {C : Way} {g p q b
     → Wants (suc h) e (frame τ c xp (fork τ black (fork (other τ) red p j q) i b) ∷ C) → RedBlack black h g → RedBlack black h p
     → RedBlack black h q → RedBlack black h b
     → Site n s (frame τ c xp (fork τ black (fork (other τ) red p j q) i b) ∷ C) (fork ρ black t₁ x t₂)
-    → Mended n (resumed m (eased (toward τ) (toward (other τ)) s x xp i)) (frame τ c xp (fork τ black (fork (other τ) red p j q) i b) ∷ C)
+    → Mended n (resumed m (darkSib (toward τ) (toward (other τ)) s x xp i)) (frame τ c xp (fork τ black (fork (other τ) red p j q) i b) ∷ C)
     (fork ρ black t₁ x t₂) g
 unfolding slots
 inner {s = s} {τ} {c = c} {C = C} {p = p} {q} {b} {x = x} {xp} {i} {j} m w sg sp sq sb h =
     let y = way-tree (h .way) in
-    let v = tucked-site h in
-    let f = tucked-is s τ i j (cell-of y .this) in
+    let v = innerRed-site h in
+    let f = innerRed-is s τ i j (cell-of y .this) in
     let e =
-    eased-inner (toward τ) (toward (other τ)) s x xp i (top b) j j (cell-of y .that) (dark-top (h .cap) sb (that-of y)) (cell-of y .this)
+    darkSib-inner (toward τ) (toward (other τ)) s x xp i (top b) j j (cell-of y .that) (dark-top (h .cap) sb (that-of y)) (cell-of y .this)
     (red-top (this-of y))
     (rw f (cell-of (v .tree) .above)) (rw f (way-cell (v .way) .that)) in
     renamed (ap (resumed m) (e ∙ rw f))
@@ -256,17 +257,17 @@ inner {s = s} {τ} {c = c} {C = C} {p = p} {q} {b} {x = x} {xp} {i} {j} m w sg s
 flat : {n h : ℕ} {s : Links} {τ : Side} {c : Colour} {C : Way} {t a b : Sided} {xp i : ℕ} (m x : ℕ) → RedBlack black h a
     → RedBlack black h b
     → Site n s (frame τ c xp (fork τ black a i b) ∷ C) t
-    → resumed m (eased (toward τ) (toward (other τ)) s x xp i) ≡ balancedDeletion m (painted s i red) xp
+    → resumed m (darkSib (toward τ) (toward (other τ)) s x xp i) ≡ balancedDeletion m (painted s i red) xp
 flat {s = s} {τ} {a = a} {b} {xp} {i} m x sa sb h =
     let y = way-tree (h .way) in
-    ap (resumed m) (eased-dark (toward τ) (toward (other τ)) s x xp i (top b) (top a) (cell-of y .that) (dark-top (h .cap) sb (that-of y))
+    ap (resumed m) (darkSib-dark (toward τ) (toward (other τ)) s x xp i (top b) (top a) (cell-of y .that) (dark-top (h .cap) sb (that-of y))
     (cell-of y .this) (dark-top (h .cap) sa (this-of y)))
     ∙ resumed-more m (painted s i red) xp
 
 flat-red : {n h : ℕ} {s : Links} {τ : Side} {C : Way} {t g a b : Sided} {xp i : ℕ} (m x : ℕ) → 0 < m → Wants (suc h) black C
     → RedBlack black h g → RedBlack black h a → RedBlack black h b
     → Site n s (frame τ red xp (fork τ black a i b) ∷ C) t
-    → Mended n (resumed m (eased (toward τ) (toward (other τ)) s x xp i)) (frame τ red xp (fork τ black a i b) ∷ C) t g
+    → Mended n (resumed m (darkSib (toward τ) (toward (other τ)) s x xp i)) (frame τ red xp (fork τ black a i b) ∷ C) t g
 unfolding plug slots
 flat-red {s = s} {τ} {C} {a = a} {b} {xp} {i} m x l (below w u) sg sa sb h =
     let v = painting-that red (outward h) in
@@ -288,7 +289,7 @@ record Restores (m : ℕ) : Type 0 where
 flat-black : {n h : ℕ} {s : Links} {τ : Side} {c : Colour} {C : Way} {t g a b : Sided} {xp i : ℕ} (m x : ℕ) → Restores m → length C < m
     → Wants (suc (suc h)) c C → RedBlack black h g → RedBlack black h a → RedBlack black h b
     → Site n s (frame τ black xp (fork τ black a i b) ∷ C) t
-    → Mended n (resumed m (eased (toward τ) (toward (other τ)) s x xp i)) (frame τ black xp (fork τ black a i b) ∷ C) t g
+    → Mended n (resumed m (darkSib (toward τ) (toward (other τ)) s x xp i)) (frame τ black xp (fork τ black a i b) ∷ C) t g
 unfolding plug slots
 flat-black {s = s} {τ} {C = C} {a = a} {b} {xp} {i} m x again l w sg sa sb h =
     let v = painting-that red (outward h) in
@@ -317,7 +318,7 @@ inner-same : {n h : ℕ} {s : Links} {τ ρ : Side} {c e : Colour} {C : Way} {g 
     → Wants (suc h) e (frame τ c xp (fork τ black (fork τ red p j q) i b) ∷ C) → RedBlack black h g → RedBlack black h p
     → RedBlack black h q → RedBlack black h b
     → Site n s (frame τ c xp (fork τ black (fork τ red p j q) i b) ∷ C) (fork ρ black t₁ x t₂)
-    → Mended n (resumed m (eased (toward τ) (toward (other τ)) s x xp i)) (frame τ c xp (fork τ black (fork τ red p j q) i b) ∷ C)
+    → Mended n (resumed m (darkSib (toward τ) (toward (other τ)) s x xp i)) (frame τ c xp (fork τ black (fork τ red p j q) i b) ∷ C)
     (fork ρ black t₁ x t₂) g
 inner-same {τ = τ} {c = c} {C = C} {p = p} {q} {b} {xp = xp} {i} {j} m w sg sp sq sb h =
     renamed refl
@@ -329,7 +330,7 @@ inner-any : {n h : ℕ} {s : Links} {ρ : Side} {c e : Colour} {C : Way} {g p q 
     → Wants (suc h) e (frame τ c xp (fork τ black (fork α red p j q) i b) ∷ C) → RedBlack black h g → RedBlack black h p
     → RedBlack black h q → RedBlack black h b
     → Site n s (frame τ c xp (fork τ black (fork α red p j q) i b) ∷ C) (fork ρ black t₁ x t₂)
-    → Mended n (resumed m (eased (toward τ) (toward (other τ)) s x xp i)) (frame τ c xp (fork τ black (fork α red p j q) i b) ∷ C)
+    → Mended n (resumed m (darkSib (toward τ) (toward (other τ)) s x xp i)) (frame τ c xp (fork τ black (fork α red p j q) i b) ∷ C)
     (fork ρ black t₁ x t₂) g
 inner-any leftward rightward m w sg sp sq sb h = inner m w sg sp sq sb h
 inner-any rightward leftward m w sg sp sq sb h = inner m w sg sp sq sb h
@@ -341,8 +342,10 @@ dimmed : {n h : ℕ} {s : Links} {τ ρ : Side} {c ca e : Colour} {C : Way} {g a
     → Wants (suc h) e (frame τ c xp (fork τ black a i b) ∷ C) → RedBlack black h g → RedBlack ca h a → RedBlack black h b
     → Site n s (frame τ c xp (fork τ black a i b) ∷ C) (fork ρ black t₁ x t₂)
     → (RedBlack black h a → RedBlack black h b
-    → Mended n (resumed m (eased (toward τ) (toward (other τ)) s x xp i)) (frame τ c xp (fork τ black a i b) ∷ C) (fork ρ black t₁ x t₂) g)
-    → Mended n (resumed m (eased (toward τ) (toward (other τ)) s x xp i)) (frame τ c xp (fork τ black a i b) ∷ C) (fork ρ black t₁ x t₂) g
+    → Mended n (resumed m (darkSib (toward τ) (toward (other τ)) s x xp i)) (frame τ c xp (fork τ black a i b) ∷ C)
+    (fork ρ black t₁ x t₂) g)
+    → Mended n (resumed m (darkSib (toward τ) (toward (other τ)) s x xp i)) (frame τ c xp (fork τ black a i b) ∷ C)
+    (fork ρ black t₁ x t₂) g
 dimmed m w sg void sb h k = k void sb
 dimmed m w sg (dark u v) sb h k = k (dark u v) sb
 dimmed m w sg (rosy u v) sb h k = inner-any _ _ m w sg u v sb h
@@ -351,8 +354,10 @@ eases : {n h : ℕ} {s : Links} {τ ρ : Side} {c ca cb e : Colour} {C : Way} {g
     → Wants (suc h) e (frame τ c xp (fork τ black a i b) ∷ C) → RedBlack black h g → RedBlack ca h a → RedBlack cb h b
     → Site n s (frame τ c xp (fork τ black a i b) ∷ C) (fork ρ black t₁ x t₂)
     → (RedBlack black h a → RedBlack black h b
-    → Mended n (resumed m (eased (toward τ) (toward (other τ)) s x xp i)) (frame τ c xp (fork τ black a i b) ∷ C) (fork ρ black t₁ x t₂) g)
-    → Mended n (resumed m (eased (toward τ) (toward (other τ)) s x xp i)) (frame τ c xp (fork τ black a i b) ∷ C) (fork ρ black t₁ x t₂) g
+    → Mended n (resumed m (darkSib (toward τ) (toward (other τ)) s x xp i)) (frame τ c xp (fork τ black a i b) ∷ C)
+    (fork ρ black t₁ x t₂) g)
+    → Mended n (resumed m (darkSib (toward τ) (toward (other τ)) s x xp i)) (frame τ c xp (fork τ black a i b) ∷ C)
+    (fork ρ black t₁ x t₂) g
 eases m w sg sa void h k = dimmed m w sg sa void h k
 eases m w sg sa (dark u v) h k = dimmed m w sg sa (dark u v) h k
 eases {x = x} m w sg sa (rosy u v) h k = outer m x w sg sa u v h
@@ -361,13 +366,14 @@ eases {x = x} m w sg sa (rosy u v) h k = outer m x w sg sa u v h
 eases-red : {n h : ℕ} {s : Links} {τ ρ : Side} {ca cb : Colour} {C : Way} {g a b t₁ t₂ : Sided} {x xp i : ℕ} (m : ℕ) → 0 < m
     → Wants (suc h) black C → RedBlack black h g → RedBlack ca h a → RedBlack cb h b
     → Site n s (frame τ red xp (fork τ black a i b) ∷ C) (fork ρ black t₁ x t₂)
-    → Mended n (resumed m (eased (toward τ) (toward (other τ)) s x xp i)) (frame τ red xp (fork τ black a i b) ∷ C) (fork ρ black t₁ x t₂) g
+    → Mended n (resumed m (darkSib (toward τ) (toward (other τ)) s x xp i)) (frame τ red xp (fork τ black a i b) ∷ C)
+    (fork ρ black t₁ x t₂) g
 eases-red {x = x} m l w sg sa sb h = eases m (under w (dark sa sb)) sg sa sb h (λ ra rb. flat-red m x l w sg ra rb h)
 
 eases-black : {n h : ℕ} {s : Links} {τ ρ : Side} {c ca cb : Colour} {C : Way} {g a b t₁ t₂ : Sided} {x xp i : ℕ} (m : ℕ) → Restores m
     → length C < m → Wants (suc (suc h)) c C → RedBlack black h g → RedBlack ca h a → RedBlack cb h b
     → Site n s (frame τ black xp (fork τ black a i b) ∷ C) (fork ρ black t₁ x t₂)
-    → Mended n (resumed m (eased (toward τ) (toward (other τ)) s x xp i)) (frame τ black xp (fork τ black a i b) ∷ C)
+    → Mended n (resumed m (darkSib (toward τ) (toward (other τ)) s x xp i)) (frame τ black xp (fork τ black a i b) ∷ C)
     (fork ρ black t₁ x t₂) g
 eases-black {x = x} m again l w sg sa sb h = eases m (below w (dark sa sb)) sg sa sb h (λ ra rb. flat-black m x again l w sg ra rb h)
 
@@ -394,15 +400,15 @@ faced rightward leftward h f k = faced-other h k
 -- A turn where the sibling is black.
 sinks-dark : {n h : ℕ} {s : Links} {τ : Side} {c ca cb : Colour} {C : Way} {a b t : Sided} {xp i : ℕ} (m x : ℕ) → RedBlack ca h a
     → RedBlack cb h b → Site n s (frame τ c xp (fork τ black a i b) ∷ C) t
-    → resumed m (sunk (toward τ) (toward (other τ)) s x xp) ≡ resumed m (eased (toward τ) (toward (other τ)) s x xp i)
+    → resumed m (bySib (toward τ) (toward (other τ)) s x xp) ≡ resumed m (darkSib (toward τ) (toward (other τ)) s x xp i)
 sinks-dark {s = s} {τ} {xp = xp} {i} m x sa sb h =
     ap (resumed m)
-    (sunk-dark (toward τ) (toward (other τ)) s x xp i (way-cell (h .way) .that) (dark-top (h .cap) (dark sa sb) (way-tree (h .way))))
+    (bySib-dark (toward τ) (toward (other τ)) s x xp i (way-cell (h .way) .that) (dark-top (h .cap) (dark sa sb) (way-tree (h .way))))
 
 sinks-black : {n h : ℕ} {s : Links} {τ ω ρ : Side} {c ca cb : Colour} {C : Way} {g a b t₁ t₂ : Sided} {x xp i : ℕ} (m : ℕ) → Restores m
     → length C < m → Wants (suc (suc h)) c C → RedBlack black h g → RedBlack ca h a → RedBlack cb h b
     → Site n s (frame τ black xp (fork ω black a i b) ∷ C) (fork ρ black t₁ x t₂)
-    → Mended n (resumed m (sunk (toward τ) (toward (other τ)) s x xp)) (frame τ black xp (fork ω black a i b) ∷ C) (fork ρ black t₁ x t₂) g
+    → Mended n (resumed m (bySib (toward τ) (toward (other τ)) s x xp)) (frame τ black xp (fork ω black a i b) ∷ C) (fork ρ black t₁ x t₂) g
 sinks-black {τ = τ} {ω} {x = x} m again l w sg sa sb h =
     faced τ ω h (λ k. carried (sinks-dark m x sa sb k) (eases-black m again l w sg sa sb k))
     (λ k. carried (sinks-dark m x sb sa k) (eases-black m again l w sg sb sa k))
@@ -410,7 +416,7 @@ sinks-black {τ = τ} {ω} {x = x} m again l w sg sa sb h =
 sinks-under : {n h : ℕ} {s : Links} {τ ω ρ : Side} {ca cb : Colour} {C : Way} {g a b t₁ t₂ : Sided} {x xp i : ℕ} (m : ℕ) → 0 < m
     → Wants (suc h) black C → RedBlack black h g → RedBlack ca h a → RedBlack cb h b
     → Site n s (frame τ red xp (fork ω black a i b) ∷ C) (fork ρ black t₁ x t₂)
-    → Mended n (resumed m (sunk (toward τ) (toward (other τ)) s x xp)) (frame τ red xp (fork ω black a i b) ∷ C) (fork ρ black t₁ x t₂) g
+    → Mended n (resumed m (bySib (toward τ) (toward (other τ)) s x xp)) (frame τ red xp (fork ω black a i b) ∷ C) (fork ρ black t₁ x t₂) g
 sinks-under {τ = τ} {ω} {x = x} m l w sg sa sb h =
     faced τ ω h (λ k. carried (sinks-dark m x sa sb k) (eases-red m l w sg sa sb k))
     (λ k. carried (sinks-dark m x sb sa k) (eases-red m l w sg sb sa k))
@@ -419,12 +425,12 @@ sinks-under {τ = τ} {ω} {x = x} m l w sg sa sb h =
 reds : {n h : ℕ} {s : Links} {τ ρ : Side} {c : Colour} {C : Way} {g a b t₁ t₂ : Sided} {x xp i : ℕ} (m : ℕ) → 0 < m
     → Wants (suc (suc h)) c C → RedBlack black h g → RedBlack black (suc h) a → RedBlack black (suc h) b
     → Site n s (frame τ black xp (fork τ red a i b) ∷ C) (fork ρ black t₁ x t₂)
-    → Mended n (resumed m (sunk (toward τ) (toward (other τ)) s x xp)) (frame τ black xp (fork τ red a i b) ∷ C) (fork ρ black t₁ x t₂) g
+    → Mended n (resumed m (bySib (toward τ) (toward (other τ)) s x xp)) (frame τ black xp (fork τ red a i b) ∷ C) (fork ρ black t₁ x t₂) g
 unfolding plug slots
 reds {s = s} {τ} {C = C} {b = b} {x = x} {xp} {i} m l w sg (dark {σ = α} {a = a₁} {b = a₂} {i = j} u v) sb h =
-    let q = sunk-site h in
+    let q = bySib-site h in
     let e =
-    sunk-red (toward τ) (toward (other τ)) s x xp i j (way-cell (h .way) .that) (red-top (way-tree (h .way))) (cell-of (q .tree) .above)
+    bySib-red (toward τ) (toward (other τ)) s x xp i j (way-cell (h .way) .that) (red-top (way-tree (h .way))) (cell-of (q .tree) .above)
     (way-cell (q .way) .that) in
     renamed (ap (resumed m) e)
     (λ v. slots-plug C (fork τ black (fork τ red v xp (fork α black a₁ j a₂)) i b)
@@ -434,13 +440,13 @@ reds {s = s} {τ} {C = C} {b = b} {x = x} {xp} {i} m l w sg (dark {σ = α} {a =
 sinks-red : {n h : ℕ} {s : Links} {τ ω ρ : Side} {c : Colour} {C : Way} {g a b t₁ t₂ : Sided} {x xp i : ℕ} (m : ℕ) → 0 < m
     → Wants (suc (suc h)) c C → RedBlack black h g → RedBlack black (suc h) a → RedBlack black (suc h) b
     → Site n s (frame τ black xp (fork ω red a i b) ∷ C) (fork ρ black t₁ x t₂)
-    → Mended n (resumed m (sunk (toward τ) (toward (other τ)) s x xp)) (frame τ black xp (fork ω red a i b) ∷ C) (fork ρ black t₁ x t₂) g
+    → Mended n (resumed m (bySib (toward τ) (toward (other τ)) s x xp)) (frame τ black xp (fork ω red a i b) ∷ C) (fork ρ black t₁ x t₂) g
 sinks-red {τ = τ} {ω} m l w sg sa sb h = faced τ ω h (λ k. reds m l w sg sa sb k) (λ k. reds m l w sg sb sa k)
 
 sinks : {n : ℕ} {s : Links} {τ ρ : Side} {c : Colour} {y : Sided} {C : Way} {t₁ t₂ : Sided} {x xp : ℕ} (m : ℕ)
     → Site n s (frame τ c xp y ∷ C) (fork ρ black t₁ x t₂)
-    → balancedDeletion (suc m) s x ≡ resumed m (sunk (toward τ) (toward (other τ)) s x xp)
-sinks {s = s} {x = x} m h = deletion-resumed m s x ∙ ap (resumed m) (turn-sunk h)
+    → balancedDeletion (suc m) s x ≡ resumed m (bySib (toward τ) (toward (other τ)) s x xp)
+sinks {s = s} {x = x} m h = deletion-resumed m s x ∙ ap (resumed m) (turn-bySib h)
 
 rises : (m : ℕ) → Restores m → Restores (suc m)
 unfolding plug

@@ -10,7 +10,7 @@ use Rattle.slots.proofs.Laws.{cell-across}
 use Rattle.redblack.specs.Links.{Links, read, rooted, painted, isRed, colourOf, Turn, done, more}
 use Rattle.redblack.specs.Rotate.{rotated}
 use Rattle.redblack.specs.Insertion.{raised, straightened, lifted, insertionTurn, insertionTurns, balancedInsertion}
-use Rattle.redblack.specs.Deletion.{capped, settled, tucked, eased, sunk, deletionTurn, balancedDeletion}
+use Rattle.redblack.specs.Deletion.{capped, outerRed, innerRed, darkSib, bySib, deletionTurn, balancedDeletion}
 use Rattle.redblack.proofs.Ends.{Link, up, on}
 
 -- The two fields of a rotation: a side's and the other's.
@@ -104,34 +104,35 @@ module _ {P R : ℕ → Type 0} {Inv : Links → Type 0} (K : Keeping P R Inv) w
   round-insertion m x px h = round-insertionTurns m x px (K .paint x red (K .loose px) h)
 
   -- The deletion: the next slot may be null.
-  round-settled : {near far : ℕ} {s : Links} (xp y : ℕ) → Sides near far → P xp → P y → Inv s → Round Inv P (settled near far s xp y)
-  unfolding settled capped
-  round-settled {near} {far} {s} xp y f pxp py h =
+  round-outerRed : {near far : ℕ} {s : Links} (xp y : ℕ) → Sides near far → P xp → P y → Inv s → Round Inv P (outerRed near far s xp y)
+  unfolding outerRed capped
+  round-outerRed {near} {far} {s} xp y f pxp py h =
       let h1 = K .paint y (colourOf s xp) py h in
       let h2 = K .spin xp f pxp (K .paint xp black pxp (K .paint _ black (K .link y far (far-link f) py h1) h1)) in
       going h2 (K .root h2)
 
-  round-tucked : {near far : ℕ} {s : Links} (y : ℕ) → Sides near far → P y → Inv s → Inv (tucked near far s y)
-  unfolding tucked
-  round-tucked {near} y f py h = K .spin y (flip f) py (K .paint y red py (K .paint _ black (K .link y near (near-link f) py h) h))
+  round-innerRed : {near far : ℕ} {s : Links} (y : ℕ) → Sides near far → P y → Inv s → Inv (innerRed near far s y)
+  unfolding innerRed
+  round-innerRed {near} y f py h = K .spin y (flip f) py (K .paint y red py (K .paint _ black (K .link y near (near-link f) py h) h))
 
-  round-eased : {near far : ℕ} {s : Links} (x xp y : ℕ) → Sides near far → P x → P xp → P y → Inv s → Round Inv P (eased near far s x xp y)
-  unfolding eased
-  round-eased {near} {far} {s} x xp y f px pxp py h =
-      let h1 = round-tucked y f py h in
+  round-darkSib : {near far : ℕ} {s : Links} (x xp y : ℕ) → Sides near far → P x → P xp → P y → Inv s
+      → Round Inv P (darkSib near far s x xp y)
+  unfolding darkSib
+  round-darkSib {near} {far} {s} x xp y f px pxp py h =
+      let h1 = round-innerRed y f py h in
       let pq = K .link x parent up px h1 in
-      turn-pick (isRed s (read s y far)) (λ e. round-settled xp y f pxp py h)
-      (λ e. turn-pick (isRed s (read s y near)) (λ d. round-settled _ _ f pq (K .link _ far (far-link f) pq h1) h1)
+      turn-pick (isRed s (read s y far)) (λ e. round-outerRed xp y f pxp py h)
+      (λ e. turn-pick (isRed s (read s y near)) (λ d. round-outerRed _ _ f pq (K .link _ far (far-link f) pq h1) h1)
       (λ d. going (K .paint y red py h) pxp))
 
-  round-sunk : {near far : ℕ} {s : Links} (x xp : ℕ) → Sides near far → P x → P xp → Inv s → Round Inv P (sunk near far s x xp)
-  unfolding sunk
-  round-sunk {near} {far} {s} x xp f px pxp h =
+  round-bySib : {near far : ℕ} {s : Links} (x xp : ℕ) → Sides near far → P x → P xp → Inv s → Round Inv P (bySib near far s x xp)
+  unfolding bySib
+  round-bySib {near} {far} {s} x xp f px pxp h =
       let py = K .link xp far (far-link f) pxp h in
       let h1 = K .spin xp f pxp (K .paint xp red pxp (K .paint _ black py h)) in
       let pq = K .link x parent up px h1 in
-      turn-pick (isRed s (read s xp far)) (λ e. round-eased x _ _ f px pq (K .link _ far (far-link f) pq h1) h1)
-      (λ e. round-eased x xp _ f px pxp py h)
+      turn-pick (isRed s (read s xp far)) (λ e. round-darkSib x _ _ f px pq (K .link _ far (far-link f) pq h1) h1)
+      (λ e. round-darkSib x xp _ f px pxp py h)
 
   pub round-deletionTurn : {s : Links} (x : ℕ) → P x → Inv s → Round Inv P (deletionTurn s x)
   unfolding deletionTurn
@@ -143,8 +144,8 @@ module _ {P R : ℕ → Type 0} {Inv : Links → Type 0} (K : Keeping P R Inv) w
       (λ d. turn-pick (eqb xp null)
       (λ u. ended (K .crown x (K .solid px e) (still-links s x black x ∙ eqb-true xp null u) (K .paint x black px h)))
       (λ u. turn-pick (isRed s x) (λ r. ended (K .paint x black px h))
-      (λ r. turn-pick (eqb (read s xp left) x) (λ v. round-sunk x xp (sides leftward) px pxp h)
-      (λ v. round-sunk x xp (sides rightward) px pxp h)))))
+      (λ r. turn-pick (eqb (read s xp left) x) (λ v. round-bySib x xp (sides leftward) px pxp h)
+      (λ v. round-bySib x xp (sides rightward) px pxp h)))))
 
   pub round-deletion : {s : Links} (m x : ℕ) → P x → Inv s → Inv (balancedDeletion m s x)
   unfolding balancedDeletion

@@ -12,7 +12,7 @@ use Rattle.slots.specs.Words.{pick, null, state, parent, left, right, black, re
 use Rattle.redblack.specs.Links.{Links, read, stored, rooted, painted, isRed, colourOf, Turn, done, more}
 use Rattle.redblack.specs.Rotate.{hung, turned, rotated}
 use Rattle.redblack.specs.Insertion.{raised, straightened, lifted, insertionTurn, insertionTurns, balancedInsertion}
-use Rattle.redblack.specs.Deletion.{capped, settled, tucked, eased, sunk, deletionTurn, balancedDeletion}
+use Rattle.redblack.specs.Deletion.{capped, outerRed, innerRed, darkSib, bySib, deletionTurn, balancedDeletion}
 use Rattle.tree_rules.specs.Source.{is-null}
 use Rattle.redblack.specs.Source.{Memory, WildMemory, memory, load, red-of, to-field, set-red, set-root, rotate-left, rotate-right}
 use Rattle.redblack.specs.Source.{Flow, returns, again, flow, insertion-left, insertion-right, insertion-body, insertion-loop}
@@ -244,14 +244,14 @@ module _ (w : WildMemory) (near far : ℕ) (down up : Memory → ℕ → Memory)
       pick (not (is-null s-far)) (set-red w m s-far false) m)
       m
 
-  settle : Memory → ℕ → ℕ → Flow
-  settle m x-parent sibling =
+  outer-red : Memory → ℕ → ℕ → Flow
+  outer-red m x-parent sibling =
       let m = crowned m x-parent sibling in
       let m = pick (not (is-null x-parent)) (down (set-red w m x-parent false) x-parent) m in
       again m (m .root)
 
-  ease : Memory → ℕ → ℕ → ℕ → Flow
-  ease m x x-parent sibling =
+  dark-sibling : Memory → ℕ → ℕ → ℕ → Flow
+  dark-sibling m x x-parent sibling =
       pick (is-null sibling) (again m x-parent)
       (let s-near = load w near m sibling in
       let s-far = load w far m sibling in
@@ -263,7 +263,7 @@ module _ (w : WildMemory) (near far : ℕ) (down up : Memory → ℕ → Memory)
       let x-parent = load w parent m x in
       (m, x-parent, pick (is-null x-parent) null (load w far m x-parent)))
       (m, x-parent, sibling) in
-      settle m x-parent sibling))
+      outer-red m x-parent sibling))
 
   delete : Memory → ℕ → ℕ → Flow
   delete m x x-parent =
@@ -273,16 +273,16 @@ module _ (w : WildMemory) (near far : ℕ) (down up : Memory → ℕ → Memory)
       let x-parent = load w parent m x in
       (m, x-parent, pick (is-null x-parent) null (load w far m x-parent)))
       (m, x-parent, sibling) in
-      ease m x x-parent sibling
+      dark-sibling m x x-parent sibling
 
 deletion-left-text : (w : WildMemory) (m : Memory) (x x-parent : ℕ)
     → deletion-left w m x x-parent ≡ delete w left right (rotate-left w) (rotate-right w) m x x-parent
-unfolding deletion-left delete ease settle crowned
+unfolding deletion-left delete dark-sibling outer-red crowned
 deletion-left-text w m x x-parent = refl
 
 deletion-right-text : (w : WildMemory) (m : Memory) (x x-parent : ℕ)
     → deletion-right w m x x-parent (load w left m x-parent) ≡ delete w right left (rotate-right w) (rotate-left w) m x x-parent
-unfolding deletion-right delete ease settle crowned
+unfolding deletion-right delete dark-sibling outer-red crowned
 deletion-right-text w m x x-parent = refl
 
 pub hue-word : (b : Bool) → pick b 2 1 ≡ code (pick b red black)
@@ -309,9 +309,9 @@ module _ (w : WildMemory) (near far : ℕ) (down up : Memory → ℕ → Memory)
           rw (eqb-true y null e, load-null far k)
           (ap memory (sym (store-null state 1 k ∙ store-null state (code (colourOf s xp)) h)))
 
-  settle-is : (s : Links) (xp y : ℕ) → Short s → settle w near far down up (memory s) xp y ≡ flow (settled near far s xp y)
-  unfolding settle settled capped
-  settle-is s xp y h =
+  outer-red-is : (s : Links) (xp y : ℕ) → Short s → outer-red w near far down up (memory s) xp y ≡ flow (outerRed near far s xp y)
+  unfolding outer-red outerRed capped
+  outer-red-is s xp y h =
       let k = short-painted (read (painted s y (colourOf s xp)) y far) black (short-painted y (colourOf s xp) h) in
       rw (crowned-is s xp y h) (ap (λ (m : Memory). again m (m .root)) (go _ k (eqb xp null) refl))
     where
@@ -320,17 +320,17 @@ module _ (w : WildMemory) (near far : ℕ) (down up : Memory → ℕ → Memory)
       go t k false e = rw e (down-is (painted t xp black) xp (short-painted xp black k))
       go t k true e = rw (eqb-true xp null e) (ap memory (sym (spun-null near far _ ∙ store-null state 1 k)))
 
-  ease-is : (s : Links) (x xp y : ℕ) → Short s → eqb x null ≡ false
-      → ease w near far down up (memory s) x xp y ≡ flow (eased near far s x xp y)
-  unfolding ease eased tucked
-  ease-is s x xp y h i = go (eqb y null) refl (isRed s (read s y far)) refl (isRed s (read s y near)) refl
+  dark-sibling-is : (s : Links) (x xp y : ℕ) → Short s → eqb x null ≡ false
+      → dark-sibling w near far down up (memory s) x xp y ≡ flow (darkSib near far s x xp y)
+  unfolding dark-sibling darkSib innerRed
+  dark-sibling-is s x xp y h i = go (eqb y null) refl (isRed s (read s y far)) refl (isRed s (read s y near)) refl
     where
       go : (a : Bool) → eqb y null ≡ a → (b : Bool) → isRed s (read s y far) ≡ b → (c : Bool) → isRed s (read s y near) ≡ c
-          → ease w near far down up (memory s) x xp y ≡ flow (eased near far s x xp y)
+          → dark-sibling w near far down up (memory s) x xp y ≡ flow (darkSib near far s x xp y)
       go true e b f c g =
           rw (eqb-true y null e, load-null far h, load-null near h, load-null state h)
           (ap (λ (t : Links). again (memory t) xp) (sym (store-null state 2 h)))
-      go false e true f c g = rw (e, guard-dark w h (read s y far), f) (settle-is s xp y h)
+      go false e true f c g = rw (e, guard-dark w h (read s y far), f) (outer-red-is s xp y h)
       go false e false f false g = rw (e, guard-dark w h (read s y far), guard-dark w h (read s y near), f, g)
       go false e false f true g =
           let k = short-painted y red (short-painted (read s y near) black h) in
@@ -348,15 +348,15 @@ module _ (w : WildMemory) (near far : ℕ) (down up : Memory → ℕ → Memory)
             i,
             guard-load w j q far,
           )
-          (settle-is t q (read t q far) j)
+          (outer-red-is t q (read t q far) j)
 
   delete-is : (s : Links) (x xp : ℕ) → Short s → eqb x null ≡ false → eqb xp null ≡ false
-      → delete w near far down up (memory s) x xp ≡ flow (sunk near far s x xp)
-  unfolding delete sunk
+      → delete w near far down up (memory s) x xp ≡ flow (bySib near far s x xp)
+  unfolding delete bySib
   delete-is s x xp h i c = go (isRed s (read s xp far)) refl
     where
-      go : (b : Bool) → isRed s (read s xp far) ≡ b → delete w near far down up (memory s) x xp ≡ flow (sunk near far s x xp)
-      go false e = rw (c, guard-red w h (read s xp far), e) (ease-is s x xp (read s xp far) h i)
+      go : (b : Bool) → isRed s (read s xp far) ≡ b → delete w near far down up (memory s) x xp ≡ flow (bySib near far s x xp)
+      go false e = rw (c, guard-red w h (read s xp far), e) (dark-sibling-is s x xp (read s xp far) h i)
       go true e =
           let k = short-painted xp red (short-painted (read s xp far) black h) in
           let j = short-rotated near far xp k in
@@ -371,7 +371,7 @@ module _ (w : WildMemory) (near far : ℕ) (down up : Memory → ℕ → Memory)
             i,
             guard-load w j q far,
           )
-          (ease-is t x q (read t q far) j i)
+          (dark-sibling-is t x q (read t q far) j i)
 
 pub body-deletion : (w : WildMemory) (s : Links) (x : ℕ) → Short s → deletion-body w (memory s) x ≡ flow (deletionTurn s x)
 unfolding deletion-body deletionTurn

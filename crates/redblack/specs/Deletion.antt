@@ -13,31 +13,31 @@ capped near far s xp y =
     let s1 = painted s y (colourOf s xp) in
     painted (painted s1 (read s1 y far) black) xp black
 
-unfoldable pub settled : ℕ → ℕ → Links → ℕ → ℕ → Turn
-settled near far s xp y =
+unfoldable pub outerRed : ℕ → ℕ → Links → ℕ → ℕ → Turn
+outerRed near far s xp y =
     let t = rotated near far (capped near far s xp y) xp in
     more t (t .root)
 
 -- The inner nephew is red and the outer is not: the inner one turns black, the sibling red, and the sibling goes down on the far side.
-unfoldable pub tucked : ℕ → ℕ → Links → ℕ → Links
-tucked near far s y = rotated far near (painted (painted s (read s y near) black) y red) y
+unfoldable pub innerRed : ℕ → ℕ → Links → ℕ → Links
+innerRed near far s y = rotated far near (painted (painted s (read s y near) black) y red) y
 
 -- The sibling is not red.
-unfoldable pub eased : ℕ → ℕ → Links → ℕ → ℕ → ℕ → Turn
-eased near far s x xp y =
-    let t = tucked near far s y in
+unfoldable pub darkSib : ℕ → ℕ → Links → ℕ → ℕ → ℕ → Turn
+darkSib near far s x xp y =
+    let t = innerRed near far s y in
     let q = read t x parent in
-    pick (isRed s (read s y far)) (settled near far s xp y)
-    (pick (isRed s (read s y near)) (settled near far t q (read t q far))
+    pick (isRed s (read s y far)) (outerRed near far s xp y)
+    (pick (isRed s (read s y near)) (outerRed near far t q (read t q far))
     (more (painted s y red) xp))
 
 -- A red sibling turns black, the parent red, and the parent goes down first.
-unfoldable pub sunk : ℕ → ℕ → Links → ℕ → ℕ → Turn
-sunk near far s x xp =
+unfoldable pub bySib : ℕ → ℕ → Links → ℕ → ℕ → Turn
+bySib near far s x xp =
     let y = read s xp far in
     let t = rotated near far (painted (painted s y black) xp red) xp in
     let q = read t x parent in
-    pick (isRed s y) (eased near far t x q (read t q far)) (eased near far s x xp y)
+    pick (isRed s y) (darkSib near far t x q (read t q far)) (darkSib near far s x xp y)
 
 -- One turn. At x equal to the root it ends before it looks at the colour.
 unfoldable pub deletionTurn : Links → ℕ → Turn
@@ -47,7 +47,7 @@ deletionTurn s x =
     (pick (eqb x (s .root)) (done s)
     (pick (eqb xp null) (done (rooted (painted s x black) x))
     (pick (isRed s x) (done (painted s x black))
-    (pick (eqb (read s xp left) x) (sunk left right s x xp) (sunk right left s x xp)))))
+    (pick (eqb (read s xp left) x) (bySib left right s x xp) (bySib right left s x xp)))))
 
 unfoldable pub balancedDeletion : ℕ → Links → ℕ → Links
 balancedDeletion zero s x = s

@@ -44,7 +44,7 @@ power-doubling (suc k) x p (suc e) l h = go (eqb x p) (power-doubling k x (2 * p
     go false r = r
 
 -- Each length is twice the one before.
-doubled-twice : (k : ℕ) (l : List ℕ) → doubled k l ≡ true → (j : ℕ) → j < k → getD l (suc j) 0 ≡ 2 * getD l j 0
+pub doubled-twice : (k : ℕ) (l : List ℕ) → doubled k l ≡ true → (j : ℕ) → j < k → getD l (suc j) 0 ≡ 2 * getD l j 0
 unfolding doubled
 doubled-twice zero l e j b = absurd (omega arith)
 doubled-twice (suc k) l e j b =

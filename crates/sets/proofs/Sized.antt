@@ -1,4 +1,5 @@
--- What each way out of a loop over the tables' lengths says, and which numbers the thirteen powers are.
+-- What each way out of a loop over the tables' lengths says, where the bins of tables that double begin, and which numbers the thirteen
+-- powers are.
 use mathlib.Core.Path.{_≡_, refl, ap}
 use mathlib.Core.Logic.{_≢_, _⊎_, inl, inr}
 use mathlib.Core.Bool.{Bool, true, false, false≢true}
@@ -6,15 +7,25 @@ use mathlib.Core.List.{List}
 use Prim.Native.Nat.{ℕ, zero, suc, _+_, _-_, _*_, _<_, _≤_}
 use native.Mathlib.Numerals.{add-one, sub-one}
 use native.Mathlib.Decide.{ℕ-discrete, decLt}
+use native.Mathlib.Nat.{mul-suc}
 use native.Mathlib.Omega.{arith}
 use lib.ListN.{length, getD, List·getD-eq-default}
-use borrow.Author.Tests.{eq-eqb, ne-eqb, le-leb, lt-leb}
+use lib.Dec.{leb}
+use borrow.Author.Tests.{leb-true, eq-eqb, ne-eqb, le-leb, lt-leb}
+use Rattle.index_rules.proofs.Fit.{both}
+use Rattle.set_rules.proofs.Fit.{doubled-twice}
 use Rattle.set_rules.specs.Words.{Set, tablesOf, binsBefore, doubling, doubled, fitTables, fits}
 
 -- One table more.
 pub begins-on : (l : List ℕ) (j : ℕ) → binsBefore l (j + 1) ≡ binsBefore l j + getD l j 0
 unfolding binsBefore
 begins-on l j = rw add-one
+
+-- Where no table has more than m bins.
+pub begins-most : (m : ℕ) (l : List ℕ) → ((j : ℕ) → getD l j 0 ≤ m) → (k : ℕ) → binsBefore l k ≤ m * k
+unfolding binsBefore
+begins-most m l most zero = omega arith
+begins-most m l most (suc k) = rw (mul-suc m k) (omega (arith, most k, begins-most m l most k))
 
 -- Past the last table nothing is added.
 pub begins-past : (l : List ℕ) (j : ℕ) → length l ≤ j → (k : ℕ) → j ≤ k → binsBefore l k ≡ binsBefore l j
@@ -26,22 +37,32 @@ begins-past l j h (suc k) g = go (ℕ-discrete (suc k) j) (λ n. begins-past l j
     go (yes e) rest = ap (binsBefore l) e
     go (no n) rest = omega (arith, rest n, List·getD-eq-default l 0 {n = k} (omega arith))
 
--- One table less.
+-- Where each table is twice as long as the one before, it has as many bins as those before it and the first again.
+pub begins-at : (l : List ℕ) (k : ℕ) → ((j : ℕ) → j < k → getD l (suc j) 0 ≡ 2 * getD l j 0) → binsBefore l k + getD l 0 0 ≡ getD l k 0
+unfolding binsBefore
+begins-at l zero twice = omega arith
+begins-at l (suc k) twice = omega (arith, twice k (omega arith), begins-at l k (λ j b. twice j (omega arith)))
+
+-- The tables up to k double.
 module _ (l : List ℕ) where
-  pub doubled-none : (k : ℕ) → k ≤ 0 → doubled k l ≡ true
+  pub doubled-none : doubled 0 l ≡ true
   unfolding doubled
-  doubled-none zero h = refl
-  doubled-none (suc k) h = absurd (omega arith)
+  doubled-none = refl
 
-  pub doubled-on : (k : ℕ) → 0 < k → getD l k 0 ≡ 2 * getD l (k - 1) 0 → doubled k l ≡ doubled (k - 1) l
+  -- One table more.
+  pub doubled-on : (k : ℕ) → 1 ≤ k → doubled (k - 1) l ≡ true → getD l k 0 ≡ 2 * getD l (k - 1) 0 → doubled k l ≡ true
   unfolding doubled
-  doubled-on zero h e = absurd (omega arith)
-  doubled-on (suc k) h e = simp (sub-one, eq-eqb _ _ (rw sub-one at e))
+  doubled-on zero h d e = absurd (omega arith)
+  doubled-on (suc k) h d e = simp (eq-eqb _ _ (rw sub-one at e), rw sub-one at d)
 
-  pub doubled-no : (k : ℕ) → 0 < k → getD l k 0 ≢ 2 * getD l (k - 1) 0 → doubled k l ≡ false
-  unfolding doubled
-  doubled-no zero h e = absurd (omega arith)
-  doubled-no (suc k) h e = simp (ne-eqb _ _ (rw sub-one at e))
+  -- A table that is not twice as long as the one before is wrong whatever comes after it.
+  pub doubled-no : (k : ℕ) → 1 ≤ k → getD l k 0 ≢ 2 * getD l (k - 1) 0 → (m : ℕ) → k ≤ m → doubled m l ≡ false
+  doubled-no zero h n m g = absurd (omega arith)
+  doubled-no (suc k) h n m g = go (doubled m l) refl
+    where
+      go : (b : Bool) → doubled m l ≡ b → doubled m l ≡ false
+      go false e = e
+      go true e = absurd (n (rw sub-one (doubled-twice m l e k (omega arith))))
 
 -- The thirteen powers, 1 and 2 by range.
 pub powers : (x : ℕ)
@@ -102,6 +123,22 @@ few l h = go (decLt (length l) 1) (decLt 8 (length l))
     go (yes a) b = omega arith
     go (no a) (yes b) = absurd (false≢true (simp (le-leb 1 (length l) (omega arith), lt-leb (length l) 8 b) at h))
     go (no a) (no b) = omega arith
+
+-- .. and there is one.
+pub some-table : (l : List ℕ) → fitTables l ≡ true → 1 ≤ length l
+unfolding fitTables
+some-table l e = leb-true 1 (length l) (both (leb 1 (length l)) _ e .0)
+
+-- Tables that fit double, so their bins are the last's twice, less the first's.
+pub all-bins : (l : List ℕ) → fitTables l ≡ true → binsBefore l (length l) + getD l 0 0 ≡ 2 * getD l (length l - 1) 0
+unfolding fitTables
+all-bins l e =
+    let p = both (leb 1 (length l)) _ e in
+    let q = both (leb (length l) 8) _ (p .1) in
+    let u = both (doubling 13 (getD l 0 0) 1) _ (q .1) in
+    let v = both (doubled (length l - 1) l) _ (u .1) in
+    let z : length l - 1 + 1 ≡ length l = omega (arith, leb-true 1 (length l) (p .0)) in
+    omega (arith, begins-at l (length l - 1) (doubled-twice _ l (v .0)), rw z at (begins-on l (length l - 1)))
 
 -- No table, or too many.
 module _ (l : List ℕ) where

@@ -12,6 +12,7 @@ use borrow.Author.Tests.{eq-eqb, ne-eqb, lt-ltb, le-ltb}
 use Rattle.slots.specs.Words.{null, next, cell}
 use Rattle.slots.specs.Answers.{given, refused}
 use Rattle.set_rules.specs.Words.{Set, tablesOf, lengthAt, headersIn, binsBefore, fits, Bin, empty, moved, bad, list, tree, binOf}
+use Rattle.sets.proofs.Sized.{begins-at}
 use Rattle.set_rules.proofs.Fit.{fits-fit}
 use Rattle.set_rules.specs.Cursor.{Cursor, Step, lone, blankCursor, starts, fineCursor}
 use Rattle.set_rules.specs.Walk.{WalkPlace, walkPlace, trimmed, advanced, InTables, Sought, at, ended, lost, turnsIn, standing, stepped}
@@ -33,8 +34,15 @@ module _ (s : Set) (base d : ℕ) (x : List ℕ) (from : WalkPlace) (g : Going s
   pub stops : len ≤ i → ended ≡ seeks s base from
   stops l = sym (at-end s base (walkPlace d x) (omega (arith, e, f))) ∙ g .same
 
-  module _ (l : i < len) {b : Bin}
-      (k : b ≡ binOf (slotsOf (s .names)) (headersIn s) (getD (s .bins) (binsBefore (s .lengths) (base + d) + i) 0)) where
+  -- Table base + d begins where its length less that of table 0 says.
+  begins : binsBefore (s .lengths) (base + d) + lengthAt s 0 ≡ len
+  begins = rw f (begins-at (s .lengths) (base + d) (λ j b. g .good .twice j (omega (arith, g .good .deep))))
+
+  pub not-shorter : {least : ℕ} → least ≡ lengthAt s 0 → least ≤ len
+  not-shorter p = omega (arith, begins)
+
+  module _ (l : i < len) {b : Bin} {least : ℕ} (p : least ≡ lengthAt s 0)
+      (k : b ≡ binOf (slotsOf (s .names)) (headersIn s) (getD (s .bins) (len - least + i) 0)) where
     here : getD x d 0 < lengthAt s (base + d)
     here = omega (arith, e, f)
 
@@ -43,7 +51,7 @@ module _ (s : Set) (base d : ℕ) (x : List ℕ) (from : WalkPlace) (g : Going s
     base-more = rw add-zero at (inside (s .lengths) base (walkPlace d x) (g .good) here 0 (omega arith))
 
     bin : b ≡ binOf (slotsOf (s .names)) (headersIn s) (getD (s .bins) (binsBefore (s .lengths) (base + d) + getD x d 0) 0)
-    bin = rw e at k
+    bin = let z : len - least + i ≡ binsBefore (s .lengths) (base + d) + getD x d 0 = omega (arith, begins, e, p) in rw z at k
 
     pub passes : b ≡ empty → {q : WalkPlace} → q ≡ advanced d (s .lengths) base x → Going s base from q
     passes t h =

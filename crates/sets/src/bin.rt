@@ -18,11 +18,10 @@ pub(crate) fn header(heads: &[u32], h: u32, f: usize) -> u32
     word(heads, 3 * (h as usize) + f, NULL)
 }
 
-// The word of bin i of table k; 0 where there is no such word.
-pub fn bin_word(lengths: &[u32], bins: &[u32], k: u32, i: u32) -> u32
-    ensures { λ r. ⌜ r ≡ getD (now (bins .entry)) (binsBefore (now (lengths .entry)) k + i) 0 ⌝ }
+// The word of bin i of the table whose bins begin at `from`; 0 where there is no such word.
+fn word_from(bins: &[u32], from: usize, i: u32) -> u32
+    ensures { λ r. ⌜ r ≡ getD (now (bins .entry)) (from + i) 0 ⌝ }
 {
-    let from = bins_before(lengths, k);
     if bins.len() <= from {
         return 0;
     }
@@ -31,6 +30,13 @@ pub fn bin_word(lengths: &[u32], bins: &[u32], k: u32, i: u32) -> u32
         return 0;
     }
     bins[from + at]
+}
+
+// The word of bin i of table k; 0 where there is no such word.
+pub fn bin_word(lengths: &[u32], bins: &[u32], k: u32, i: u32) -> u32
+    ensures { λ r. ⌜ r ≡ getD (now (bins .entry)) (binsBefore (now (lengths .entry)) k + i) 0 ⌝ }
+{
+    word_from(bins, bins_before(lengths, k), i)
 }
 
 // The bin words that name a list's first slot, and those that name a tree's header.
@@ -74,6 +80,14 @@ pub fn bin_of(n: usize, h: usize, w: u32) -> Bin
         }
         _ => Bin::Bad,
     }
+}
+
+// Bin i of the table whose bins begin at `from`, in a set of n slots and h headers.
+pub(crate) fn bin_from(bins: &[u32], n: usize, h: usize, from: usize, i: u32) -> Bin
+    ensures { λ r. ⌜ binAs r ≡ binOf n h (getD (now (bins .entry)) (from + i) 0) ⌝ }
+{
+    let word = word_from(bins, from, i);
+    bin_of(n, h, word)
 }
 
 // The index of the bin for a hash.

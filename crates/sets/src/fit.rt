@@ -2,6 +2,8 @@
 use slots::MOST_SLOTS;
 use slots::word;
 ghost use mathlib.Core.Path.{_≡_};
+ghost use mathlib.Core.Bool.{true};
+ghost use Prim.Native.Nat.{_-_};
 ghost use lib.ListN.{length, getD};
 ghost use Rattle.set_rules.specs.Words.{binsBefore, doubling, fits, lentSet};
 ghost use Rattle.set_rules.specs.Words.{doubled as allDoubled, fitTables};
@@ -25,18 +27,19 @@ fn is_power(x: u32) -> bool
     }
 }
 
-// Whether each of the tables 1 to last is twice as long as the one before.
-fn doubled(lengths: &[u32], last: u32) -> bool
-    ensures { λ r. ⌜ r ≡ allDoubled last (now (lengths .entry)) ⌝ }
+// Whether each table but the first is twice as long as the one before.
+fn doubled(lengths: &[u32]) -> bool
+    ensures { λ r. ⌜ r ≡ allDoubled (length (now (lengths .entry)) - 1) (now (lengths .entry)) ⌝ }
 {
-    let mut k = last;
-    while 0 < k {
-        let long = length_at(lengths, k) as u64;
-        k -= 1;
-        let short = length_at(lengths, k) as u64;
+    let mut short = word(lengths, 0, 0) as u64;
+    let mut k = 1;
+    while k < lengths.len() {
+        let long = word(lengths, k, 0) as u64;
         if long != 2 * short {
             return false;
         }
+        short = long;
+        k += 1;
     }
     true
 }
@@ -49,8 +52,7 @@ fn fit_tables(lengths: &[u32]) -> bool
     if t < 1 || 8 < t {
         return false;
     }
-    let last = t as u32 - 1;
-    is_power(length_at(lengths, 0)) && doubled(lengths, last) && length_at(lengths, last) <= 4096
+    is_power(length_at(lengths, 0)) && doubled(lengths) && word(lengths, t - 1, 0) <= 4096
 }
 
 // How many bins the first k tables have: where the bins of table k begin. Past the last table there are none to add.
@@ -70,6 +72,16 @@ pub fn bins_before(lengths: &[u32], k: u32) -> usize
     sum
 }
 
+// How many bins tables that fit have: each has as many as those before it and the first again.
+fn bins_in(lengths: &[u32]) -> usize
+    requires { ⌜ fitTables (now lengths) ≡ true ⌝ }
+    ensures { λ r. ⌜ r ≡ binsBefore (now (lengths .entry)) (length (now (lengths .entry))) ⌝ }
+{
+    let first = word(lengths, 0, 0) as usize;
+    let last = word(lengths, lengths.len() - 1, 0) as usize;
+    2 * last - first
+}
+
 // Whether the slices of slots and headers have the lengths of n slots and h headers.
 fn fit_slots(heads: usize, names: usize, cells: usize) -> bool
     ensures { λ r. ⌜ r ≡ fitSlots heads names cells ⌝ }
@@ -85,6 +97,6 @@ pub fn fit_set(lengths: &[u32], bins: &[u32], heads: &[u32], names: &[u64], cell
         ≡ fits (lentSet (now (lengths .entry)) (now (bins .entry)) (now (heads .entry)) (now (names .entry)) (now (cells .entry))) ⌝ }
 {
     fit_tables(lengths)
-        && bins.len() == bins_before(lengths, lengths.len() as u32)
+        && bins.len() == bins_in(lengths)
         && fit_slots(heads.len(), names.len(), cells.len())
 }

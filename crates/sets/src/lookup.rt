@@ -1,9 +1,9 @@
 // lookup: the slot that has a pair, from a table down the forwarded ones.
 use crate::bin::Bin;
-use crate::bin::bin_of;
-use crate::bin::bin_word;
+use crate::bin::bin_from;
 use crate::bin::header;
 use crate::bin::index;
+use crate::fit::bins_before;
 use crate::fit::fit_set;
 use crate::fit::length_at;
 use slots::HASH;
@@ -24,7 +24,7 @@ ghost use mathlib.Core.Path.{_≡_};
 ghost use Prim.Native.Nat.{_+_, _-_, _<_, _≤_};
 ghost use lib.ListN.{length, getD};
 ghost use Rattle.tree_rules.specs.Find.{slotsOf, counted as countedLooks};
-ghost use Rattle.set_rules.specs.Words.{binsBefore, binOf, lentSet};
+ghost use Rattle.set_rules.specs.Words.{binOf, lentSet};
 ghost use Rattle.set_rules.specs.Words.{bini as home};
 ghost use Rattle.sets.specs.Bins.{binAs};
 ghost use Rattle.tree.specs.Find.{searchedOf, countedOf};
@@ -67,14 +67,12 @@ fn find_in_list(names: &[u64], cells: &[u32], first: u32, hash: u64, key: u64) -
     Found::Nothing(looks)
 }
 
-// The bin of table k for a hash, in a set of n slots and h headers.
-fn home_bin(lengths: &[u32], bins: &[u32], n: usize, h: usize, k: u32, hash: u64) -> Bin
-    ensures { λ r. ⌜ binAs r
-        ≡ binOf n h (getD (now (bins .entry)) (binsBefore (now (lengths .entry)) k + home (getD (now (lengths .entry)) k 0) hash) 0) ⌝ }
+// The bin for a hash of a table of so many bins that begin at `from`, in a set of n slots and h headers.
+fn home_bin(bins: &[u32], n: usize, h: usize, from: usize, length: u32, hash: u64) -> Bin
+    ensures { λ r. ⌜ binAs r ≡ binOf n h (getD (now (bins .entry)) (from + home length hash) 0) ⌝ }
 {
-    let i = index(length_at(lengths, k), hash);
-    let word = bin_word(lengths, bins, k, i);
-    bin_of(n, h, word)
+    let i = index(length, hash);
+    bin_from(bins, n, h, from, i)
 }
 
 // The loop over forwarded tables: it leaves with the answer at the first bin that is not Moved.
@@ -97,8 +95,10 @@ fn search(
     let n = names.len() / 2;
     let h = heads.len() / 3;
     let mut k = table;
+    let mut from = bins_before(lengths, table);
     loop {
-        let bin = home_bin(lengths, bins, n, h, k, hash);
+        let length = length_at(lengths, k);
+        let bin = home_bin(bins, n, h, from, length, hash);
         match bin {
             Bin::Empty => break Found::Nothing(0),
             Bin::Moved => {
@@ -106,6 +106,7 @@ fn search(
                     break Found::Lost(0);
                 }
                 k += 1;
+                from += length as usize;
             }
             Bin::List(first) => break find_in_list(names, cells, first, hash, key),
             Bin::Tree(at) => {

@@ -1,7 +1,6 @@
 // The walk: a cursor goes in by value and the new one comes back.
 use crate::bin::Bin;
-use crate::bin::bin_of;
-use crate::bin::bin_word;
+use crate::bin::bin_from;
 use crate::bin::header;
 use crate::fit::fit_set;
 use crate::fit::length_at;
@@ -21,10 +20,7 @@ use slots::get;
 ghost use mathlib.Core.Path.{_≡_};
 ghost use Rattle.slots.specs.Coded.{answerOf};
 ghost use mathlib.Core.List.{[]};
-ghost use Prim.Native.Nat.{_+_, _-_, _<_, _/_};
-ghost use lib.ListN.{length, getD, set};
-ghost use Rattle.set_rules.specs.Words.{Set, binsBefore, binOf, lentSet};
-ghost use Rattle.sets.specs.Bins.{binAs};
+ghost use Rattle.set_rules.specs.Words.{Set, lentSet};
 ghost use Rattle.set_rules.specs.Cursor.{starts};
 ghost use Rattle.set_rules.specs.Walk.{walkPlace, InTables, turnsIn, sought, standing, stepsOn, nexts};
 ghost use Rattle.sets.specs.Cursors.{soughtOf, startedOf, givenOf, stepOf, startOf};
@@ -35,14 +31,6 @@ enum Sought {
     At(u32, u32),
     Ended,
     Lost,
-}
-
-// The bin i of table k, in a set of n slots and h headers.
-fn bin_at(lengths: &[u32], bins: &[u32], n: usize, h: usize, k: u32, i: u32) -> Bin
-    ensures { λ r. ⌜ binAs r ≡ binOf n h (getD (now (bins .entry)) (binsBefore (now (lengths .entry)) k + i) 0) ⌝ }
-{
-    let word = bin_word(lengths, bins, k, i);
-    bin_of(n, h, word)
 }
 
 // The source's loop over the bins, from the place at this depth with these indexes, which become those of the place after the entry.
@@ -62,6 +50,7 @@ fn seek(
 {
     let n = names.len() / 2;
     let h = heads.len() / 3;
+    let first = length_at(lengths, 0);
     let mut d = depth;
     loop {
         let i = index_at(indexes, d);
@@ -69,7 +58,9 @@ fn seek(
         if length <= i {
             break Sought::Ended;
         }
-        let bin = bin_at(lengths, bins, n, h, base + d, i);
+        // A table has as many bins as those before it and the first again, so its own begin at the difference.
+        let from = (length - first) as usize;
+        let bin = bin_from(bins, n, h, from, i);
         match bin {
             Bin::Empty => {
                 d = advance(lengths, base, d, indexes);

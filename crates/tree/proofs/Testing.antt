@@ -18,7 +18,8 @@ module _ (names cells : List ℕ) (i : ℕ) where
   here k t e = rw e
 
   -- The same of the eight, told by the number of the test alone.
-  pub holds-on : (t : ℕ) → t ≤ 8 → test names cells t i ≡ true → firstFrom (9 - t) names cells t i ≡ firstFrom (9 - (t + 1)) names cells (t + 1) i
+  pub holds-on : (t : ℕ) → t ≤ 8 → test names cells t i ≡ true
+      → firstFrom (9 - t) names cells t i ≡ firstFrom (9 - (t + 1)) names cells (t + 1) i
   holds-on t l e =
       let s : suc (8 - t) ≡ 9 - t = omega arith in
       let u : 8 - t ≡ 9 - (t + 1) = omega arith in

@@ -14,7 +14,7 @@ use Rattle.tree_rules.specs.Check.{linksIn}
 use Rattle.tree_rules.specs.Rules.{stands, reached, follows, risen, allCalm, levelled, withParts, slotsBelow, rises, coloured, level}
 use Rattle.tree_rules.specs.Rules.{allSized}
 use Rattle.tree_rules.specs.Sizes.{hasSize}
-use Rattle.redblack.specs.Deletion.{capped, settled, tucked, eased, sunk, deletionTurn, balancedDeletion}
+use Rattle.redblack.specs.Deletion.{capped, outerRed, innerRed, darkSib, bySib, deletionTurn, balancedDeletion}
 use Rattle.redblack.specs.Hanging.{descended, hooked, inserted, spotted}
 use Rattle.redblack.specs.Insertion.{raised, straightened, lifted, insertionTurn, insertionTurns, balancedInsertion}
 use Rattle.redblack.specs.Removal.{replaced, lowered, traded, replacement, spliced, detached, dropped, leftmost, removed}
@@ -84,8 +84,8 @@ walk-done = refl
 
 pub claims : Claims
 unfolding empty zeros freeSlots drawn drawnFrom chainOf chainFrom cell write nameOf rename roomy chained tally linksIn decided looked
-    searched found stands reached follows risen allCalm levelled withParts hasSize slotsBelow rises coloured level allSized capped settled
-    tucked eased sunk deletionTurn balancedDeletion descended hooked inserted spotted raised straightened lifted insertionTurn
+    searched found stands reached follows risen allCalm levelled withParts hasSize slotsBelow rises coloured level allSized capped outerRed
+    innerRed darkSib bySib deletionTurn balancedDeletion descended hooked inserted spotted raised straightened lifted insertionTurn
     insertionTurns balancedInsertion replaced lowered traded replacement spliced detached dropped leftmost removed hung recounted turned
     rotated climbed swapped sum after wholeLines fitsJournal fitsIndex lined appended freeFrom lowestFree soughtIn seated grown inserts
     fitsUnsized fits unchained wiped shrunk removalOf wherePresent afterRemove removes isCleared slotFine slotsFine rule1 rule2 rule3 rule4

@@ -75,7 +75,7 @@ returns-5 c =
     (c4 .if4 .left)
     (c3 .get2 .ensures)
     (c2 .if5 .taken)
-    (c1 .sink .ensures)
+    (c1 .by-sibling .ensures)
 
 returns-6 : tie.Need-returns-6
 returns-6 c =
@@ -98,7 +98,7 @@ returns-6 c =
     (c4 .if4 .left)
     (c3 .get2 .ensures)
     (c2 .if5 .left)
-    (c1 .sink2 .ensures)
+    (c1 .by-sibling2 .ensures)
 
 pub deletion-turn-spec : {M : Type 1} → statement M
 deletion-turn-spec =

@@ -1,19 +1,14 @@
--- The loop's invariant: the way from here, past what was counted, ends where the way from the root does.
+-- The loop's invariant: the way from here, past what was counted, ends where the way from the root does. The library's sum that wraps is
+-- the model's to the letter.
 use mathlib.Core.Path.{_≡_, refl, _∙_}
 use Prim.Native.Nat.{_≤_}
 use borrow.Author.Tests.{not-true, not-false}
 use borrow.Author.Needs.{needs}
+use Rattle.slots.specs.Words.{sum}
 use Rattle.tree_rules.specs.Ranks.{rankFrom}
 use Rattle.ranks.proofs.Ways.{rank-null, rank-left, rank-here, rank-right, rank-end}
 use Rattle.ranks.proofs.down.pair_rank.Statement.{statement}
 use Rattle.ranks.proofs.down.pair_rank.Tie as tie
-use Rattle.ranks.proofs.down.pair_rank.Reads as reads
-use Rattle.ranks.proofs.down.pair_rank.Lts as lts
-use Rattle.ranks.proofs.down.add.Reads as add-reads
-use Rattle.slots.proofs.comes_before.Reads as comes-before-reads
-use Rattle.slots.proofs.get.Reads as get-reads
-use Rattle.slots.proofs.name.Reads as name-reads
-use Rattle.slots.proofs.word.Reads as word-reads
 
 abbrev Inv-loop : tie.InvT-loop
 Inv-loop names cells sizes root hash key steps i₀ m₀ left₀ i m left =
@@ -45,6 +40,7 @@ loop-again c =
     )
 
 returns-2 : tie.Need-returns-2 Inv-loop μ-loop
+unfolding sum
 returns-2 c =
     let c1 = c .before in
     let c2 = c1 .before in
@@ -58,10 +54,11 @@ returns-2 c =
     let c10 = c9 .before in
     rank-here _ _ _ _ _ _ _ _ (c10 .loop-test .taken) (c9 .if1 .left) (c8 .name .ensures) (c7 .name2 .ensures) (c6 .get .ensures)
     (c5 .comes-before .ensures) (c3 .word .ensures) (c2 .comes-before2 .ensures)
-    (c4 .if2 .left) (not-true (c2 .comes-before2 .result) (c1 .if3 .taken)) (c .add .ensures)
+    (c4 .if2 .left) (not-true (c2 .comes-before2 .result) (c1 .if3 .taken)) (c .wrapping-add-u32 .ensures)
     ∙ c10 .before .loop .inv .0
 
 loop-again-2 : tie.Need-loop-again-2 Inv-loop μ-loop
+unfolding sum
 loop-again-2 c =
     let c1 = c .before in
     let c2 = c1 .before in
@@ -77,7 +74,8 @@ loop-again-2 c =
     let c12 = c11 .before in (
       rank-right _ _ _ _ _ _ _ _ (c12 .loop-test .taken) (c11 .if1 .left) (c10 .name .ensures) (c9 .name2 .ensures) (c8 .get .ensures)
           (c7 .comes-before .ensures) (c5 .word .ensures) (c4 .comes-before2 .ensures)
-          (c6 .if2 .left) (not-false (c4 .comes-before2 .result) (c3 .if3 .left)) (c2 .add2 .ensures) (c1 .add3 .ensures) (c .get2 .ensures)
+          (c6 .if2 .left) (not-false (c4 .comes-before2 .result) (c3 .if3 .left)) (c2 .wrapping-add-u322 .ensures)
+          (c1 .wrapping-add-u323 .ensures) (c .get2 .ensures)
           ∙ c12 .before .loop .inv .0,
       search needs,
     )

@@ -1,22 +1,17 @@
--- The three tests in a row are the model's; tables that fit are few, so their number is a table's number.
+-- The three tests in a row are the model's; tables that fit have as many bins as the closed form says.
 use mathlib.Core.Path.{sym, ap, _∙_}
 use denote.Ref.{now}
-use native.Mathlib.Omega.{arith}
 use lib.ListN.{length}
 use lib.Dec.{eqb}
 use borrow.Author.Needs.{needs}
 use Rattle.slots.proofs.Laws.{and-next}
 use Rattle.set_rules.specs.Words.{fits}
 use Rattle.sets.specs.Bins.{fitSlots}
-use Rattle.sets.proofs.Sized.{few}
 use Rattle.sets.proofs.fit.fit_set.Statement.{statement}
 use Rattle.sets.proofs.fit.fit_set.Tie as tie
 
-cast-bins-before : tie.Need-cast-bins-before
-cast-bins-before c =
-    let at-tables = c .before in
-    let a = at-tables .before .before .before .before .before .before .args in
-    omega (arith, few (now (a .lengths)) (sym (at-tables .fit-tables .ensures) ∙ c .if1 .taken))
+bins-in-requires : tie.Need-bins-in-requires
+bins-in-requires c κs = sym (c .before .fit-tables .ensures) ∙ c .if1 .taken
 
 returns : tie.Need-returns
 unfolding fits fitSlots
@@ -38,4 +33,4 @@ returns-2 c =
     (rw (c .if2 .left)))
 
 pub fit-set-spec : {M : Type 1} → statement M
-fit-set-spec = tie.close (tie.spec (λ c κs. search needs) cast-bins-before (λ c κs. search needs) (λ c κs. search needs) returns returns-2)
+fit-set-spec = tie.close (tie.spec (λ c κs. search needs) bins-in-requires (λ c κs. search needs) returns returns-2)

@@ -1,4 +1,4 @@
--- Their number is bounded first, for the number of the last; the three tests in a row are the model's.
+-- Their number is bounded first; the three tests in a row are the model's.
 use mathlib.Core.Path.{_∙_}
 use mathlib.Core.Logic.{⊎-elim}
 use borrow.Author.Needs.{needs}
@@ -25,7 +25,7 @@ returns-2 c =
       le-leb _ 8 (ltb-false 8 _ (at-most .if2 .left)),
       ← at-first .length-at .ensures,
       ← at-power .is-power .ensures,
-      ← c .length-at2 .ensures,
+      ← c .word .ensures,
     )
     (and-next _ (c2 .if3 .came) (λ w. (w .0 .taken, w .2 ∙ w .1 .ensures)) (λ w. (w .0 .left, w .1)) (rw (c1 .if4 .taken)))
 
@@ -48,5 +48,4 @@ pub fit-tables-spec : {M : Type 1} → statement M
 fit-tables-spec =
     tie.close
     (tie.spec
-    returns (λ c. search needs) (λ c. search needs) (λ c κs. search needs) (λ c κs. search needs) (λ c κs. search needs)
-    (λ c κs. search needs) returns-2 returns-3)
+    returns (λ c κs. search needs) (λ c κs. search needs) (λ c κs. search needs) (λ c κs. search needs) returns-2 returns-3)

@@ -10,21 +10,21 @@ use Rattle.set_rules.specs.Words.{Set}
 use Rattle.sets.specs.Bins.{binAs}
 use Rattle.set_rules.specs.Walk.{walkPlace}
 use Rattle.set_rules.proofs.Turns.{left}
-use Rattle.sets.proofs.Walking.{Going, stops, base-more, passes, passes-less, descends, descends-less, no-table, bad-word, from-list}
-use Rattle.sets.proofs.Walking.{from-tree, no-first}
+use Rattle.sets.proofs.Walking.{Going, stops, not-shorter, base-more, passes, passes-less, descends, descends-less, no-table}
+use Rattle.sets.proofs.Walking.{bad-word, from-list, from-tree, no-first}
 use Rattle.sets.proofs.walk.seek.Statement.{statement}
 use Rattle.sets.proofs.walk.seek.Tie as tie
 
 abbrev Inv-loop : tie.InvT-loop
-Inv-loop lengths bins heads names base depth indexes₀ n h d₀ indexes d =
+Inv-loop lengths bins heads names base depth indexes₀ n h first d₀ indexes d =
     let s : Set = record { lengths = lengths; bins = bins; heads = heads; names = names; cells = [] } in
     Going s base (walkPlace depth indexes₀) (walkPlace d indexes) × (n ≡ length names / 2) × (h ≡ length heads / 3)
 
 abbrev μ-loop : tie.MeasureT-loop
-μ-loop lengths bins heads names base depth indexes₀ n h d₀ indexes d = left lengths base d indexes
+μ-loop lengths bins heads names base depth indexes₀ n h first d₀ indexes d = left lengths base d indexes
 
 loop-holds : tie.Need-loop-holds Inv-loop μ-loop
-loop-holds c = (record { good = c .before .before .before .before .pre; same = refl }, search needs, search needs)
+loop-holds c = (record { good = c .before .before .before .before .before .pre; same = refl }, search needs, search needs)
 
 index-at-requires : tie.Need-index-at-requires Inv-loop μ-loop
 index-at-requires c κs =
@@ -36,6 +36,16 @@ add-length-at c =
     let g = c .before .before .loop .inv .0 .good in
     omega (arith, g .deep, g .few)
 
+sub-from : tie.Need-sub-from Inv-loop μ-loop
+sub-from c =
+    let at-length = c .before in
+    let at-index = at-length .before in
+    let at-loop = at-index .before .before in
+    let a = at-loop .before .before .before .before .before .before .args in
+    let s : Set = record { lengths = now (a .lengths); bins = now (a .bins); heads = now (a .heads); names = now (a .names); cells = [] } in
+    not-shorter s (a .base) (at-loop .loop .d) (at-loop .loop .indexes) (walkPlace (a .depth) (now (a .indexes))) (at-loop .loop .inv .0)
+    (at-index .index-at .ensures) (at-length .length-at2 .ensures) (at-loop .before .length-at .ensures)
+
 advance-requires : tie.Need-advance-requires Inv-loop μ-loop
 advance-requires c κs =
     let at-told = c .before in
@@ -45,13 +55,14 @@ advance-requires c κs =
     let at-length = at-here .before in
     let at-index = at-length .before in
     let at-loop = at-index .before .before in
-    let a = at-loop .before .before .before .before .before .args in
+    let a = at-loop .before .before .before .before .before .before .args in
     let s : Set = record { lengths = now (a .lengths); bins = now (a .bins); heads = now (a .heads); names = now (a .names); cells = [] } in
     let g = at-loop .loop .inv .0 .good in
     let more =
     base-more s (a .base) (at-loop .loop .d) (at-loop .loop .indexes) (walkPlace (a .depth) (now (a .indexes))) (at-loop .loop .inv .0)
-    (at-index .index-at .ensures) (at-length .length-at .ensures) (at-here .if1 .left) (at-bin .bin-at .ensures) in
-    let most = at-loop .before .before .before .before .shared-slice-known .given (a .base) in
+    (at-index .index-at .ensures) (at-length .length-at2 .ensures) (at-here .if1 .left)
+    (at-loop .before .length-at .ensures) (at-bin .bin-from .ensures) in
+    let most = at-loop .before .before .before .before .before .shared-slice-known .given (a .base) in
     (omega (arith, g .deep, g .few), omega (arith, g .deep, g .few), omega (arith, more, most))
 
 loop-less : tie.Need-loop-less Inv-loop μ-loop
@@ -63,7 +74,7 @@ loop-less c =
     let at-length = at-here .before in
     let at-index = at-length .before in
     let at-loop = at-index .before .before in
-    let a = at-loop .before .before .before .before .before .args in
+    let a = at-loop .before .before .before .before .before .before .args in
     let s : Set = record { lengths = now (a .lengths); bins = now (a .bins); heads = now (a .heads); names = now (a .names); cells = [] } in
     passes-less
     s
@@ -73,9 +84,10 @@ loop-less c =
     (walkPlace (a .depth) (now (a .indexes)))
     (at-loop .loop .inv .0)
     (at-index .index-at .ensures)
-    (at-length .length-at .ensures)
+    (at-length .length-at2 .ensures)
     (at-here .if1 .left)
-    (at-bin .bin-at .ensures)
+    (at-loop .before .length-at .ensures)
+    (at-bin .bin-from .ensures)
     (c .advance .ensures)
 
 loop-again : tie.Need-loop-again Inv-loop μ-loop
@@ -87,7 +99,7 @@ loop-again c =
     let at-length = at-here .before in
     let at-index = at-length .before in
     let at-loop = at-index .before .before in
-    let a = at-loop .before .before .before .before .before .args in
+    let a = at-loop .before .before .before .before .before .before .args in
     let s : Set =
     record { lengths = now (a .lengths); bins = now (a .bins); heads = now (a .heads); names = now (a .names); cells = [] } in (
       passes
@@ -98,9 +110,10 @@ loop-again c =
           (walkPlace (a .depth) (now (a .indexes)))
           (at-loop .loop .inv .0)
           (at-index .index-at .ensures)
-          (at-length .length-at .ensures)
+          (at-length .length-at2 .ensures)
           (at-here .if1 .left)
-          (at-bin .bin-at .ensures)
+          (at-loop .before .length-at .ensures)
+          (at-bin .bin-from .ensures)
           (ap binAs (at-told .enum-told .given .1))
           (c .advance .ensures),
       search needs,
@@ -117,7 +130,7 @@ loop-less-2 c =
     let at-length = at-here .before in
     let at-index = at-length .before in
     let at-loop = at-index .before .before in
-    let a = at-loop .before .before .before .before .before .args in
+    let a = at-loop .before .before .before .before .before .before .args in
     let s : Set = record { lengths = now (a .lengths); bins = now (a .bins); heads = now (a .heads); names = now (a .names); cells = [] } in
     descends-less
     s
@@ -127,9 +140,10 @@ loop-less-2 c =
     (walkPlace (a .depth) (now (a .indexes)))
     (at-loop .loop .inv .0)
     (at-index .index-at .ensures)
-    (at-length .length-at .ensures)
+    (at-length .length-at2 .ensures)
     (at-here .if1 .left)
-    (at-bin .bin-at .ensures)
+    (at-loop .before .length-at .ensures)
+    (at-bin .bin-from .ensures)
     (at-if2 .if2 .left)
     (c .set-index .ensures)
 
@@ -143,7 +157,7 @@ loop-again-2 c =
     let at-length = at-here .before in
     let at-index = at-length .before in
     let at-loop = at-index .before .before in
-    let a = at-loop .before .before .before .before .before .args in
+    let a = at-loop .before .before .before .before .before .before .args in
     let s : Set =
     record { lengths = now (a .lengths); bins = now (a .bins); heads = now (a .heads); names = now (a .names); cells = [] } in (
       descends
@@ -154,9 +168,10 @@ loop-again-2 c =
           (walkPlace (a .depth) (now (a .indexes)))
           (at-loop .loop .inv .0)
           (at-index .index-at .ensures)
-          (at-length .length-at .ensures)
+          (at-length .length-at2 .ensures)
           (at-here .if1 .left)
-          (at-bin .bin-at .ensures)
+          (at-loop .before .length-at .ensures)
+          (at-bin .bin-from .ensures)
           (ap binAs (at-told .enum-told2 .given .1))
           (at-if2 .if2 .left)
           (c .set-index .ensures),
@@ -174,13 +189,14 @@ advance-requires-2 c κs =
     let at-length = at-here .before in
     let at-index = at-length .before in
     let at-loop = at-index .before .before in
-    let a = at-loop .before .before .before .before .before .args in
+    let a = at-loop .before .before .before .before .before .before .args in
     let s : Set = record { lengths = now (a .lengths); bins = now (a .bins); heads = now (a .heads); names = now (a .names); cells = [] } in
     let g = at-loop .loop .inv .0 .good in
     let more =
     base-more s (a .base) (at-loop .loop .d) (at-loop .loop .indexes) (walkPlace (a .depth) (now (a .indexes))) (at-loop .loop .inv .0)
-    (at-index .index-at .ensures) (at-length .length-at .ensures) (at-here .if1 .left) (at-bin .bin-at .ensures) in
-    let most = at-loop .before .before .before .before .shared-slice-known .given (a .base) in
+    (at-index .index-at .ensures) (at-length .length-at2 .ensures) (at-here .if1 .left)
+    (at-loop .before .length-at .ensures) (at-bin .bin-from .ensures) in
+    let most = at-loop .before .before .before .before .before .shared-slice-known .given (a .base) in
     (omega (arith, g .deep, g .few), omega (arith, g .deep, g .few), omega (arith, more, most))
 
 advance-requires-3 : tie.Need-advance-requires-3 Inv-loop μ-loop
@@ -195,13 +211,14 @@ advance-requires-3 c κs =
     let at-length = at-here .before in
     let at-index = at-length .before in
     let at-loop = at-index .before .before in
-    let a = at-loop .before .before .before .before .before .args in
+    let a = at-loop .before .before .before .before .before .before .args in
     let s : Set = record { lengths = now (a .lengths); bins = now (a .bins); heads = now (a .heads); names = now (a .names); cells = [] } in
     let g = at-loop .loop .inv .0 .good in
     let more =
     base-more s (a .base) (at-loop .loop .d) (at-loop .loop .indexes) (walkPlace (a .depth) (now (a .indexes))) (at-loop .loop .inv .0)
-    (at-index .index-at .ensures) (at-length .length-at .ensures) (at-here .if1 .left) (at-bin .bin-at .ensures) in
-    let most = at-loop .before .before .before .before .shared-slice-known .given (a .base) in
+    (at-index .index-at .ensures) (at-length .length-at2 .ensures) (at-here .if1 .left)
+    (at-loop .before .length-at .ensures) (at-bin .bin-from .ensures) in
+    let most = at-loop .before .before .before .before .before .shared-slice-known .given (a .base) in
     (omega (arith, g .deep, g .few), omega (arith, g .deep, g .few), omega (arith, more, most))
 
 returns : tie.Need-returns Inv-loop μ-loop
@@ -209,7 +226,7 @@ returns c =
     let at-length = c .before in
     let at-index = at-length .before in
     let at-loop = at-index .before .before in
-    let a = at-loop .before .before .before .before .before .args in
+    let a = at-loop .before .before .before .before .before .before .args in
     let s : Set = record { lengths = now (a .lengths); bins = now (a .bins); heads = now (a .heads); names = now (a .names); cells = [] } in
     stops
     s
@@ -219,7 +236,7 @@ returns c =
     (walkPlace (a .depth) (now (a .indexes)))
     (at-loop .loop .inv .0)
     (at-index .index-at .ensures)
-    (at-length .length-at .ensures)
+    (at-length .length-at2 .ensures)
     (c .if1 .taken)
 
 returns-2 : tie.Need-returns-2 Inv-loop μ-loop
@@ -231,7 +248,7 @@ returns-2 c =
     let at-length = at-here .before in
     let at-index = at-length .before in
     let at-loop = at-index .before .before in
-    let a = at-loop .before .before .before .before .before .args in
+    let a = at-loop .before .before .before .before .before .before .args in
     let s : Set = record { lengths = now (a .lengths); bins = now (a .bins); heads = now (a .heads); names = now (a .names); cells = [] } in
     no-table
     s
@@ -241,9 +258,10 @@ returns-2 c =
     (walkPlace (a .depth) (now (a .indexes)))
     (at-loop .loop .inv .0)
     (at-index .index-at .ensures)
-    (at-length .length-at .ensures)
+    (at-length .length-at2 .ensures)
     (at-here .if1 .left)
-    (at-bin .bin-at .ensures)
+    (at-loop .before .length-at .ensures)
+    (at-bin .bin-from .ensures)
     (ap binAs (at-told .enum-told2 .given .1))
     (c .if2 .taken)
 
@@ -257,7 +275,7 @@ returns-3 c =
     let at-length = at-here .before in
     let at-index = at-length .before in
     let at-loop = at-index .before .before in
-    let a = at-loop .before .before .before .before .before .args in
+    let a = at-loop .before .before .before .before .before .before .args in
     let s : Set = record { lengths = now (a .lengths); bins = now (a .bins); heads = now (a .heads); names = now (a .names); cells = [] } in
     from-list
     s
@@ -267,9 +285,10 @@ returns-3 c =
     (walkPlace (a .depth) (now (a .indexes)))
     (at-loop .loop .inv .0)
     (at-index .index-at .ensures)
-    (at-length .length-at .ensures)
+    (at-length .length-at2 .ensures)
     (at-here .if1 .left)
-    (at-bin .bin-at .ensures)
+    (at-loop .before .length-at .ensures)
+    (at-bin .bin-from .ensures)
     (ap binAs (at-known .bin .given .1))
     (c .advance2 .ensures)
 
@@ -284,7 +303,7 @@ returns-4 c =
     let at-length = at-here .before in
     let at-index = at-length .before in
     let at-loop = at-index .before .before in
-    let a = at-loop .before .before .before .before .before .args in
+    let a = at-loop .before .before .before .before .before .before .args in
     let s : Set = record { lengths = now (a .lengths); bins = now (a .bins); heads = now (a .heads); names = now (a .names); cells = [] } in
     no-first
     s
@@ -294,9 +313,10 @@ returns-4 c =
     (walkPlace (a .depth) (now (a .indexes)))
     (at-loop .loop .inv .0)
     (at-index .index-at .ensures)
-    (at-length .length-at .ensures)
+    (at-length .length-at2 .ensures)
     (at-here .if1 .left)
-    (at-bin .bin-at .ensures)
+    (at-loop .before .length-at .ensures)
+    (at-bin .bin-from .ensures)
     (ap binAs (at-known .bin2 .given .1))
     (at-header .header .ensures)
     (c .if3 .taken)
@@ -313,7 +333,7 @@ returns-5 c =
     let at-length = at-here .before in
     let at-index = at-length .before in
     let at-loop = at-index .before .before in
-    let a = at-loop .before .before .before .before .before .args in
+    let a = at-loop .before .before .before .before .before .before .args in
     let s : Set = record { lengths = now (a .lengths); bins = now (a .bins); heads = now (a .heads); names = now (a .names); cells = [] } in
     from-tree
     s
@@ -323,9 +343,10 @@ returns-5 c =
     (walkPlace (a .depth) (now (a .indexes)))
     (at-loop .loop .inv .0)
     (at-index .index-at .ensures)
-    (at-length .length-at .ensures)
+    (at-length .length-at2 .ensures)
     (at-here .if1 .left)
-    (at-bin .bin-at .ensures)
+    (at-loop .before .length-at .ensures)
+    (at-bin .bin-from .ensures)
     (ap binAs (at-known .bin2 .given .1))
     (at-header .header .ensures)
     (at-if3 .if3 .left)
@@ -339,7 +360,7 @@ returns-6 c =
     let at-length = at-here .before in
     let at-index = at-length .before in
     let at-loop = at-index .before .before in
-    let a = at-loop .before .before .before .before .before .args in
+    let a = at-loop .before .before .before .before .before .before .args in
     let s : Set = record { lengths = now (a .lengths); bins = now (a .bins); heads = now (a .heads); names = now (a .names); cells = [] } in
     bad-word
     s
@@ -349,17 +370,18 @@ returns-6 c =
     (walkPlace (a .depth) (now (a .indexes)))
     (at-loop .loop .inv .0)
     (at-index .index-at .ensures)
-    (at-length .length-at .ensures)
+    (at-length .length-at2 .ensures)
     (at-here .if1 .left)
-    (at-bin .bin-at .ensures)
+    (at-loop .before .length-at .ensures)
+    (at-bin .bin-from .ensures)
     (ap binAs (c .enum-told3 .given .1))
 
 pub seek-spec : {M : Type 1} → statement M
 seek-spec =
     tie.close
     (tie.spec
-    Inv-loop μ-loop loop-holds index-at-requires add-length-at (λ c κs. search needs) (λ c. search needs) (λ c κs. search needs)
-    (λ c. search needs) advance-requires loop-less loop-again (λ c. search needs) (λ c. search needs) (λ c. search needs)
-    (λ c. search needs) (λ c. search needs) (λ c κs. search needs) loop-less-2 loop-again-2 (λ c. search needs) advance-requires-2
-    (λ c. search needs) (λ c κs. search needs) (λ c. search needs) advance-requires-3 (λ c. search needs) returns returns-2 returns-3
-    returns-4 returns-5 returns-6)
+    Inv-loop μ-loop (λ c κs. search needs) loop-holds index-at-requires add-length-at (λ c κs. search needs) sub-from (λ c. search needs)
+    (λ c κs. search needs) (λ c. search needs) advance-requires loop-less loop-again (λ c. search needs) (λ c. search needs)
+    (λ c. search needs) (λ c. search needs) (λ c. search needs) (λ c κs. search needs) loop-less-2 loop-again-2 (λ c. search needs)
+    advance-requires-2 (λ c. search needs) (λ c κs. search needs) (λ c. search needs) advance-requires-3 (λ c. search needs) returns
+    returns-2 returns-3 returns-4 returns-5 returns-6)

@@ -7,19 +7,24 @@ use Rattle.index.proofs.find.Found.counted.Statement.{statement}
 use Rattle.index.proofs.find.Found.counted.Tie as tie
 
 returns : tie.Need-returns
-returns c = c .with-looks .ensures ∙ ap (withLooks _) (c .before .given .ensures) ∙ ap foundOf (sym (c .before .before .before .self .given .1))
+returns c =
+    c .with-looks .ensures ∙ ap (withLooks _) (c .before .given .ensures)
+    ∙ ap foundOf (sym (c .before .before .before .self .given .1))
 
 returns-2 : tie.Need-returns-2
 returns-2 c =
-    c .with-looks2 .ensures ∙ ap (withLooks _) (c .before .nothing .ensures) ∙ ap foundOf (sym (c .before .before .before .self2 .given .1))
+    c .with-looks2 .ensures ∙ ap (withLooks _) (c .before .nothing .ensures)
+    ∙ ap foundOf (sym (c .before .before .before .self2 .given .1))
 
 returns-3 : tie.Need-returns-3
 returns-3 c =
-    c .with-looks3 .ensures ∙ ap (withLooks _) (c .before .refused .ensures) ∙ ap foundOf (sym (c .before .before .enum-told .given .1))
+    c .with-looks3 .ensures ∙ ap (withLooks _) (c .before .refused .ensures)
+    ∙ ap foundOf (sym (c .before .before .enum-told .given .1))
 
 returns-4 : tie.Need-returns-4
 returns-4 c =
-    c .with-looks4 .ensures ∙ ap (withLooks _) (c .before .refused2 .ensures) ∙ ap foundOf (sym (c .before .before .before .self3 .given .1))
+    c .with-looks4 .ensures ∙ ap (withLooks _) (c .before .refused2 .ensures)
+    ∙ ap foundOf (sym (c .before .before .before .self3 .given .1))
 
 pub counted-spec : {M : Type 1} → statement M
 counted-spec =

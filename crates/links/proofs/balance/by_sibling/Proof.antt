@@ -1,10 +1,10 @@
--- `sink` goes as `sunk` does, on each side of its test.
+-- `by_sibling` goes as `bySib` does, on each side of its test.
 use denote.Ref.{now}
 use Rattle.redblack.specs.Links.{lentLinks}
 use Rattle.links.proofs.Balancing.{sibling-red, sibling-black}
 use borrow.Author.Needs.{needs}
-use Rattle.links.proofs.balance.sink.Statement.{statement}
-use Rattle.links.proofs.balance.sink.Tie as tie
+use Rattle.links.proofs.balance.by_sibling.Statement.{statement}
+use Rattle.links.proofs.balance.by_sibling.Tie as tie
 
 returns : tie.Need-returns
 returns c =
@@ -27,7 +27,7 @@ returns c =
     (c4 .rotate .ensures)
     (c3 .get2 .ensures)
     (c2 .get3 .ensures)
-    (c1 .ease .ensures)
+    (c1 .dark-sibling .ensures)
 
 returns-2 : tie.Need-returns-2
 returns-2 c =
@@ -40,10 +40,10 @@ returns-2 c =
     (c4 .get .ensures)
     (c3 .is-red .ensures)
     (c2 .if1 .left)
-    (c1 .ease2 .ensures)
+    (c1 .dark-sibling2 .ensures)
 
-pub sink-spec : {M : Type 1} → statement M
-sink-spec =
+pub by-sibling-spec : {M : Type 1} → statement M
+by-sibling-spec =
     tie.close
     (tie.spec
     (λ c κs. search needs) (λ c κs. search needs) (λ c κs. search needs) (λ c κs. search needs) (λ c κs. search needs)

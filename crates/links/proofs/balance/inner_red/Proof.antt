@@ -1,10 +1,10 @@
--- The two writes and the rotation are those of `tucked`.
+-- The two writes and the rotation are those of `innerRed`.
 use denote.Ref.{now}
 use Rattle.redblack.specs.Links.{lentLinks}
-use Rattle.links.proofs.Balancing.{tuck}
+use Rattle.links.proofs.Balancing.{inner-turn}
 use borrow.Author.Needs.{needs}
-use Rattle.links.proofs.balance.tuck.Statement.{statement}
-use Rattle.links.proofs.balance.tuck.Tie as tie
+use Rattle.links.proofs.balance.inner_red.Statement.{statement}
+use Rattle.links.proofs.balance.inner_red.Tie as tie
 
 returns : tie.Need-returns
 returns c =
@@ -13,14 +13,14 @@ returns c =
     let c3 = c2 .before .before .before .before in
     let c4 = c3 .before .before in
     let a = c4 .before .before .before .before .args in
-    tuck (a .near) (a .far) (lentLinks (now (a .cells)) (a .root) (now (a .sizes))) (a .y)
+    inner-turn (a .near) (a .far) (lentLinks (now (a .cells)) (a .root) (now (a .sizes))) (a .y)
     (c4 .get .ensures)
     (c3 .paint .ensures)
     (c2 .paint2 .ensures)
     (c1 .rotate .ensures)
 
-pub tuck-spec : {M : Type 1} → statement M
-tuck-spec =
+pub inner-red-spec : {M : Type 1} → statement M
+inner-red-spec =
     tie.close
     (tie.spec
     (λ c κs. search needs) (λ c κs. search needs) (λ c κs. search needs) (λ c κs. search needs) (λ c. search needs) (λ c. search needs)

@@ -1,10 +1,10 @@
--- The writes and the rotation are those of `capped` and `settled`, in order.
+-- The writes and the rotation are those of `capped` and `outerRed`, in order.
 use denote.Ref.{now}
 use Rattle.redblack.specs.Links.{lentLinks}
-use Rattle.links.proofs.Balancing.{settle}
+use Rattle.links.proofs.Balancing.{outer-turn}
 use borrow.Author.Needs.{needs}
-use Rattle.links.proofs.balance.settle.Statement.{statement}
-use Rattle.links.proofs.balance.settle.Tie as tie
+use Rattle.links.proofs.balance.outer_red.Statement.{statement}
+use Rattle.links.proofs.balance.outer_red.Tie as tie
 
 returns : tie.Need-returns
 returns c =
@@ -15,7 +15,7 @@ returns c =
     let c5 = c4 .before .before .before .before in
     let c6 = c5 .before .before in
     let a = c6 .before .before .before .before .args in
-    settle (a .near) (a .far) (lentLinks (now (a .cells)) (a .root) (now (a .sizes))) (a .xp) (a .y)
+    outer-turn (a .near) (a .far) (lentLinks (now (a .cells)) (a .root) (now (a .sizes))) (a .xp) (a .y)
     (c6 .colour .ensures)
     (c5 .paint .ensures)
     (c4 .get .ensures)
@@ -23,8 +23,8 @@ returns c =
     (c2 .paint3 .ensures)
     (c1 .rotate .ensures)
 
-pub settle-spec : {M : Type 1} → statement M
-settle-spec =
+pub outer-red-spec : {M : Type 1} → statement M
+outer-red-spec =
     tie.close
     (tie.spec
     (λ c κs. search needs) (λ c κs. search needs) (λ c κs. search needs) (λ c κs. search needs) (λ c κs. search needs)

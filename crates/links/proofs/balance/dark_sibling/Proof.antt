@@ -1,10 +1,10 @@
--- `ease` goes as `eased` does: one law for each way through its two tests.
+-- `dark_sibling` goes as `darkSib` does: one law for each way through its two tests.
 use denote.Ref.{now}
 use Rattle.redblack.specs.Links.{lentLinks}
 use Rattle.links.proofs.Balancing.{outer-red, inner-red, none-red}
 use borrow.Author.Needs.{needs}
-use Rattle.links.proofs.balance.ease.Statement.{statement}
-use Rattle.links.proofs.balance.ease.Tie as tie
+use Rattle.links.proofs.balance.dark_sibling.Statement.{statement}
+use Rattle.links.proofs.balance.dark_sibling.Tie as tie
 
 returns : tie.Need-returns
 returns c =
@@ -17,7 +17,7 @@ returns c =
     (c4 .get .ensures)
     (c3 .is-red .ensures)
     (c2 .if1 .taken)
-    (c1 .settle .ensures)
+    (c1 .outer-red .ensures)
 
 returns-2 : tie.Need-returns-2
 returns-2 c =
@@ -39,10 +39,10 @@ returns-2 c =
     (c7 .get2 .ensures)
     (c6 .is-red2 .ensures)
     (c5 .if2 .taken)
-    (c4 .tuck .ensures)
+    (c4 .inner-red .ensures)
     (c3 .get3 .ensures)
     (c2 .get4 .ensures)
-    (c1 .settle2 .ensures)
+    (c1 .outer-red2 .ensures)
 
 returns-3 : tie.Need-returns-3
 returns-3 c =
@@ -63,8 +63,8 @@ returns-3 c =
     (c2 .if2 .left)
     (c1 .paint .ensures)
 
-pub ease-spec : {M : Type 1} → statement M
-ease-spec =
+pub dark-sibling-spec : {M : Type 1} → statement M
+dark-sibling-spec =
     tie.close
     (tie.spec
     (λ c κs. search needs) (λ c κs. search needs) (λ c κs. search needs) (λ c. search needs) (λ c. search needs) returns
