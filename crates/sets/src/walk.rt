@@ -170,7 +170,6 @@ fn walk(
     let base = cursor.base;
     let depth = cursor.depth;
     let whole = cursor.indexes;
-    let mut indexes = trim(&whole, depth);
     let link = get(cells, cursor.last, NEXT);
     if link != NULL {
         if names.len() / 2 <= link as usize {
@@ -179,10 +178,11 @@ fn walk(
                 cursor,
             };
         }
+        let kept = trim(&whole, depth);
         let on = Cursor {
             base,
             depth,
-            indexes,
+            indexes: kept,
             last: link,
         };
         return Step {
@@ -190,6 +190,7 @@ fn walk(
             cursor: on,
         };
     }
+    let mut indexes = trim(&whole, depth);
     let sought = seek(lengths, bins, heads, names, base, depth, &mut indexes);
     match sought {
         Sought::At(slot, after) => {
