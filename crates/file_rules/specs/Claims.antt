@@ -32,7 +32,7 @@ pub record SavedLoads (s : Set) (fit : Fit s) (wide : Wide s) (ok : Accepted s) 
   -- answer, loader and slices: the set's words and zeros, and the loader has the four counts
   pub back : loadWhole t (setBytes s)
       ≡ loadOutcome (given (setSize s)) (loading (loaderOf 4 0 0 (countsIn s) (said (given (setSize s)))) (padded s t))
-  -- the set that the counts cut out is the set, and "demand 2 now reads over loaded sets too"
+  -- the set that the counts cut out is the set, and "demand 2 reads over loaded sets too"
   pub same : cutOut (loadWhole t (setBytes s) .left .loader) (loadWhole t (setBytes s) .left .set) ≡ s
   pub reads : ReadsAs s (cutOut (loadWhole t (setBytes s) .left .loader) (loadWhole t (setBytes s) .left .set))
 
