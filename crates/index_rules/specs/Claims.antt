@@ -256,8 +256,8 @@ pub record Freshes (ix : Index) : Type 0 where
 
 -- Demand 3: "Take a sound tree and a journal within .. limits, and note the journal's length. Make any inserts and removes on them,
 -- refused ones too, and rollbacks to that mark or later ones; nothing else writes the two. A rollback to the mark is then accepted, the
--- tree is sound and holds the very pairs and places it held at the mark, and the journal's kept lines are the old ones." "Demand 3 from now
--- on allows replaces among the calls."
+-- tree is sound and holds the very pairs and places it held at the mark, and the journal's kept lines are the old ones." "Demand 3 allows
+-- replaces among the calls."
 pub record Demand3 (ix : Index) (fit : FitIndex ix) (h : Sound (ix .live)) (words : Places (contents h)) (calls : List Call)
     (allowed : Allowed (lengthOf (ix .lines)) calls) : Type 0 where
   pub accepted : rolls (after calls ix) (lengthOf (ix .lines)) .answer ≡ given (lengthOf (after calls ix .lines) - lengthOf (ix .lines))
