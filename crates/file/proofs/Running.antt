@@ -1,4 +1,7 @@
 -- Whole words and whole slots of a chunk come to what their bytes come to one after another.
+-- Parts: words put into the slice of their section; a whole word, and a row of words, by their bytes; the 41 bytes of a slot, and a row of
+-- slots; slots put into the tails of the two slices; the first bytes alone; the words of a slot one after another; a slice that is lent in
+-- part, by its section and to its end.
 use mathlib.Core.Path.{_≡_, refl, ap, sym, _∙_}
 use mathlib.Core.List.{List, [], _∷_, _++_, append-assoc, append-nil}
 use Prim.Native.Nat.{ℕ, zero, suc, _+_, _-_, _*_, _/_, _%_, _^_, _<_, _≤_}

@@ -1,4 +1,6 @@
 -- Loading what was saved gives the set back.
+-- Parts: what the loader holds after so many sections; the numbers of a file are bytes; an accepted set may be loaded; its words are as
+-- small as their bytes; slice by slice they come back, with zeros behind them; the whole load.
 use mathlib.Core.Path.{_≡_, refl, ap, sym, _∙_}
 use mathlib.Core.Bool.{true}
 use mathlib.Core.List.{List, [], _∷_, _++_}

@@ -1,4 +1,6 @@
 -- Bytes that are refused are so for their reason: what the loader holds before the byte is a front of a file, and the byte tells why.
+-- Parts: slices keep their lengths; the set that the counts cut out may be loaded; the reason of an answer; a byte too many, and a count
+-- over its limit; any one byte; all bytes from the start on.
 use mathlib.Core.Path.{_≡_, refl, ap, sym, _∙_, subst}
 use mathlib.Core.Bool.{false, false≢true}
 use mathlib.Core.List.{List, [], _∷_, _++_, append-nil, append-assoc}

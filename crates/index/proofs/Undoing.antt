@@ -1,4 +1,6 @@
 -- What the steps of undoing come to, on plain values: each law takes what the calls and the tests gave, in the order of the code.
+-- Parts: undoing a line of each kind, and of another one; the slot that it frees; how far the count may grow; a turn of undoing many lines;
+-- a turn of a copy; whether lines were undone; words that were kept aside come back.
 use mathlib.Core.Path.{_≡_, refl, ap, sym, _∙_, subst}
 use mathlib.Core.Logic.{_≢_}
 use mathlib.Core.Bool.{Bool, true, false}

@@ -1,5 +1,7 @@
 -- A batch is the fold of the single calls: each call leaves a fit and sound index, so one check serves for all; the words that are written
 -- are the answers' words one after another, and each accepted call has its line.
+-- Parts: the calls that a slice says, and the tests that they pass; the words that the calls write; a line for each accepted call; what the
+-- tests before the calls settle; all in one law.
 use mathlib.Core.Path.{_≡_, refl, ap, sym, _∙_, subst}
 use mathlib.Core.Logic.{_≢_, _⊎_, inl, inr}
 use mathlib.Core.Bool.{Bool, true, false, false≢true}

@@ -1,4 +1,6 @@
 -- A fresh index is sound and empty: each slot is cleared at its turn and stays so, and the empty tree obeys every rule.
+-- Parts: one slot cleared; the slots below k cleared; a tree of blank slots is sound; the test of the lengths; when the call is refused,
+-- and what it leaves; that index is fit, sound and empty; all in one law.
 use mathlib.Core.Path.{_≡_, refl, ap, sym, _∙_}
 use mathlib.Core.Logic.{_≢_, inl}
 use mathlib.Core.Bool.{Bool, true, false}

@@ -1,5 +1,7 @@
 -- A free slot joins a sound tree: the chain's writes touch no word that the tree reads, the tree's none that the chain reads,
 -- and the slots outside keep all their words.
+-- Parts: how a slot joins a chain, and what a grown tree is; the old chain, and what follows behind y; the writes of the chain, and the
+-- chain with x; which slot has which pair and place; the tree with x; the whole is fit and sound.
 use mathlib.Core.Path.{_≡_, refl, ap, sym, subst, _∙_}
 use mathlib.Core.Logic.{_≢_, _⊎_, inl, inr}
 use mathlib.Core.Bool.{true}

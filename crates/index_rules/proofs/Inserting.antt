@@ -1,4 +1,6 @@
 -- insert, by cases: the tests in the rules' order settle which, and each answer is given in one of them only.
+-- Parts: why the tests come out as they do; the slot that the search names, and the lowest free one; each case of the tests with its
+-- outcome; each answer is given in one case only; what an accepted insert leaves; all in one law.
 use mathlib.Core.Path.{_≡_, refl, ap, sym, _∙_, subst}
 use mathlib.Core.Logic.{_≢_, _⊎_, inl, inr}
 use mathlib.Core.Bool.{Bool, true, false, false≢true}

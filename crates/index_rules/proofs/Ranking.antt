@@ -1,4 +1,6 @@
 -- The two calls by position: after the tests the way down finds what the order says, and a position has one slot.
+-- Parts: a list at a position; the positions of a sound tree; why the tests come out as they do; the call that takes a position; the call
+-- that takes a pair.
 use mathlib.Core.Path.{_≡_, refl, ap, sym, _∙_, subst}
 use mathlib.Core.Logic.{_≢_}
 use mathlib.Core.Bool.{Bool, true, false, false≢true}

@@ -1,5 +1,7 @@
 -- Each rule's test holds exactly where the rule does, given the rules before it: T1 and T2 word by word, T3 and T7 by counting
 -- distinct slots, T4 to T6 by the laws of one tree.
+-- Parts: fit words, and T1 slot by slot; T2; what used slots, walks and chains come to; the tree of T3 and the chain of T7, from their
+-- tests; T3; T4 to T6 of its tree; T7.
 use mathlib.Core.Path.{_≡_, refl, sym, _∙_}
 use mathlib.Core.Logic.{_≢_, _↔_, _⊎_, inl, inr}
 use mathlib.Core.Bool.{Bool, true, false, false≢true}

@@ -1,5 +1,7 @@
 -- A slot leaves a sound tree: the chain closes around it, the tree gives it up, and its own words, which neither reads any more,
 -- are cleared.
+-- Parts: the chain on either side of x; the chain closes around x; what the clearing of x keeps; what a shrunk tree is; the tree without x,
+-- and what it keeps; the chain without x; x is cleared, and the whole is fit and sound.
 use mathlib.Core.Path.{_≡_, refl, ap, sym, subst, _∙_}
 use mathlib.Core.Logic.{_≢_, _⊎_, inl, inr}
 use mathlib.Core.Bool.{true}

@@ -1,4 +1,6 @@
 -- The drivers undo a line exactly where the line fits, and what they leave is what the rule's sentence leaves.
+-- Parts: a sound tree has one list of contents; when a slot is free; what undoing one line leaves; a line of each kind that is undone fits;
+-- a line that fits is undone; so many lines, both ways.
 use mathlib.Core.Path.{_≡_, refl, ap, sym, _∙_, subst}
 use mathlib.Core.Logic.{_≢_, _↔_, _⊎_, inl, inr}
 use mathlib.Core.Bool.{Bool, true, false}

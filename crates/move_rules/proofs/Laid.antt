@@ -1,4 +1,6 @@
 -- A half is laid: as a list where it is small, else as a tree under a header that has no root.
+-- Parts: slots of different pairs; what laying comes to, whichever way; the half as a list; its chain, its tree and its header; the half as
+-- a tree; both ways in one law.
 use mathlib.Core.Path.{_≡_, refl, ap, sym, subst, _∙_}
 use mathlib.Core.Logic.{_≢_, _⊎_, _↔_}
 use mathlib.Core.Bool.{Bool, true, false}

@@ -1,5 +1,7 @@
 -- Loose slots are laid into an empty bin below a Moved one: the set stays accepted but for the slots that are still loose. Every other bin
 -- keeps its word, and its slots and its header are not written, since a loose slot is an entry of no bin and the new header had no root.
+-- Parts: a bin that holds exactly the slots l, and what follows of its slots; what it is to lay slots as a bin; every other bin is left
+-- alone, and an entry is one that was or laid; each clause of acceptance; the slots still loose, the entries, and what each bin lists.
 use mathlib.Core.Path.{_≡_, refl, ap, sym, subst, _∙_}
 use mathlib.Core.Logic.{_≢_, _⊎_, inl, inr, _↔_}
 use mathlib.Core.List.{List, []}

@@ -1,5 +1,7 @@
 -- A bin that may be moved: it is taken apart, its low half is laid and then its high half. After that no slot is loose, so that the set is
 -- accepted.
+-- Parts: the two halves of the entries; the pass that strings them; the low half is laid; the high half is laid, under another header; the
+-- set is accepted; where its entries come from; its bins, headers and slots, all in one law.
 use mathlib.Core.Path.{_≡_, refl, ap, sym, subst, _∙_}
 use mathlib.Core.Logic.{_≢_, _⊎_, inl, inr, _↔_}
 use mathlib.Core.List.{List}

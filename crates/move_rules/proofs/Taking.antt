@@ -1,5 +1,8 @@
 -- A bin is taken apart: its word is Moved, its header is given back, and its entries are loose. Nothing else of the set is written, so that
 -- every clause of acceptance holds of the rest.
+-- Parts: the header that is given back; the bin is Moved, and every other bin keeps its word; every other bin is left alone, with its
+-- entries; the clauses on parents, homes and headers; the entries of the bin are loose; the bins below, the entries and the lists
+-- afterwards; which headers are free.
 use mathlib.Core.Path.{_≡_, refl, ap, sym, subst, _∙_}
 use mathlib.Core.Logic.{_≢_, _⊎_, inl, inr, _↔_}
 use mathlib.Core.List.{List}

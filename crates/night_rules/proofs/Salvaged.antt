@@ -1,6 +1,8 @@
 -- What the slots come to once all are done: each word of the report exactly where the rules say, the second tree's contents, and from a
 -- sound tree the same contents. A cleared tree is a sound one that counts nothing, so the call is refused exactly where its words are not
 -- fit.
+-- Parts: each word of the report, exactly where; what all the slots come to; the same contents from a sound tree; a cleared tree is a sound
+-- one that counts nothing; the tests of the call; the slots begin, and all are done; all in one law.
 use mathlib.Core.Path.{_≡_, refl, ap, sym, subst, _∙_}
 use mathlib.Core.Logic.{_≢_, _⊎_, _↔_, inl, inr}
 use mathlib.Core.Bool.{Bool, true, false, false≢true}

@@ -1,5 +1,7 @@
 -- Through the slots of the first tree: the second tree is sound after each, its slots from 0 on hold the kept entries in their order, so
 -- its chain lists them last first, and the report says of each slot what it should. A kept slot is one more insert into a sound tree.
+-- Parts: states, and what the report says of a slot; what holds when the slots below i are done; the slots of the second tree; a slot that
+-- is told and not kept, and one that repeats another; a kept slot is one more insert; any slot; all of them.
 use mathlib.Core.Path.{_≡_, refl, ap, sym, subst, _∙_}
 use mathlib.Core.Logic.{_≢_, inl, inr}
 use mathlib.Core.Bool.{Bool, true, false, false≢true}

@@ -1,5 +1,7 @@
 -- The part in view is one black short. A turn ends the loop with a rotation or a colour, or it moves the want up to the parent,
 -- where the law is used again with both the part and its stand-in wrapped alike.
+-- Parts: what a turn reads and writes; the tree in view after each rotation; what comes up to the end of the way; the outer nephew red, the
+-- inner one red, neither red; a black sibling, under a red parent and under a black one; a red sibling; the loop by its budget.
 use mathlib.Core.Path.{_≡_, refl, ap, _∙_, sym}
 use mathlib.Core.Logic.{_≢_}
 use mathlib.Core.List.{List, [], _∷_}

@@ -1,5 +1,8 @@
 -- The search for a place keeps the pair between its neighbours: it goes left below a greater pair and right above a lesser one.
 -- So the slot where it ends is next to the pair in the order, and no way is longer than there are slots.
+-- Parts: the capacity bounds the depth; the order seen from a side, and the test of the search; rising lists, and the subtree on a side;
+-- the gap next to a pair; one step of the search, and all of them; a pair put in at its gap keeps the list rising; the place that is found,
+-- and its side.
 use mathlib.Core.Path.{_≡_, refl, ap, _∙_, sym}
 use mathlib.Core.Logic.{_≢_, _⊎_, inl, inr}
 use mathlib.Core.List.{List, [], _∷_, _++_, append-assoc}

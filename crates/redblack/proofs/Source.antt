@@ -1,5 +1,7 @@
 -- Our models over the side are the source's routines: first each half of the source's text is one text over the side, then the tests for
 -- null fall away, and what is left is the model.
+-- Parts: the rotations; the text of the insertion over the side; a turn of the insertion; its loop; the text of the deletion over the side;
+-- a turn of the deletion; its loop.
 use mathlib.Core.Path.{_≡_, refl, ap, _∙_, sym}
 use Prim.{Unit, tt}
 use mathlib.Core.Bool.{Bool, true, false, not, _&&_, _||_}

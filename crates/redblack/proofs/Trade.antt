@@ -1,5 +1,7 @@
 -- The trade writes the links of p and of its successor t, and the links to them. Read back, t stands where p stood and p where t stood,
 -- each in the other's colour, and the way D between the two places leads from p up to t.
+-- Parts: the way between the two places, and what stays along it; what a trade writes; the parts of the tree around p and t; the trade
+-- where t is p's child; the trade further down; what the trade reads first; both in one law.
 use mathlib.Core.Path.{_≡_, refl, ap, _∙_, sym}
 use mathlib.Core.Logic.{_≢_}
 use mathlib.Core.List.{[], _∷_, _++_}

@@ -1,6 +1,8 @@
 -- The check says yes exactly of accepted sets. From its walk come the slots that the bins hold: each is used, stands once, and they are as
 -- many as the used ones, so they are the used ones. The other way, the clauses build what the walk finds, and by the same counting its
 -- budget is enough.
+-- Parts: what the walk says of each bin; the clauses on parents, homes, lists, trees and headers; a used slot is one that the bins hold;
+-- the chain of a tree has its slots; a yes means accepted; from the clauses, what the walk finds bin by bin; accepted means a yes.
 use mathlib.Core.Path.{_≡_, refl, ap, sym, _∙_}
 use mathlib.Core.Logic.{_≢_, _⊎_, inl, inr}
 use mathlib.Core.Bool.{Bool, true, false, false≢true}

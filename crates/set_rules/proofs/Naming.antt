@@ -1,5 +1,7 @@
 -- What a bin's word says, range by range, and which headers the bins name: the words of all tables stand in a row, each at one place, so
 -- that counting the words that name a header tells whether any other header is left.
+-- Parts: the word of a bin, range by range; the place of each bin in the row; the headers that the words name, each once at most; blank
+-- headers; the counts tell whether the other headers are blank.
 use mathlib.Core.Path.{_≡_, refl, ap, sym, _∙_}
 use mathlib.Core.Logic.{_≢_, _⊎_, inl, inr}
 use mathlib.Core.Bool.{Bool, true, false}

@@ -1,5 +1,7 @@
 -- A tree that obeys the rules is not deep (Height of tree_rules), and each slot takes a visit. So a walk need not go deeper than 129,
 -- whatever number of visits a word holds.
+-- Parts: a rule broken breaks all five; past the depth of what hangs there depth changes nothing; one level of T6 and of T5 taken apart;
+-- the words below a link as a tree; each slot takes a visit; a depth of 129 is enough.
 use mathlib.Core.Path.{_≡_, refl, sym, ap, subst, _∙_}
 use mathlib.Core.Logic.{_≢_}
 use mathlib.Core.Bool.{Bool, true, false, false≢true}

@@ -1,4 +1,6 @@
 -- T3 to T6 and T8 asked together of what hangs from a link: what each way out of one visit comes to.
+-- Parts: the parts on the left and on the right of a slot, joined; the ways out of a visit by the tests of the slot itself; what obeys the
+-- rules hands back no more visits; the ways out by the two parts; what comes of both; the whole tree; the visits left.
 use mathlib.Core.Path.{_≡_, refl, sym, _∙_}
 use mathlib.Core.Logic.{_≢_}
 use mathlib.Core.Bool.{Bool, true, false}

@@ -1,4 +1,6 @@
 -- Our search and our check are the source's, wherever ours are not lost.
+-- Parts: a turn of the search, and the search; the asserts at a node are our tests; the first that fails, or what follows; our walk is the
+-- walk of the source; an answer of the check says which walk it was.
 use Prim.{Unit, tt}
 use mathlib.Core.Path.{_≡_, refl, ap, _∙_, sym}
 use mathlib.Core.Logic.{_≢_}

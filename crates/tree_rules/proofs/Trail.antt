@@ -1,6 +1,8 @@
 -- What a search looks at, for any search that goes on by what a look at each slot says. Where it goes from a slot is told by that
 -- slot alone, so the links that it follows are one row, of which its looks are the front; and a search that met a slot twice would
 -- go round for ever.
+-- Parts: lists from a place on; what a search is, and how it goes; the links followed from a root, and where they end; a search that is not
+-- lost is the same with more visits; it looks at no slot twice; the looks of the whole search.
 use mathlib.Core.Path.{_≡_, refl, ap, sym, _∙_}
 use mathlib.Core.Logic.{_≢_, _⊎_, inl, inr}
 use mathlib.Core.List.{List, [], _∷_}

@@ -1,5 +1,7 @@
 -- Each answer of a chunk and of a whole upload is given exactly when its reason holds: the run finds one of the reasons, and from each the
 -- run comes to its answer.
+-- Parts: four whole sections, or fewer; each reason comes to its noted answer; what a chunk and the end call answer, by what the run came
+-- to; each answer of a chunk; when a whole upload is accepted, and what it leaves; each number of the end call.
 use mathlib.Core.Path.{_≡_, refl, ap, sym, _∙_, subst}
 use mathlib.Core.Logic.{_≢_, _⊎_, inl, inr, _↔_}
 use mathlib.Core.List.{List, []}

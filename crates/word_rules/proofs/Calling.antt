@@ -1,5 +1,7 @@
 -- A call of the reader leaves a reader that its words can say, so the next call reads what this one left, and what the rules say of calls
 -- on a session is said of calls on words.
+-- Parts: the answers of the reader, and a reader that words can say; what a call comes to; a call on words is the call on their reader;
+-- what the next call makes of the words left; a call again on what a call left; the start; an upload from start to end.
 use mathlib.Core.Path.{_≡_, refl, ap, sym, _∙_, subst}
 use mathlib.Core.Logic.{_≢_}
 use mathlib.Core.Bool.{Bool, true, false}

@@ -1,5 +1,7 @@
 -- What the other calls answer is a value below null, a slot with 3 or a refusal without a value: the model's tests show which, and the
 -- bound of a value is what the call's own claims say of it.
+-- Parts: a value, or a refusal that has none; what an insert answers; remove, replace, rollback and a fresh index; yes or no, and the calls
+-- by position; the check of the source; a batch.
 use mathlib.Core.Path.{_≡_, refl, ap, sym, _∙_}
 use mathlib.Core.Logic.{_≢_}
 use mathlib.Core.Bool.{Bool, true, false}

@@ -1,5 +1,7 @@
 -- A call of the loader leaves a loader that its words can say, so the next call reads what this one left, and what the rules say of calls
 -- on a loader is said of calls on words.
+-- Parts: the note that bytes and the end call leave; a loader that words can say, and what a call comes to; a call on words is the call on
+-- their loader; what the next call makes of the words left; a call again on what a call left; the start; a file from a start on.
 use mathlib.Core.Path.{_≡_, refl, ap, sym, _∙_, subst}
 use mathlib.Core.Bool.{Bool, true, false}
 use mathlib.Core.List.{List, [], _∷_, _++_}

@@ -1,4 +1,6 @@
 -- Each arm is the sentence of its own variant.
+-- Parts: what is written for a variant is written for its breach; the sentences of T1 and T2; those of T3, on the links of the tree; those
+-- of T4 to T6, on order and colours; those of T7, on the chain; those of T8, on the sizes; all in one law.
 use mathlib.Core.Path.{_≡_, ap, sym, _∙_}
 use Rattle.script_rules.specs.Feeding.{Paper, typed}
 use Rattle.night.specs.Breaches.{breachOf}

@@ -1,4 +1,6 @@
 -- What is noted stays; whole words, whole slots, or else one byte.
+-- Parts: what is noted stays; whole words may be read, and the step that they make; whole slots may be read, and the step that they make;
+-- one byte; all in one law.
 use mathlib.Core.Path.{refl, ap}
 use mathlib.Core.List.{List}
 use Prim.Native.Nat.{ℕ, _*_, _/_}

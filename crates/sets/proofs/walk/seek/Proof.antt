@@ -1,4 +1,6 @@
 -- The loop's invariant: a step may stand here, and the loop from here comes to what it comes to from the start. What is left to read falls.
+-- Parts: the invariant and what falls; what the reads and steps of a turn ask; a turn past an empty bin; a turn down from a Moved one; the
+-- step behind a list or a tree; each way out; all in one law.
 use borrow.Author.Needs.{needs}
 use mathlib.Core.Path.{_≡_, refl, ap}
 use mathlib.Core.List.{[]}

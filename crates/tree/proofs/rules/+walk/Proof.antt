@@ -1,4 +1,6 @@
 -- Each way out is a law of one visit; the depth falls with each call.
+-- Parts: what falls, and what the calls claim; the ways out by the tests of the slot itself; the left part; the right part; past both
+-- parts, the black slots, the size and the colour; all in one law.
 use mathlib.Core.Path.{_≡_, sym, ap, _∙_}
 use mathlib.Core.Logic.{⊎-elim}
 use denote.Ref.{now}
