@@ -121,8 +121,8 @@
  *   oz_load_start, oz_load_chunk       nothing             each byte
  *
  * When to count instead. oz_kth and oz_position go one way down, but check every slot before, free ones too: with 900 names
- * in 4,096 slots each takes 36.8 microseconds, and oz_index_before, which counts along the chain and checks nothing, 1.8 for
- * the same position (with 4,096 names 68.6 and 8.2; measured on x86-64, the best of 300 rounds). Count where only the library
+ * in 4,096 slots each takes 23.6 microseconds, and oz_index_before, which counts along the chain and checks nothing, 1.8 for
+ * the same position (with 4,096 names 53.0 and 7.9; measured on x86-64, the best of 300 rounds). Count where only the library
  * writes the words and nothing hangs on the position, as in 'name 214 of 900' on a screen; for many positions at once list the
  * chain and sort it. Ask oz_kth and oz_position where the words may be damaged or something is decided by the answer: they
  * answer 2 where the tree is not sound, and what they answer else is proved.

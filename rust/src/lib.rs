@@ -26,7 +26,7 @@
 //! ```
 //!
 //! **Cost.** Insert, remove, replace, rollback and the two calls by position check every slot on each call, so that nobody has to check a
-//! tree beforehand: on 4,096 slots some 80 microseconds, where a find takes well under one. [`Index::batch`] checks once for all its calls,
+//! tree beforehand: on 4,096 slots some 55 microseconds, where a find takes well under one. [`Index::batch`] checks once for all its calls,
 //! and a [`Reader`] once for each chunk in which an entry ends. A frozen set is checked whole by accept, save, a load's end, each move and
 //! each tally; lookup and walk check nothing. Each method says what it reads.
 //!
