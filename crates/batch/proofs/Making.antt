@@ -11,15 +11,14 @@ use lib.Dec.{eqb, leb, ltb}
 use borrow.Author.Tests.{eq-eqb, ne-eqb, le-leb, lt-leb, ltb-true}
 use Rattle.slots.specs.Words.{pick}
 use Rattle.slots.specs.Answers.{Answer, given, refused, answerWord}
-use Rattle.index_rules.specs.Sound.{Sound, sound}
-use Rattle.index_rules.specs.Index.{Index, FitIndex, Outcome, outcome, fitsIndex, lengthOf, insertKind, removeKind, replaceKind}
+use Rattle.index_rules.specs.Sound.{sound}
+use Rattle.index_rules.specs.Index.{Index, Outcome, outcome, fitsIndex, lengthOf, insertKind, removeKind, replaceKind}
 use Rattle.index_rules.specs.Calls.{Call, insertCall, removeCall, replaceCall, called}
-use Rattle.index_rules.specs.Checked.{NoneBelow, Ready, floorAfter, insertsSound, removesSound, replacesSound}
+use Rattle.index_rules.specs.Checked.{NoneBelow, Ready, soundsIndex, floorAfter, insertsSound, removesSound, replacesSound}
 use Rattle.index_rules.specs.Batch.{Batched, batched, callWord, callsIn, callFits, allFit, callsFit, callAt, runs, batches}
 use Rattle.index_rules.specs.Claims.{OnceChecked}
-use Rattle.index_rules.proofs.Fit.{both}
-use Rattle.index_rules.proofs.Journal.{fits-index}
-use Rattle.index_rules.proofs.Sounding.{yes-sound}
+use Rattle.index_rules.proofs.Fit.{both, no-and}
+use Rattle.index_rules.proofs.Sounding.{told-unfit, told-no, told-yes}
 use Rattle.index_rules.proofs.Batching.{at-insert, at-remove, call-line, all-pass}
 use Rattle.index_rules.proofs.Claims.{claims}
 use Rattle.batch.specs.Making.{CallMade}
@@ -203,37 +202,28 @@ module _ {start : Index} {calls : List ℕ} {m : ℕ} {first : List ℕ} {ix : I
 
 -- The tests before the calls.
 module _ (ix : Index) (calls answers : List ℕ) where
-  pub unfit : fitsIndex ix ≡ false → batched (refused 1) ix answers ≡ batches ix calls answers
+  pub unknown : callsFit calls answers ≡ false → batched (refused 1) ix answers ≡ batches ix calls answers
   unfolding batches
-  unfit e = rw e
+  unknown f = rw (f, no-and (fitsIndex ix))
 
-  module _ (e : fitsIndex ix ≡ true) where
-    pub unknown : callsFit calls answers ≡ false → batched (refused 1) ix answers ≡ batches ix calls answers
-    unfolding batches
-    unknown f = rw (e, f)
+  pub unfit : refused 1 ≡ soundsIndex ix → batched (refused 1) ix answers ≡ batches ix calls answers
+  unfolding batches soundsIndex
+  unfit e = rw (told-unfit (fitsIndex ix) (sound (ix .live)) e)
 
-    module _ (f : callsFit calls answers ≡ true) where
-      pub damaged : sound (ix .live) ≡ false → batched (refused 2) ix answers ≡ batches ix calls answers
-      unfolding batches
-      damaged g = rw (e, f, g)
+  module _ (f : callsFit calls answers ≡ true) where
+    pub damaged : given 0 ≡ soundsIndex ix → batched (refused 2) ix answers ≡ batches ix calls answers
+    unfolding batches soundsIndex
+    damaged e = let t = told-no (fitsIndex ix) (sound (ix .live)) e in rw (t .0, f, t .1)
 
-      pub all-known : allFit (callsIn calls) calls ≡ true
-      unfolding callsFit
-      all-known =
-          let a = both (eqb (length calls) (4 * callsIn calls)) _ f in
-          both (leb (callsIn calls) (length answers)) _ (a .1) .1
+    pub does : given 1 ≡ soundsIndex ix → {b : Batched} → b ≡ runs (callsIn calls) ix calls 0 answers 0 → b ≡ batches ix calls answers
+    unfolding batches soundsIndex
+    does e h = let t = told-yes (fitsIndex ix) (sound (ix .live)) e in rw (t .0, f, t .1) h
 
-      module _ (g : sound (ix .live) ≡ true) where
-        pub starts : Ready ix 0
-        starts =
-            record {
-              passes = record { fit = fits-index ix e; sound = yes-sound (fits-index ix e .tree) g };
-              none = λ k l. absurd (omega arith);
-            }
-
-        pub does : {b : Batched} → b ≡ runs (callsIn calls) ix calls 0 answers 0 → b ≡ batches ix calls answers
-        unfolding batches
-        does h = rw (e, f, g) h
+pub all-known : (calls answers : List ℕ) → callsFit calls answers ≡ true → allFit (callsIn calls) calls ≡ true
+unfolding callsFit
+all-known calls answers f =
+    let a = both (eqb (length calls) (4 * callsIn calls)) _ f in
+    both (leb (callsIn calls) (length answers)) _ (a .1) .1
 
 -- The number of calls, and how many were accepted, in a local's words.
 pub known-so-many : (calls : List ℕ) {m : ℕ} → m ≡ callsIn calls → allFit (callsIn calls) calls ≡ true → allFit m calls ≡ true

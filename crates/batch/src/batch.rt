@@ -2,11 +2,9 @@
 use crate::calls::calls_fit;
 use crate::calls::calls_in;
 use crate::make::make;
-use index::fit_index::Fitness;
-use index::fit_index::fit_index;
 use index::journal::length_of;
 use index::sound::Soundness;
-use index::sound::sound;
+use index::sound::sound_index;
 use slots::answer::Answer;
 use slots::answer::given;
 use slots::answer::refused;
@@ -85,21 +83,20 @@ pub fn batch(
         ≡ batches (lent (now (names .entry)) (now (cells .entry)) (now (head .entry)) (now (sizes .entry)) (now (lines .entry)))
         (now (calls .entry)) (now (answers .entry)) ⌝ }
 {
-    let fitness = fit_index(names, cells, head, sizes, lines);
-    let Fitness::Fit = fitness else {
-        return BatchMade::Unfit;
-    };
     let known = calls_fit(calls, answers);
     if !known {
         return BatchMade::Unfit;
     }
-    let verdict = sound(names, cells, head, sizes);
-    let Soundness::Yes = verdict else {
-        return BatchMade::Damaged;
-    };
-    let before = length_of(lines);
-    let m = calls_in(calls);
-    run(names, cells, head, sizes, lines, calls, answers, m);
-    let after = length_of(lines);
-    BatchMade::Accepted((after - before) as u32)
+    let verdict = sound_index(names, cells, head, sizes, lines);
+    match verdict {
+        Soundness::Unfit => BatchMade::Unfit,
+        Soundness::No => BatchMade::Damaged,
+        Soundness::Yes => {
+            let before = length_of(lines);
+            let m = calls_in(calls);
+            run(names, cells, head, sizes, lines, calls, answers, m);
+            let after = length_of(lines);
+            BatchMade::Accepted((after - before) as u32)
+        }
+    }
 }

@@ -9,9 +9,8 @@ use borrow.Author.Tests.{eqb-true, eqb-false, leb-true, le-leb, ltb-true, lt-ltb
 use Rattle.slots.specs.Answers.{refused}
 use Rattle.slots.proofs.Laws.{number}
 use Rattle.endian.specs.Bytes.{Bytes}
-use Rattle.index_rules.proofs.Fit.{both}
+use Rattle.index_rules.proofs.Fit.{both, false-of}
 use Rattle.index_rules.proofs.Rules.{and}
-use Rattle.index_rules.proofs.Inserting.{false-of}
 use Rattle.upload_rules.specs.Reading.{joinedBytes}
 use Rattle.upload_rules.proofs.Ranges.{pick-by}
 use Rattle.file_rules.proofs.Testing.{goes-in, in-goes}

@@ -14,9 +14,8 @@ use borrow.Author.Tests.{eqb-true, eq-eqb, ne-eqb, leb-true, le-leb, ltb-true, l
 use Rattle.slots.specs.Words.{pick}
 use Rattle.slots.specs.Answers.{given, refused}
 use Rattle.tree_rules.proofs.Counting.{hit, hit-other, tally-add, tally-same}
-use Rattle.index_rules.proofs.Fit.{both}
+use Rattle.index_rules.proofs.Fit.{both, false-of}
 use Rattle.index_rules.proofs.Rules.{and}
-use Rattle.index_rules.proofs.Inserting.{false-of}
 use Rattle.upload_rules.proofs.Ranges.{pick-by}
 use Rattle.set_rules.specs.Words.{Set, Fit, fits}
 use Rattle.set_rules.specs.Accepted.{Accepted}

@@ -9,7 +9,7 @@ use lib.ListN.{length}
 use Rattle.slots.specs.Answers.{Answer, given, refused}
 use Rattle.slots.proofs.Laws.{number}
 use Rattle.endian.specs.Bytes.{Bytes}
-use Rattle.index_rules.proofs.Inserting.{false-of}
+use Rattle.index_rules.proofs.Fit.{false-of}
 use Rattle.upload_rules.specs.Reader.{Note, unsaid, said, noteAnswer}
 use Rattle.set_rules.specs.Words.{Set, Fit}
 use Rattle.set_rules.specs.Accepted.{Accepted}

@@ -7,7 +7,7 @@ use native.Mathlib.Omega.{arith}
 use borrow.Author.Tests.{eq-eqb}
 use Rattle.slots.specs.Answers.{Answer, refused}
 use Rattle.endian.specs.Bytes.{little}
-use Rattle.index_rules.proofs.Inserting.{false-of}
+use Rattle.index_rules.proofs.Fit.{false-of}
 use Rattle.upload_rules.specs.Reader.{unsaid, said}
 use Rattle.set_rules.specs.Words.{Set}
 use Rattle.file_rules.specs.File.{setFront, setBytes, countsIn}

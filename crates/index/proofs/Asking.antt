@@ -7,83 +7,63 @@ use Prim.Native.Nat.{ℕ, suc, _≤_, _<_}
 use native.Mathlib.Omega.{arith}
 use lib.ListN.{length}
 use lib.Dec.{leb}
-use borrow.Author.Tests.{leb-true, not-true, not-false}
+use borrow.Author.Tests.{leb-true, le-leb, lt-leb, not-true, not-false}
 use types.Run.{OneOf}
 use denote.Enum.Declared.{tagOf}
 use Rattle.slots.specs.Words.{null, pick, mostSlots}
-use Rattle.slots.specs.Answers.{Answer, Value, some, none, given}
+use Rattle.slots.specs.Answers.{Answer, Value, some, none, given, refused}
 use Rattle.slots.proofs.Laws.{given-is, number, value}
 use Rattle.tree_rules.specs.Find.{Counted, counted, found}
 use Rattle.index_rules.specs.Live.{Live, rootOf, countOf, fits}
-use Rattle.index_rules.specs.Sound.{sound, sounds}
+use Rattle.index_rules.specs.Sound.{sounds}
 use Rattle.index_rules.specs.Index.{Index, FitIndex, Outcome, outcome, fitsIndex, fitsJournal, lengthOf}
 use Rattle.index_rules.specs.Insert.{soughtIn}
-use Rattle.index_rules.proofs.Fit.{both}
 use Rattle.index_rules.proofs.Journal.{fits-index}
-use Rattle.index.specs.Reads.{soundOf}
-use Rattle.index.specs.declared.sound.Soundness.{Soundness}
-use Rattle.index.specs.declared.sound.Soundness.the-variants.{Yes, No, Unfit}
-use Rattle.index.proofs.sound.Soundness.{the-type as soundness}
-use Rattle.index.specs.Calls.{fitnessOf}
-use Rattle.index.specs.declared.fit_index.Fitness.{Fitness}
-use Rattle.index.specs.declared.fit_index.Fitness.the-variants.{Fit as WordsFit, Unfit as WordsUnfit}
+use Rattle.index_rules.specs.Checked.{soundsIndex}
+use Rattle.index_rules.proofs.Fit.{no-and, and-yes}
+use Rattle.index_rules.proofs.Sounding.{told-unfit, told-no, told-yes}
+use Rattle.index.specs.Reads.{takenAsSound}
 use Rattle.tree.specs.Find.{searchedOf}
 use Rattle.tree.specs.declared.find.Found.{Found}
 use Rattle.tree.specs.declared.find.Found.the-variants.{At, Nothing, Lost}
 use Rattle.tree.proofs.find.Found.{the-type as searched}
 
--- The two tests of fitness, as code asks them.
-module _ (ix : Index) {b : Bool} (e : b ≡ fits (ix .live)) where
-  pub unfit-tree : b ≡ false → false ≡ fitsIndex ix
-  unfolding fitsIndex
-  unfit-tree f = rw (← e, f)
+-- The tests of the two checks, by what they answer.
+module _ (ix : Index) where
+  module _ {b : Bool} (e : b ≡ fitsJournal (ix .lines)) where
+    pub unfit-journal : not b ≡ true → refused 1 ≡ soundsIndex ix
+    unfolding soundsIndex fitsIndex
+    unfit-journal f = let z : fitsJournal (ix .lines) ≡ false = sym e ∙ not-true b f in rw (z, no-and (fits (ix .live)))
 
-  pub fit-tree : b ≡ true → {j k : Bool} → j ≡ fitsJournal (ix .lines) → j ≡ k → k ≡ fitsIndex ix
-  unfolding fitsIndex
-  fit-tree f g h = rw (← e, f) (sym h ∙ g)
+    pub fit-journal : not b ≡ false → {a : Answer} → a ≡ sounds (ix .live) → a ≡ soundsIndex ix
+    unfolding soundsIndex fitsIndex sounds
+    fit-journal f h = let z : fitsJournal (ix .lines) ≡ true = sym e ∙ not-false b f in rw (z, and-yes (fits (ix .live))) h
 
--- Words are fit, or they are not.
-module _ (ix : Index) {r : Fitness} (e : fitnessOf r ≡ fitsIndex ix) where
-  pub is-fit : r ≡ WordsFit → fitsIndex ix ≡ true
-  is-fit f = sym e ∙ ap fitnessOf f
+  module _ {b : Bool} (e : b ≡ fitsIndex ix) where
+    pub taken-unfit : not b ≡ true → refused 1 ≡ takenAsSound ix
+    unfolding takenAsSound
+    taken-unfit f = let z : fitsIndex ix ≡ false = sym e ∙ not-true b f in rw z
 
-  pub is-unfit : r ≡ WordsUnfit → fitsIndex ix ≡ false
-  is-unfit f = sym e ∙ ap fitnessOf f
+    module _ (f : not b ≡ false) {n : ℕ} (h : n ≡ countOf (ix .live)) where
+      pub taken-no : mostSlots < n → given 0 ≡ takenAsSound ix
+      unfolding takenAsSound
+      taken-no l = let z : fitsIndex ix ≡ true = sym e ∙ not-false b f in rw (z, ← h, lt-leb n mostSlots l)
 
-pub tree-fits : (ix : Index) → fitsIndex ix ≡ true → fits (ix .live) ≡ true
-unfolding fitsIndex
-tree-fits ix e = both (fits (ix .live)) _ e .0
+      pub taken-yes : n ≤ mostSlots → given 1 ≡ takenAsSound ix
+      unfolding takenAsSound
+      taken-yes l = let z : fitsIndex ix ≡ true = sym e ∙ not-false b f in rw (z, ← h, le-leb n mostSlots l)
 
--- The full check says yes, or another thing.
-abbrev yesOf : Soundness → Bool
-yesOf Yes = true
-yesOf No = false
-yesOf Unfit = false
+  pub unfit-taken : refused 1 ≡ takenAsSound ix → fitsIndex ix ≡ false
+  unfolding takenAsSound
+  unfit-taken e = told-unfit (fitsIndex ix) (leb (countOf (ix .live)) mostSlots) e
 
-verdict : (r : Soundness) (b : Bool) → soundOf r ≡ pick b (given 1) (given 0) → b ≡ yesOf r
-verdict Yes true e = refl
-verdict Yes false e = absurd (omega (arith, given-is e))
-verdict No true e = absurd (omega (arith, given-is e))
-verdict No false e = refl
-verdict Unfit true e = absurd (omega (arith, number e))
-verdict Unfit false e = absurd (omega (arith, number e))
+  pub no-taken : given 0 ≡ takenAsSound ix → (fitsIndex ix ≡ true) × (leb (countOf (ix .live)) mostSlots ≡ false)
+  unfolding takenAsSound
+  no-taken e = told-no _ _ e
 
-module _ (t : Live) (f : fits t ≡ true) (r : Soundness) (e : soundOf r ≡ sounds t) where
-  judged : sound t ≡ yesOf r
-  unfolding sounds
-  judged = verdict r (sound t) (rw f at e)
-
-  pub is-sound : r ≡ Yes → sound t ≡ true
-  is-sound y = judged ∙ ap yesOf y
-
-  pub not-sound : OneOf (1 ∷ 2 ∷ []) (tagOf soundness r) → sound t ≡ false
-  not-sound k = judged ∙ go r k
-    where
-      go : (r : Soundness) → OneOf (1 ∷ 2 ∷ []) (tagOf soundness r) → yesOf r ≡ false
-      go Yes (inl z) = absurd (omega arith)
-      go Yes (inr z) = absurd (omega arith)
-      go No z = refl
-      go Unfit z = refl
+  pub yes-taken : given 1 ≡ takenAsSound ix → (fitsIndex ix ≡ true) × (leb (countOf (ix .live)) mostSlots ≡ true)
+  unfolding takenAsSound
+  yes-taken e = told-yes _ _ e
 
 -- The search names a slot, or it does not.
 module _ (t : Live) (hash key : ℕ) {root : ℕ} (e : root ≡ rootOf t) (r : Found)
@@ -106,14 +86,6 @@ module _ (t : Live) (hash key : ℕ) {root : ℕ} (e : root ≡ rootOf t) (r : F
       go (At slot looks) (inr z) = absurd (omega arith)
       go (Nothing looks) z = refl
       go (Lost looks) z = refl
-
--- A test that is asked the other way round.
-module _ {b t : Bool} (e : b ≡ t) where
-  pub holds : not b ≡ false → t ≡ true
-  holds f = sym e ∙ not-false b f
-
-  pub fails : not b ≡ true → t ≡ false
-  fails f = sym e ∙ not-true b f
 
 -- The case that a driver's tests come to: a refusal, which writes nothing, or a slot and what the call leaves.
 module _ (ix : Index) (u : ℕ → Index) (o : Outcome) where

@@ -1,6 +1,5 @@
 -- Every claim of `Calling` holds: an answer is read back off its number and value, and the slices are those of the one outcome.
 use mathlib.Core.Path.{_≡_, refl, ap, sym, _∙_}
-use mathlib.Core.Bool.{true≢false}
 use mathlib.Core.List.{List}
 use Prim.Native.Nat.{ℕ}
 use lib.Dec.{eqb}
@@ -8,11 +7,9 @@ use Rattle.slots.specs.Words.{pick}
 use Rattle.slots.specs.Answers.{Answer, Value, some, none}
 use Rattle.slots.proofs.Laws.{told-apart}
 use Rattle.index_rules.specs.Index.{Outcome}
-use Rattle.index.specs.Calls.{fitnessOf, insertedOf, presenceOf}
+use Rattle.index.specs.Calls.{insertedOf, presenceOf}
 use Rattle.index.specs.Fresh.{freshOf}
 use Rattle.index.specs.Calling.{CallReturned, outcomeOf, Calling}
-use Rattle.index.specs.declared.fit_index.Fitness.{Fitness}
-use Rattle.index.specs.declared.fit_index.Fitness.the-variants.{Fit, Unfit}
 use Rattle.index.specs.declared.fresh.Freshness.{Freshness}
 use Rattle.index.specs.declared.fresh.Freshness.the-variants.{Made, Unfit as FreshUnfit}
 use Rattle.index.specs.declared.insert.Inserted.{Inserted}
@@ -63,12 +60,6 @@ fresh-back FreshUnfit = refl
 freshness-one-to-one : (a b : Freshness) → freshOf a ≡ freshOf b → a ≡ b
 freshness-one-to-one = told-apart freshOf (λ a. freshBack (a .number)) fresh-back
 
-fitness-one-to-one : (a b : Fitness) → fitnessOf a ≡ fitnessOf b → a ≡ b
-fitness-one-to-one Fit Fit e = refl
-fitness-one-to-one Fit Unfit e = absurd (true≢false e)
-fitness-one-to-one Unfit Fit e = absurd (true≢false (sym e))
-fitness-one-to-one Unfit Unfit e = refl
-
 -- Calls whose outcomes are one are one.
 module _ {A : Type 0} (f : A → Answer) (apart : (a b : A) → f a ≡ f b → a ≡ b) where
   call : {a b : A} {n c h s l n′ c′ h′ s′ l′ : List ℕ} → a ≡ b → n ≡ n′ → c ≡ c′ → h ≡ h′ → s ≡ s′ → l ≡ l′
@@ -102,6 +93,4 @@ calling =
       replace-one = λ ix hash key p c d. one presenceOf presence-one-to-one _ c d;
       freshness-one-to-one = freshness-one-to-one;
       fresh-one = λ ix c d. one freshOf freshness-one-to-one _ c d;
-      fitness-one-to-one = fitness-one-to-one;
-      fit-index-one = λ ix a b p q. fitness-one-to-one a b (p ∙ sym q);
     }

@@ -15,11 +15,13 @@ use Rattle.index_rules.specs.Live.{Live, countOf}
 use Rattle.index_rules.specs.Index.{Index, index, outcome, fitsIndex, lengthOf, linesOf, insertKind, plainLine, appended}
 use Rattle.index_rules.specs.Insert.{freeFrom, soughtIn, grown}
 use Rattle.index_rules.specs.Checked.{lowestFrom, onChecked, insertsSound}
+use Rattle.index_rules.proofs.Journal.{fits-index}
+use Rattle.index.specs.Reads.{takenAsSound}
 use Rattle.index.specs.Calls.{insertedOf}
 use Rattle.index.specs.declared.insert.Inserted.{Inserted}
 use Rattle.index.specs.declared.insert.Inserted.the-variants.{At, Unfit, Damaged, Present, Full, JournalFull}
 use Rattle.index.proofs.insert.Inserted.{the-type}
-use Rattle.index.proofs.Asking.{Settled, refuses, accepts}
+use Rattle.index.proofs.Asking.{unfit-taken, no-taken, yes-taken, Settled, refuses, accepts}
 use Rattle.tree_rules.specs.Find.{slotsOf}
 
 module _ (floor : ℕ) (ix : Index) (hash key : ℕ) where
@@ -32,36 +34,41 @@ module _ (floor : ℕ) (ix : Index) (hash key : ℕ) where
   abbrev spare : ℕ
   spare = freeFrom (slotsOf (t .names) - floor) (t .cells) floor
 
-  pub unfit : fitsIndex ix ≡ false → (p : ℕ) → refused 1 ≡ insertsSound floor ix hash key p .answer
+  pub unfit : refused 1 ≡ takenAsSound ix → (p : ℕ) → refused 1 ≡ insertsSound floor ix hash key p .answer
   unfolding insertsSound onChecked
-  unfit e p = rw e
+  unfit e p = rw (unfit-taken ix e)
 
-  module _ (e : fitsIndex ix ≡ true) where
-    pub damaged : counts ≡ false → (p : ℕ) → refused 2 ≡ insertsSound floor ix hash key p .answer
+  pub damaged : given 0 ≡ takenAsSound ix → (p : ℕ) → refused 2 ≡ insertsSound floor ix hash key p .answer
+  unfolding insertsSound onChecked
+  damaged e p = let f = no-taken ix e in rw (f .0, f .1)
+
+  module _ (e : given 1 ≡ takenAsSound ix) where
+    fit : (fitsIndex ix ≡ true) × (counts ≡ true)
+    fit = yes-taken ix e
+
+    pub few : slotsOf (t .names) ≤ 4096
+    few = let f = fits-index ix (fit .0) .tree in omega (arith, f .most, f .two)
+
+    pub present : {slot : ℕ} → soughtIn t hash key ≡ some slot → (p : ℕ)
+        → record { number = 3; value = some slot } ≡ insertsSound floor ix hash key p .answer
     unfolding insertsSound onChecked
-    damaged f p = rw (e, f)
+    present s p = rw (fit .0, fit .1, s)
 
-    module _ (f : counts ≡ true) where
-      pub present : {slot : ℕ} → soughtIn t hash key ≡ some slot → (p : ℕ)
-          → record { number = 3; value = some slot } ≡ insertsSound floor ix hash key p .answer
-      unfolding insertsSound onChecked
-      present s p = rw (e, f, s)
+    module _ (s : soughtIn t hash key ≡ none) {x : ℕ} (v : x ≡ spare) where
+      pub full : x ≡ null → (p : ℕ) → refused 5 ≡ insertsSound floor ix hash key p .answer
+      unfolding insertsSound onChecked lowestFrom
+      full z p = rw (fit .0, fit .1, s, ← v, eq-eqb x null z)
 
-      module _ (s : soughtIn t hash key ≡ none) {x : ℕ} (v : x ≡ spare) where
-        pub full : x ≡ null → (p : ℕ) → refused 5 ≡ insertsSound floor ix hash key p .answer
+      module _ (d : x ≢ null) where
+        pub journal-full : eqb (lengthOf (ix .lines)) (linesOf (ix .lines)) ≡ true → (p : ℕ)
+            → refused 6 ≡ insertsSound floor ix hash key p .answer
         unfolding insertsSound onChecked lowestFrom
-        full z p = rw (e, f, s, ← v, eq-eqb x null z)
+        journal-full l p = rw (fit .0, fit .1, s, ← v, ne-eqb x null d, l)
 
-        module _ (d : x ≢ null) where
-          pub journal-full : eqb (lengthOf (ix .lines)) (linesOf (ix .lines)) ≡ true → (p : ℕ)
-              → refused 6 ≡ insertsSound floor ix hash key p .answer
-          unfolding insertsSound onChecked lowestFrom
-          journal-full l p = rw (e, f, s, ← v, ne-eqb x null d, l)
-
-          pub taken : eqb (lengthOf (ix .lines)) (linesOf (ix .lines)) ≡ false → (p : ℕ)
-              → given x ≡ insertsSound floor ix hash key p .answer
-          unfolding insertsSound onChecked lowestFrom
-          taken l p = rw (e, f, s, ← v, ne-eqb x null d, l)
+        pub taken : eqb (lengthOf (ix .lines)) (linesOf (ix .lines)) ≡ false → (p : ℕ)
+            → given x ≡ insertsSound floor ix hash key p .answer
+        unfolding insertsSound onChecked lowestFrom
+        taken l p = rw (fit .0, fit .1, s, ← v, ne-eqb x null d, l)
 
   module _ (p : ℕ) where
     -- What an accepted insert leaves.

@@ -14,11 +14,12 @@ use Rattle.index_rules.specs.Live.{Live, countOf}
 use Rattle.index_rules.specs.Index.{Index, fitsIndex, lengthOf, linesOf}
 use Rattle.index_rules.specs.Insert.{soughtIn}
 use Rattle.index_rules.specs.Checked.{onChecked, presentSound}
+use Rattle.index.specs.Reads.{takenAsSound}
 use Rattle.index.specs.Calls.{presenceOf}
 use Rattle.index.specs.declared.present.Presence.{Presence}
 use Rattle.index.specs.declared.present.Presence.the-variants.{At, Unfit, Damaged, Absent, JournalFull}
 use Rattle.index.proofs.present.Presence.{the-type}
-use Rattle.index.proofs.Asking.{Settled, refuses, accepts}
+use Rattle.index.proofs.Asking.{unfit-taken, no-taken, yes-taken, Settled, refuses, accepts}
 
 module _ (ix : Index) (hash key : ℕ) where
   abbrev t : Live
@@ -27,30 +28,32 @@ module _ (ix : Index) (hash key : ℕ) where
   abbrev counts : Bool
   counts = leb (countOf t) mostSlots
 
-  pub unfit : fitsIndex ix ≡ false → (leaving : ℕ → Index) → refused 1 ≡ presentSound ix hash key leaving .answer
+  pub unfit : refused 1 ≡ takenAsSound ix → (leaving : ℕ → Index) → refused 1 ≡ presentSound ix hash key leaving .answer
   unfolding presentSound onChecked
-  unfit e leaving = rw e
+  unfit e leaving = rw (unfit-taken ix e)
 
-  module _ (e : fitsIndex ix ≡ true) where
-    pub damaged : counts ≡ false → (leaving : ℕ → Index) → refused 2 ≡ presentSound ix hash key leaving .answer
+  pub damaged : given 0 ≡ takenAsSound ix → (leaving : ℕ → Index) → refused 2 ≡ presentSound ix hash key leaving .answer
+  unfolding presentSound onChecked
+  damaged e leaving = let f = no-taken ix e in rw (f .0, f .1)
+
+  module _ (e : given 1 ≡ takenAsSound ix) where
+    fit : (fitsIndex ix ≡ true) × (counts ≡ true)
+    fit = yes-taken ix e
+
+    pub absent : soughtIn t hash key ≡ none → (leaving : ℕ → Index) → refused 4 ≡ presentSound ix hash key leaving .answer
     unfolding presentSound onChecked
-    damaged f leaving = rw (e, f)
+    absent s leaving = rw (fit .0, fit .1, s)
 
-    module _ (f : counts ≡ true) where
-      pub absent : soughtIn t hash key ≡ none → (leaving : ℕ → Index) → refused 4 ≡ presentSound ix hash key leaving .answer
+    module _ {x : ℕ} (s : soughtIn t hash key ≡ some x) where
+      pub journal-full : eqb (lengthOf (ix .lines)) (linesOf (ix .lines)) ≡ true → (leaving : ℕ → Index)
+          → refused 6 ≡ presentSound ix hash key leaving .answer
       unfolding presentSound onChecked
-      absent s leaving = rw (e, f, s)
+      journal-full l leaving = rw (fit .0, fit .1, s, l)
 
-      module _ {x : ℕ} (s : soughtIn t hash key ≡ some x) where
-        pub journal-full : eqb (lengthOf (ix .lines)) (linesOf (ix .lines)) ≡ true → (leaving : ℕ → Index)
-            → refused 6 ≡ presentSound ix hash key leaving .answer
-        unfolding presentSound onChecked
-        journal-full l leaving = rw (e, f, s, l)
-
-        pub there : eqb (lengthOf (ix .lines)) (linesOf (ix .lines)) ≡ false → (leaving : ℕ → Index)
-            → given x ≡ presentSound ix hash key leaving .answer
-        unfolding presentSound onChecked
-        there l leaving = rw (e, f, s, l)
+      pub there : eqb (lengthOf (ix .lines)) (linesOf (ix .lines)) ≡ false → (leaving : ℕ → Index)
+          → given x ≡ presentSound ix hash key leaving .answer
+      unfolding presentSound onChecked
+      there l leaving = rw (fit .0, fit .1, s, l)
 
   pub settled-by : (leaving : ℕ → Index) → Settled ix leaving (presentSound ix hash key leaving)
   unfolding presentSound onChecked

@@ -64,6 +64,7 @@ reading =
       check-one = λ t a b p q. checked-one-to-one a b (p ∙ sym q);
       soundness-one-to-one = soundness-one-to-one;
       sound-one = λ t a b p q. soundness-one-to-one a b (p ∙ sym q);
+      sound-index-one = λ ix a b p q. soundness-one-to-one a b (p ∙ sym q);
       fit-unsized-one = λ t a b p q. p ∙ sym q;
       fit-one = λ t a b p q. p ∙ sym q;
       counted-one = λ _ a b p q. counted-one-to-one a b (p ∙ sym q);

@@ -18,29 +18,36 @@ use Rattle.index_rules.specs.Index.{Index, index, FitIndex, outcome, fitsIndex,
 use Rattle.index_rules.specs.Rollback.{stays, misfit, blanked}
 use Rattle.index_rules.specs.Checked.{onChecked, unrolledFrom, rollsSound}
 use Rattle.index_rules.proofs.Journal.{fits-index}
+use Rattle.index.specs.Reads.{takenAsSound}
 use Rattle.index.specs.Rolls.{opened, rolledOf}
 use Rattle.index.specs.declared.rollback.RolledBack.{RolledBack}
 use Rattle.index.specs.declared.rollback.RolledBack.the-variants.{Lines, Unfit, Damaged, BadMark, Misfit}
 use Rattle.index.proofs.rollback.RolledBack.{the-type}
+use Rattle.index.proofs.Asking.{unfit-taken, no-taken, yes-taken}
 
 module _ (ix : Index) (m : ℕ) where
-  pub unfit : fitsIndex ix ≡ false → refused 1 ≡ opened ix m
+  pub unfit : refused 1 ≡ takenAsSound ix → refused 1 ≡ opened ix m
   unfolding opened
-  unfit e = rw e
+  unfit e = rw (unfit-taken ix e)
 
-  module _ (e : fitsIndex ix ≡ true) where
-    pub damaged : leb (countOf (ix .live)) mostSlots ≡ false → refused 2 ≡ opened ix m
+  pub damaged : given 0 ≡ takenAsSound ix → refused 2 ≡ opened ix m
+  unfolding opened
+  damaged e = let f = no-taken ix e in rw (f .0, f .1)
+
+  module _ (e : given 1 ≡ takenAsSound ix) {n : ℕ} (h : n ≡ lengthOf (ix .lines)) where
+    tests : (fitsIndex ix ≡ true) × (leb (countOf (ix .live)) mostSlots ≡ true)
+    tests = yes-taken ix e
+
+    pub few-lines : n ≤ 1024
+    few-lines = let f = fits-index ix (tests .0) in omega (arith, f .most, f .within, h)
+
+    pub bad-mark : n < m → refused 7 ≡ opened ix m
     unfolding opened
-    damaged f = rw (e, f)
+    bad-mark l = rw (tests .0, tests .1, ← h, lt-ltb n m l)
 
-    module _ (f : leb (countOf (ix .live)) mostSlots ≡ true) {n : ℕ} (h : n ≡ lengthOf (ix .lines)) where
-      pub bad-mark : n < m → refused 7 ≡ opened ix m
-      unfolding opened
-      bad-mark l = rw (e, f, ← h, lt-ltb n m l)
-
-      pub good-mark : m ≤ n → given (n - m) ≡ opened ix m
-      unfolding opened
-      good-mark l = rw (e, f, ← h, le-ltb n m l)
+    pub good-mark : m ≤ n → given (n - m) ≡ opened ix m
+    unfolding opened
+    good-mark l = rw (tests .0, tests .1, ← h, le-ltb n m l)
 
   -- The case that the tests come to: a refusal, which writes nothing, or the lines are looked at.
   data Case : Type 0 where

@@ -4,15 +4,14 @@ use mathlib.Core.Path.{_≡_}
 use mathlib.Core.List.{List}
 use Prim.Native.Nat.{ℕ}
 use Rattle.slots.specs.Answers.{Answer, OneAnswer}
-use Rattle.index_rules.specs.Index.{Index, Outcome, fitsIndex}
+use Rattle.index_rules.specs.Index.{Index, Outcome}
 use Rattle.index_rules.specs.Insert.{inserts}
 use Rattle.index_rules.specs.Remove.{removes}
 use Rattle.index_rules.specs.Replace.{replaces}
 use Rattle.index_rules.specs.Checked.{raisedBy, loweredBy, insertsSound, removesSound, replacesSound}
 use Rattle.index_rules.specs.Fresh.{freshes}
-use Rattle.index.specs.Calls.{fitnessOf, insertedOf, presenceOf}
+use Rattle.index.specs.Calls.{insertedOf, presenceOf}
 use Rattle.index.specs.Fresh.{freshOf}
-use Rattle.index.specs.declared.fit_index.Fitness.{Fitness}
 use Rattle.index.specs.declared.fresh.Freshness.{Freshness}
 use Rattle.index.specs.declared.insert.Inserted.{Inserted}
 use Rattle.index.specs.declared.present.Presence.{Presence}
@@ -47,5 +46,3 @@ pub record Calling : Type 0 where
   pub replace-one : (ix : Index) (hash key p : ℕ) → OneAnswer (λ c. outcomeOf presenceOf c ≡ replaces ix hash key p)
   pub freshness-one-to-one : (a b : Freshness) → freshOf a ≡ freshOf b → a ≡ b
   pub fresh-one : (ix : Index) → OneAnswer (λ c. outcomeOf freshOf c ≡ freshes ix)
-  pub fitness-one-to-one : (a b : Fitness) → fitnessOf a ≡ fitnessOf b → a ≡ b
-  pub fit-index-one : (ix : Index) → OneAnswer (λ r. fitnessOf r ≡ fitsIndex ix)

@@ -1,18 +1,11 @@
 -- The number and value of each answer of insert, and of remove and replace, which answer alike.
-use mathlib.Core.Bool.{Bool, true, false}
 use Rattle.slots.specs.Answers.{Answer, some, given, refused}
-use Rattle.index.specs.declared.fit_index.Fitness.{Fitness}
-use Rattle.index.specs.declared.fit_index.Fitness.the-variants.{Fit, Unfit}
 use Rattle.index.specs.declared.insert.Inserted.{Inserted}
 use Rattle.index.specs.declared.insert.Inserted.the-variants.{At as InsertAt, Unfit as InsertUnfit, Damaged as InsertDamaged, Present}
 use Rattle.index.specs.declared.insert.Inserted.the-variants.{Full, JournalFull as InsertJournalFull}
 use Rattle.index.specs.declared.present.Presence.{Presence}
 use Rattle.index.specs.declared.present.Presence.the-variants.{At as PresentAt, Unfit as PresentUnfit, Damaged as PresentDamaged}
 use Rattle.index.specs.declared.present.Presence.the-variants.{Absent as PresentAbsent, JournalFull as PresentJournalFull}
-
-abbrev pub fitnessOf : Fitness → Bool
-fitnessOf Fit = true
-fitnessOf Unfit = false
 
 abbrev pub insertedOf : Inserted → Answer
 insertedOf (InsertAt slot) = given slot

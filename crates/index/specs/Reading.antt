@@ -10,6 +10,8 @@ use Rattle.tree.specs.Find.{countedOf}
 use Rattle.index_rules.specs.Live.{Live, Unsized, fits, fitsUnsized}
 use Rattle.index_rules.specs.Find.{finds}
 use Rattle.index_rules.specs.Check.{checks}
+use Rattle.index_rules.specs.Index.{Index}
+use Rattle.index_rules.specs.Checked.{soundsIndex}
 use Rattle.tree_rules.specs.Chain.{tally}
 use Rattle.index_rules.specs.Sound.{used, slotsFine, sounds}
 use Rattle.index.specs.Reads.{foundOf, checkedOf, soundOf}
@@ -24,6 +26,7 @@ pub record Reading : Type 0 where
   pub check-one : (t : Unsized) → OneAnswer (λ r. checkedOf r ≡ checks t)
   pub soundness-one-to-one : (a b : Soundness) → soundOf a ≡ soundOf b → a ≡ b
   pub sound-one : (t : Live) → OneAnswer (λ r. soundOf r ≡ sounds t)
+  pub sound-index-one : (ix : Index) → OneAnswer (λ r. soundOf r ≡ soundsIndex ix)
   pub fit-unsized-one : (t : Unsized) → OneAnswer (λ r. r ≡ fitsUnsized t)
   pub fit-one : (t : Live) → OneAnswer (λ r. r ≡ fits t)
   pub counted-one : (c : Counted) → OneAnswer (λ r. countedOf r ≡ c)

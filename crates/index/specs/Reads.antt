@@ -1,7 +1,12 @@
--- The number and value of each answer of find, with its looks, of the source's check and of the full check.
+-- The number and value of each answer of find, with its looks, of the source's check and of the full check; and what is asked
+-- again after it.
 use Prim.Native.Nat.{_+_}
+use lib.Dec.{leb}
+use Rattle.slots.specs.Words.{pick, mostSlots}
 use Rattle.slots.specs.Answers.{Answer, some, given, nothing, refused}
 use Rattle.tree_rules.specs.Find.{Counted, withLooks}
+use Rattle.index_rules.specs.Live.{countOf}
+use Rattle.index_rules.specs.Index.{Index, fitsIndex}
 use Rattle.index.specs.declared.find.Found.{Found}
 use Rattle.index.specs.declared.find.Found.the-variants.{At, Nothing, Unfit, Lost}
 use Rattle.index.specs.declared.check.Checked.{Checked}
@@ -27,3 +32,7 @@ abbrev pub soundOf : Soundness → Answer
 soundOf Yes = given 1
 soundOf No = given 0
 soundOf SoundUnfit = refused 1
+
+-- What is asked again where the full check has said yes.
+unfoldable pub takenAsSound : Index → Answer
+takenAsSound ix = pick (fitsIndex ix) (pick (leb (countOf (ix .live)) mostSlots) (given 1) (given 0)) (refused 1)

@@ -1,14 +1,12 @@
 // insert: a pair with its place joins the tree, and the journal takes a line.
-use crate::fit_index::Fitness;
-use crate::fit_index::can_count;
-use crate::fit_index::fit_index;
 use crate::grow::grow;
 use crate::grow::lowest_free;
 use crate::journal::INSERT;
 use crate::journal::append;
 use crate::journal::is_full;
 use crate::sound::Soundness;
-use crate::sound::sound;
+use crate::sound::sound_index;
+use crate::sound::taken_as_sound;
 use slots::NULL;
 use slots::ROOT;
 use slots::answer::Answer;
@@ -86,28 +84,27 @@ fn ask(
         (lent (now (names .entry)) (now (cells .entry)) (now (head .entry)) (now (sizes .entry)) (now (lines .entry)))
         hash key p .answer) ⌝ }
 {
-    let fitness = fit_index(names, cells, head, sizes, lines);
-    let Fitness::Fit = fitness else {
-        return Inserted::Unfit;
-    };
-    let counts = can_count(head);
-    if !counts {
-        return Inserted::Damaged;
+    let verdict = taken_as_sound(names, cells, head, sizes, lines);
+    match verdict {
+        Soundness::Unfit => Inserted::Unfit,
+        Soundness::No => Inserted::Damaged,
+        Soundness::Yes => {
+            let root = word(head, ROOT, NULL);
+            let found = find_tree_node(names, cells, root, hash, key);
+            if let Found::At(slot, _) = found {
+                return Inserted::Present(slot);
+            }
+            let x = lowest_free(cells, (names.len() / 2) as u32, floor);
+            if x == NULL {
+                return Inserted::Full;
+            }
+            let full = is_full(lines);
+            if full {
+                return Inserted::JournalFull;
+            }
+            Inserted::At(x)
+        }
     }
-    let root = word(head, ROOT, NULL);
-    let found = find_tree_node(names, cells, root, hash, key);
-    if let Found::At(slot, _) = found {
-        return Inserted::Present(slot);
-    }
-    let x = lowest_free(cells, (names.len() / 2) as u32, floor);
-    if x == NULL {
-        return Inserted::Full;
-    }
-    let full = is_full(lines);
-    if full {
-        return Inserted::JournalFull;
-    }
-    Inserted::At(x)
 }
 
 // insert where the full check has said yes and no slot below the floor is free.
@@ -153,13 +150,10 @@ pub fn insert(
         ≡ inserts (lent (now (names .entry)) (now (cells .entry)) (now (head .entry)) (now (sizes .entry)) (now (lines .entry)))
         hash key place ⌝ }
 {
-    let fitness = fit_index(names, cells, head, sizes, lines);
-    let Fitness::Fit = fitness else {
-        return Inserted::Unfit;
-    };
-    let verdict = sound(names, cells, head, sizes);
-    let Soundness::Yes = verdict else {
-        return Inserted::Damaged;
-    };
-    insert_sound(names, cells, head, sizes, lines, 0, hash, key, place)
+    let verdict = sound_index(names, cells, head, sizes, lines);
+    match verdict {
+        Soundness::Unfit => Inserted::Unfit,
+        Soundness::No => Inserted::Damaged,
+        Soundness::Yes => insert_sound(names, cells, head, sizes, lines, 0, hash, key, place),
+    }
 }

@@ -3,7 +3,6 @@
 pub mod check;
 pub mod find;
 pub mod fit;
-pub mod fit_index;
 pub mod sound;
 // How a pair joins a tree and leaves it once that is allowed, and the journal's words.
 pub mod fresh;

@@ -1,9 +1,8 @@
 // What remove and replace ask alike of a pair that has to be there, where the full check has said yes, and what both answer.
-use crate::fit_index::Fitness;
-use crate::fit_index::can_count;
-use crate::fit_index::fit_index;
 use crate::grow::lesser;
 use crate::journal::is_full;
+use crate::sound::Soundness;
+use crate::sound::taken_as_sound;
 use slots::NULL;
 use slots::ROOT;
 use slots::answer::Answer;
@@ -70,22 +69,21 @@ pub(crate) fn present(
         ≡ presentSound (lent (now (names .entry)) (now (cells .entry)) (now (head .entry)) (now (sizes .entry)) (now (lines .entry)))
         hash key leave .answer) ⌝ }
 {
-    let fitness = fit_index(names, cells, head, sizes, lines);
-    let Fitness::Fit = fitness else {
-        return Presence::Unfit;
-    };
-    let counts = can_count(head);
-    if !counts {
-        return Presence::Damaged;
+    let verdict = taken_as_sound(names, cells, head, sizes, lines);
+    match verdict {
+        Soundness::Unfit => Presence::Unfit,
+        Soundness::No => Presence::Damaged,
+        Soundness::Yes => {
+            let root = word(head, ROOT, NULL);
+            let found = find_tree_node(names, cells, root, hash, key);
+            let Found::At(x, _) = found else {
+                return Presence::Absent;
+            };
+            let full = is_full(lines);
+            if full {
+                return Presence::JournalFull;
+            }
+            Presence::At(x)
+        }
     }
-    let root = word(head, ROOT, NULL);
-    let found = find_tree_node(names, cells, root, hash, key);
-    let Found::At(x, _) = found else {
-        return Presence::Absent;
-    };
-    let full = is_full(lines);
-    if full {
-        return Presence::JournalFull;
-    }
-    Presence::At(x)
 }

@@ -1,6 +1,4 @@
 // remove: a pair leaves the tree, and the journal takes a line.
-use crate::fit_index::Fitness;
-use crate::fit_index::fit_index;
 use crate::journal::NOTED_REMOVE;
 use crate::journal::REMOVE;
 use crate::journal::append;
@@ -8,7 +6,7 @@ use crate::present::Presence;
 use crate::present::present;
 use crate::shrink::shrink;
 use crate::sound::Soundness;
-use crate::sound::sound;
+use crate::sound::sound_index;
 use slots::HASH;
 use slots::KEY;
 use slots::NULL;
@@ -17,10 +15,36 @@ use slots::PREV;
 use slots::get;
 use slots::name;
 ghost use mathlib.Core.Path.{_≡_};
+ghost use mathlib.Core.List.{List};
+ghost use Prim.Native.Nat.{ℕ};
+ghost use Rattle.index_rules.specs.Live.{lentTree};
 ghost use Rattle.index_rules.specs.Index.{lent, outcome};
-ghost use Rattle.index_rules.specs.Remove.{removes};
+ghost use Rattle.index_rules.specs.Remove.{removalOf, removes};
 ghost use Rattle.index_rules.specs.Checked.{removesSound};
 ghost use Rattle.index.specs.Calls.{presenceOf};
+ghost use Rattle.index.specs.Frees.{appendedIf};
+
+// The line of a removal, before the slot x goes: its place, and the pair of the slot before it in the chain, if one stands there.
+fn note_removal(names: &[u64], cells: &[u32], lines: &mut [u64], hash: u64, key: u64, x: u32)
+    ensures { λ _. ⌜ ((head sizes : List ℕ) → now (lines .exit)
+        ≡ appendedIf (now (lines .entry)) (removalOf (lentTree (now (names .entry)) (now (cells .entry)) head sizes) hash key x)) ⌝ }
+{
+    let place = get(cells, x, PLACE) as u64;
+    let y = get(cells, x, PREV);
+    if y == NULL {
+        append(lines, REMOVE, hash, key, place, 0, 0);
+    } else {
+        append(
+            lines,
+            NOTED_REMOVE,
+            hash,
+            key,
+            place,
+            name(names, y, HASH),
+            name(names, y, KEY),
+        );
+    }
+}
 
 // remove where the full check has said yes.
 pub fn remove_sound(
@@ -41,16 +65,8 @@ pub fn remove_sound(
     let Presence::At(x) = asked else {
         return asked;
     };
-    let place = get(cells, x, PLACE) as u64;
-    let y = get(cells, x, PREV);
-    let prehash = name(names, y, HASH);
-    let prekey = name(names, y, KEY);
+    note_removal(names, cells, lines, hash, key, x);
     shrink(names, cells, head, sizes, x);
-    if y == NULL {
-        append(lines, REMOVE, hash, key, place, 0, 0);
-    } else {
-        append(lines, NOTED_REMOVE, hash, key, place, prehash, prekey);
-    }
     Presence::At(x)
 }
 
@@ -70,13 +86,10 @@ pub fn remove(
         ≡ removes (lent (now (names .entry)) (now (cells .entry)) (now (head .entry)) (now (sizes .entry)) (now (lines .entry)))
         hash key ⌝ }
 {
-    let fitness = fit_index(names, cells, head, sizes, lines);
-    let Fitness::Fit = fitness else {
-        return Presence::Unfit;
-    };
-    let verdict = sound(names, cells, head, sizes);
-    let Soundness::Yes = verdict else {
-        return Presence::Damaged;
-    };
-    remove_sound(names, cells, head, sizes, lines, hash, key)
+    let verdict = sound_index(names, cells, head, sizes, lines);
+    match verdict {
+        Soundness::Unfit => Presence::Unfit,
+        Soundness::No => Presence::Damaged,
+        Soundness::Yes => remove_sound(names, cells, head, sizes, lines, hash, key),
+    }
 }

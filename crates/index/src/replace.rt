@@ -1,13 +1,11 @@
 // replace: a pair's place is another one, and the journal takes a line.
-use crate::fit_index::Fitness;
-use crate::fit_index::fit_index;
 use crate::journal::REPLACE;
 use crate::journal::append;
 use crate::journal::both_places;
 use crate::present::Presence;
 use crate::present::present;
 use crate::sound::Soundness;
-use crate::sound::sound;
+use crate::sound::sound_index;
 use slots::PLACE;
 use slots::get;
 use slots::put;
@@ -59,13 +57,10 @@ pub fn replace(
         ≡ replaces (lent (now (names .entry)) (now (cells .entry)) (now (head .entry)) (now (sizes .entry)) (now (lines .entry)))
         hash key place ⌝ }
 {
-    let fitness = fit_index(names, cells, head, sizes, lines);
-    let Fitness::Fit = fitness else {
-        return Presence::Unfit;
-    };
-    let verdict = sound(names, cells, head, sizes);
-    let Soundness::Yes = verdict else {
-        return Presence::Damaged;
-    };
-    replace_sound(names, cells, head, sizes, lines, hash, key, place)
+    let verdict = sound_index(names, cells, head, sizes, lines);
+    match verdict {
+        Soundness::Unfit => Presence::Unfit,
+        Soundness::No => Presence::Damaged,
+        Soundness::Yes => replace_sound(names, cells, head, sizes, lines, hash, key, place),
+    }
 }

@@ -1,16 +1,14 @@
 // rollback: the lines above a mark are undone, from the last down, and cleared.
 use crate::backup::copy_cells;
 use crate::backup::copy_names;
-use crate::fit_index::Fitness;
-use crate::fit_index::can_count;
-use crate::fit_index::fit_index;
 use crate::grow::head_put;
 use crate::journal::cut;
 use crate::journal::length_of;
 use crate::lines::Undoing;
 use crate::lines::unroll;
 use crate::sound::Soundness;
-use crate::sound::sound;
+use crate::sound::sound_index;
+use crate::sound::taken_as_sound;
 use slots::COUNT;
 use slots::FIRST;
 use slots::MOST_CELLS;
@@ -71,19 +69,18 @@ fn ask(
     ensures { λ r. ⌜ rolledOf r
         ≡ opened (lent (now (names .entry)) (now (cells .entry)) (now (head .entry)) (now (sizes .entry)) (now (lines .entry))) mark ⌝ }
 {
-    let fitness = fit_index(names, cells, head, sizes, lines);
-    let Fitness::Fit = fitness else {
-        return RolledBack::Unfit;
-    };
-    let counts = can_count(head);
-    if !counts {
-        return RolledBack::Damaged;
+    let verdict = taken_as_sound(names, cells, head, sizes, lines);
+    match verdict {
+        Soundness::Unfit => RolledBack::Unfit,
+        Soundness::No => RolledBack::Damaged,
+        Soundness::Yes => {
+            let length = length_of(lines);
+            if length < mark as u64 {
+                return RolledBack::BadMark;
+            }
+            RolledBack::Lines((length - mark as u64) as u32)
+        }
     }
-    let length = length_of(lines);
-    if length < mark as u64 {
-        return RolledBack::BadMark;
-    }
-    RolledBack::Lines((length - mark as u64) as u32)
 }
 
 // So many lines from m on are undone; or they do not fit, and the tree stays as it was: its words are kept aside meanwhile.
@@ -108,6 +105,9 @@ fn undo(
         ≡ Misfit → _≡_ {A = Live} (lentTree (now (names .exit)) (now (cells .exit)) (now (head .exit)) (now (sizes .exit)))
         (lentTree (now (names .entry)) (now (cells .entry)) (now (head .entry)) (now (sizes .entry)))) ⌝ }
 {
+    if count == 0 {
+        return Undoing::Done;
+    }
     let mut old_names = [0u64; MOST_NAMES];
     let mut old_cells = [0u32; MOST_CELLS];
     let mut old_sizes = [0u32; MOST_SLOTS];
@@ -169,13 +169,10 @@ pub fn rollback(
         (lent (now (names .exit)) (now (cells .exit)) (now (head .exit)) (now (sizes .exit)) (now (lines .exit)))
         ≡ rolls (lent (now (names .entry)) (now (cells .entry)) (now (head .entry)) (now (sizes .entry)) (now (lines .entry))) mark ⌝ }
 {
-    let fitness = fit_index(names, cells, head, sizes, lines);
-    let Fitness::Fit = fitness else {
-        return RolledBack::Unfit;
-    };
-    let verdict = sound(names, cells, head, sizes);
-    let Soundness::Yes = verdict else {
-        return RolledBack::Damaged;
-    };
-    rollback_sound(names, cells, head, sizes, lines, mark)
+    let verdict = sound_index(names, cells, head, sizes, lines);
+    match verdict {
+        Soundness::Unfit => RolledBack::Unfit,
+        Soundness::No => RolledBack::Damaged,
+        Soundness::Yes => rollback_sound(names, cells, head, sizes, lines, mark),
+    }
 }

@@ -1,12 +1,15 @@
 // The full check of a live tree: T1 to T8, where one pass over the slots answers for T1 but for the links of used slots, and for the sizes
 // of free slots; one walk of the tree for T3 to T6 and the sizes of its own slots; and walk and chain for those links, as they follow them.
 use crate::fit::fit;
+use crate::fit::fit_index;
+use crate::journal::fit_journal;
 use slots::COUNT;
 use slots::FIRST;
 use slots::FREE;
 use slots::HASH;
 use slots::KEY;
 use slots::LEFT;
+use slots::MOST_SLOTS;
 use slots::NEXT;
 use slots::NULL;
 use slots::PARENT;
@@ -40,7 +43,9 @@ ghost use Rattle.tree_rules.specs.Chain.{tally};
 ghost use Rattle.index_rules.specs.Live.{lentTree, fits};
 ghost use Rattle.index_rules.specs.Sound.{used, isCleared, slotFine, slotsFine, agree, sounds};
 ghost use Rattle.index_rules.specs.Sound.{rule2 as obeys2, rule7 as obeys7, sound as obeysAll};
-ghost use Rattle.index.specs.Reads.{soundOf};
+ghost use Rattle.index_rules.specs.Index.{lent};
+ghost use Rattle.index_rules.specs.Checked.{soundsIndex};
+ghost use Rattle.index.specs.Reads.{soundOf, takenAsSound};
 ghost use Rattle.tree.specs.Rules.{sizeOf};
 ghost use Rattle.index.specs.Sound.{stateFine, usedIfFine, rule1Unlinked, treeRules};
 
@@ -256,6 +261,45 @@ pub fn sound(names: &[u64], cells: &[u32], head: &[u32], sizes: &[u32]) -> Sound
     }
     let obeys = is_sound(names, cells, head, sizes);
     if !obeys {
+        return Soundness::No;
+    }
+    Soundness::Yes
+}
+
+// Whether the tree is sound, where the journal is fit as well: the first two numbers of every call that writes, 1 and 2.
+pub fn sound_index(
+    names: &[u64],
+    cells: &[u32],
+    head: &[u32],
+    sizes: &[u32],
+    lines: &[u64],
+) -> Soundness
+    ensures { λ r. ⌜ soundOf r
+        ≡ soundsIndex (lent (now (names .entry)) (now (cells .entry)) (now (head .entry)) (now (sizes .entry)) (now (lines .entry))) ⌝ }
+{
+    let journal = fit_journal(lines);
+    if !journal {
+        return Soundness::Unfit;
+    }
+    sound(names, cells, head, sizes)
+}
+
+// What is asked again where the full check has said yes: 1 as ever, and of 2 only whether the header's count passes no capacity.
+pub(crate) fn taken_as_sound(
+    names: &[u64],
+    cells: &[u32],
+    head: &[u32],
+    sizes: &[u32],
+    lines: &[u64],
+) -> Soundness
+    ensures { λ r. ⌜ soundOf r
+        ≡ takenAsSound (lent (now (names .entry)) (now (cells .entry)) (now (head .entry)) (now (sizes .entry)) (now (lines .entry))) ⌝ }
+{
+    let fits = fit_index(names, cells, head, sizes, lines);
+    if !fits {
+        return Soundness::Unfit;
+    }
+    if MOST_SLOTS < word(head, COUNT, NULL) as usize {
         return Soundness::No;
     }
     Soundness::Yes

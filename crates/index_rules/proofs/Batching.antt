@@ -26,11 +26,11 @@ use Rattle.index_rules.specs.Batch.{callWords, callWord, callsIn, Batche
 use Rattle.index_rules.specs.Batch.{callFits, allFit, callsFit, callAt, runs, batches}
 use Rattle.index_rules.specs.Batch.{end, insert, remove, replace}
 use Rattle.index_rules.specs.Claims.{Batches}
-use Rattle.index_rules.proofs.Fit.{both}
+use Rattle.index_rules.proofs.Fit.{both, false-of}
 use Rattle.index_rules.proofs.Rules.{and}
 use Rattle.index_rules.proofs.Journal.{fits-index, index-fits}
 use Rattle.index_rules.proofs.Sounding.{sound-yes, yes-sound, unsound}
-use Rattle.index_rules.proofs.Inserting.{insert-claims, insert-settled, false-of}
+use Rattle.index_rules.proofs.Inserting.{insert-claims, insert-settled}
 use Rattle.index_rules.proofs.Removing.{remove-claims, remove-settled}
 use Rattle.index_rules.proofs.Replacing.{replace-claims, replace-settled}
 use Rattle.index_rules.proofs.Checked.{once-checked}

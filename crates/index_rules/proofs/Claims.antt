@@ -1,7 +1,7 @@
 -- Every claim of the crate holds: the laws of the other files, put together.
 use Rattle.index_rules.specs.Claims.{Claims}
 use Rattle.index_rules.proofs.Reading.{find-claims, check-claims}
-use Rattle.index_rules.proofs.Sounding.{sound-claims}
+use Rattle.index_rules.proofs.Sounding.{sound-claims, sound-index-claims}
 use Rattle.index_rules.proofs.Finding.{find-sound-claims, hold-claims, list-claims}
 use Rattle.index_rules.proofs.Inserting.{insert-claims}
 use Rattle.index_rules.proofs.Removing.{remove-claims}
@@ -19,6 +19,7 @@ claims =
       find = find-claims;
       check = check-claims;
       sound = sound-claims;
+      sound-index = sound-index-claims;
       find-sound = λ t fit h hash key. find-sound-claims fit h hash key;
       holds = hold-claims;
       lists = list-claims;

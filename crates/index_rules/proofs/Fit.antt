@@ -16,6 +16,20 @@ pub both : (a b : Bool) → pick a b false ≡ true → (a ≡ true) × (b ≡ t
 both true b e = (refl, e)
 both false b e = absurd (false≢true e)
 
+-- A test beside one that is settled.
+pub no-and : (a : Bool) → pick a false false ≡ false
+no-and true = refl
+no-and false = refl
+
+pub and-yes : (a : Bool) → pick a true false ≡ a
+and-yes true = refl
+and-yes false = refl
+
+-- A test that is not true is false.
+pub false-of : (b : Bool) → (b ≡ true → ⊥) → b ≡ false
+false-of true n = absurd (n refl)
+false-of false n = refl
+
 -- The capacity is half the names.
 pub half : {t : Live} (h : Fit t) → slotsOf (t .names) ≡ h .capacity
 half h = omega (arith, h .two)

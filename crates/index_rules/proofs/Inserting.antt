@@ -23,6 +23,7 @@ use Rattle.index_rules.specs.Contents.{entry, contents, listing, put}
 use Rattle.index_rules.specs.Calls.{Lowest, NoneFree, Takes, OneLine}
 use Rattle.index_rules.specs.Claims.{Inserts}
 use Rattle.index_rules.proofs.Rules.{small}
+use Rattle.index_rules.proofs.Fit.{false-of}
 use Rattle.index_rules.proofs.Sounding.{sound-yes, yes-sound, unsound}
 use Rattle.index_rules.proofs.Journal.{fits-index, index-fits, lines-capacity, one-line}
 use Rattle.index_rules.proofs.Growing.{joins-front, grown-fit, grown-sound}
@@ -33,11 +34,6 @@ use Rattle.index_rules.proofs.Holding.{grown-contents}
 use Rattle.index_rules.proofs.Lists.{grown-front}
 use Rattle.index_rules.proofs.Unrolling.{tree-one, grown-capacity}
 use Rattle.tree_rules.specs.Find.{slotsOf}
-
--- A test that is not true is false.
-pub false-of : (b : Bool) → (b ≡ true → ⊥) → b ≡ false
-false-of true n = absurd (n refl)
-false-of false n = refl
 
 pub value-inj : {a b : Answer} {x y : ℕ} → a ≡ b → a .value ≡ some x → b .value ≡ some y → x ≡ y
 value-inj {a} {b} e p q = some-is (sym p ∙ value e ∙ q)

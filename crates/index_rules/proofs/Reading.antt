@@ -14,10 +14,12 @@ use Rattle.tree_rules.specs.Check.{checked, walked, Walk, walkAnswer, passed, f
 use Rattle.tree_rules.specs.Claims.{Finds as Searches, Checks as Walkings}
 use Rattle.tree_rules.proofs.Claims.{claims}
 use Rattle.index_rules.specs.Live.{Live, Unsized, Fit, FitUnsized, rootWord, fits, fitsUnsized}
+use Rattle.index_rules.specs.Index.{Index, FitIndex, fitsIndex}
 use Rattle.index_rules.specs.Find.{finds}
 use Rattle.index_rules.specs.Check.{checks}
 use Rattle.index_rules.specs.Claims.{Finds, Checks}
 use Rattle.index_rules.proofs.Fit.{fits-fit, fit-fits, fits-unsized, unsized-fits}
+use Rattle.index_rules.proofs.Journal.{fits-index, index-fits}
 
 -- An answer given on fit words only, with 1 on others; F says that they are fit, and f is the test of it.
 pub record Gate (F : Type 0) : Type 0 where
@@ -30,6 +32,9 @@ tree-gate t = record { test = fits t; opens = fit-fits t; opened = fits-fit t }
 
 unfoldable pub unsized-gate : (t : Unsized) → Gate (FitUnsized t)
 unsized-gate t = record { test = fitsUnsized t; opens = unsized-fits t; opened = fits-unsized t }
+
+unfoldable pub index-gate : (ix : Index) → Gate (FitIndex ix)
+index-gate ix = record { test = fitsIndex ix; opens = index-fits ix; opened = fits-index ix }
 
 module _ {F : Type 0} (g : Gate F) (inner : Answer) where
   abbrev pub gated : Answer

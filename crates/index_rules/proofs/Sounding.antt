@@ -2,18 +2,21 @@
 use mathlib.Core.Path.{_≡_, refl, sym, _∙_}
 use mathlib.Core.Logic.{_↔_}
 use mathlib.Core.Bool.{Bool, true, false, false≢true}
+use Prim.Native.Nat.{ℕ}
 use native.Mathlib.Omega.{arith}
 use Rattle.slots.specs.Words.{pick}
 use Rattle.slots.specs.Answers.{Answer, given, refused}
 use Rattle.slots.proofs.Laws.{given-is, number}
 use Rattle.index_rules.specs.Live.{Live, Fit}
 use Rattle.index_rules.specs.Sound.{Sound, rule1, rule2, rule3, rule4, rule5, rule6, rule7, sound, sounds}
-use Rattle.index_rules.specs.Claims.{Sounds}
-use Rattle.index_rules.proofs.Fit.{both}
+use Rattle.index_rules.specs.Index.{Index}
+use Rattle.index_rules.specs.Checked.{soundsIndex}
+use Rattle.index_rules.specs.Claims.{Sounds, SoundsIndex}
+use Rattle.index_rules.proofs.Fit.{both, false-of}
 use Rattle.index_rules.proofs.Rules.{and, rule-one, rule-two, rule-three, rule-four, rule-five, rule-six, rule-seven}
 use Rattle.index_rules.proofs.Weighing.{rule-eight}
 use Rattle.index_rules.proofs.Passing.{sound-passes}
-use Rattle.index_rules.proofs.Reading.{tree-gate, one-only, others}
+use Rattle.index_rules.proofs.Reading.{Gate, tree-gate, index-gate, gated, one-only, others}
 
 module _ {t : Live} (fit : Fit t) where
   pub sound-yes : Sound t → sound t ≡ true
@@ -66,17 +69,56 @@ pub not-one : (b : Bool) → pick b (given 1) (given 0) ≡ refused 1 → ⊥
 not-one true e = omega (arith, number e)
 not-one false e = omega (arith, number e)
 
-module _ (t : Live) where
-  abbrev inner : Answer
-  inner = pick (sound t) (given 1) (given 0)
+-- What the answer says of the two tests that it is made of.
+module _ (a b : Bool) where
+  pub told-unfit : refused 1 ≡ pick a (pick b (given 1) (given 0)) (refused 1) → a ≡ false
+  told-unfit e = go a refl
+    where
+      go : (c : Bool) → a ≡ c → a ≡ false
+      go true f = let z : refused 1 ≡ pick b (given 1) (given 0) = e ∙ rw f in absurd (not-one b (sym z))
+      go false f = f
 
+  told : {n : ℕ} → given n ≡ pick a (pick b (given 1) (given 0)) (refused 1) → (a ≡ true) × (given n ≡ pick b (given 1) (given 0))
+  told {n} e = go a refl
+    where
+      go : (c : Bool) → a ≡ c → (a ≡ true) × (given n ≡ pick b (given 1) (given 0))
+      go true f = (f, e ∙ rw f)
+      go false f = let z : given n ≡ refused 1 = e ∙ rw f in absurd (omega (arith, number z))
+
+  pub told-no : given 0 ≡ pick a (pick b (given 1) (given 0)) (refused 1) → (a ≡ true) × (b ≡ false)
+  told-no e = let t = told e in (t .0, verdict-no b .0 (sym (t .1)))
+
+  pub told-yes : given 1 ≡ pick a (pick b (given 1) (given 0)) (refused 1) → (a ≡ true) × (b ≡ true)
+  told-yes e = let t = told e in (t .0, verdict b .0 (sym (t .1)))
+
+-- The full check behind a gate that only fit trees pass.
+module _ {F : Type 0} (g : Gate F) {t : Live} (fit : F → Fit t) where
+  abbrev answer : Answer
+  answer = gated g (pick (sound t) (given 1) (given 0))
+
+  one-exactly : (answer ≡ refused 1) ↔ (F → ⊥)
+  one-exactly = one-only g _ (not-one (sound t))
+
+  yes-exactly : (answer ≡ given 1) ↔ (F × Sound t)
+  yes-exactly =
+      let h = others g _ (λ e. omega (arith, number e)) (verdict (sound t)) in
+      (λ e. (let k = h .0 e in (k .0, yes-sound (fit (k .0)) (k .1))), λ k. h .1 (k .0, sound-yes (fit (k .0)) (k .1)))
+
+  no-exactly : (answer ≡ given 0) ↔ (F × (Sound t → ⊥))
+  no-exactly =
+      let h = others g _ (λ e. omega (arith, number e)) (verdict-no (sound t)) in (
+        λ e. (let k = h .0 e in (k .0, unsound (fit (k .0)) (k .1))),
+        λ k. h .1 (k .0, false-of (sound t) (λ e. k .1 (yes-sound (fit (k .0)) e))),
+      )
+
+module _ (t : Live) where
   pub sound-claims : Sounds t
   unfolding sounds tree-gate
   sound-claims =
       record {
-        one = one-only (tree-gate t) inner (not-one (sound t));
-        yes = yes-exactly;
-        no = no-exactly;
+        one = one-exactly (tree-gate t) (λ f. f);
+        yes = yes-exactly (tree-gate t) (λ f. f);
+        no = no-exactly (tree-gate t) (λ f. f);
         passes-too = λ f h. sound-passes f h;
         rule-one = rule-one t;
         rule-two = rule-two t;
@@ -87,20 +129,12 @@ module _ (t : Live) where
         rule-seven = λ f one. rule-seven f one;
         rule-eight = λ f one three. rule-eight f one three;
       }
-    where
-      yes-exactly : (sounds t ≡ given 1) ↔ (Fit t × Sound t)
-      yes-exactly =
-          let h = others (tree-gate t) inner (λ e. omega (arith, number e)) (verdict (sound t)) in
-          (λ e. (let k = h .0 e in (k .0, yes-sound (k .0) (k .1))), λ k. h .1 (k .0, sound-yes (k .0) (k .1)))
 
-      no-exactly : (sounds t ≡ given 0) ↔ (Fit t × (Sound t → ⊥))
-      no-exactly =
-          let h = others (tree-gate t) inner (λ e. omega (arith, number e)) (verdict-no (sound t)) in
-          (λ e. (let k = h .0 e in (k .0, unsound (k .0) (k .1))), λ k. h .1 (k .0, false-of (λ e. k .1 (yes-sound (k .0) e))))
-        where
-          false-of : (sound t ≡ true → ⊥) → sound t ≡ false
-          false-of n = go (sound t) refl
-            where
-              go : (b : Bool) → sound t ≡ b → sound t ≡ false
-              go true e = absurd (n e)
-              go false e = e
+pub sound-index-claims : (ix : Index) → SoundsIndex ix
+unfolding soundsIndex index-gate
+sound-index-claims ix =
+    record {
+      one = one-exactly (index-gate ix) (λ f. f .tree);
+      yes = yes-exactly (index-gate ix) (λ f. f .tree);
+      no = no-exactly (index-gate ix) (λ f. f .tree);
+    }

@@ -9,7 +9,7 @@ use Rattle.slots.specs.Words.{null, pick, state, free, cell, mostSlots}
 use Rattle.slots.specs.Answers.{Answer, Value, some, none, given, refused}
 use Rattle.tree_rules.specs.Find.{slotsOf}
 use Rattle.index_rules.specs.Live.{Live, countOf}
-use Rattle.index_rules.specs.Sound.{Sound}
+use Rattle.index_rules.specs.Sound.{Sound, sound}
 use Rattle.index_rules.specs.Index.{Index, index, FitIndex, Outcome, outcome, fitsIndex, lengthOf, linesOf, JournalLine, insertKind}
 use Rattle.index_rules.specs.Index.{plainLine, lineOf, appended}
 use Rattle.index_rules.specs.Insert.{freeFrom, soughtIn, grown}
@@ -26,6 +26,10 @@ NoneBelow f t = (k : ℕ) → k < f → cell (t .cells) k state ≢ free
 pub record Passes (ix : Index) : Type 0 where
   pub fit : FitIndex ix
   pub sound : Sound (ix .live)
+
+-- The full check of a tree with its journal: 1 where the two are unfit, else yes, which is 1, or no, which is 0.
+unfoldable pub soundsIndex : Index → Answer
+soundsIndex ix = pick (fitsIndex ix) (pick (sound (ix .live)) (given 1) (given 0)) (refused 1)
 
 -- The check would say yes, and no slot below the floor is free: what holds before and after each call that is made without the check.
 pub record Ready (ix : Index) (floor : ℕ) : Type 0 where

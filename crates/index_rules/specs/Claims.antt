@@ -29,7 +29,7 @@ use Rattle.index_rules.specs.Ranks.{kths, positions}
 use Rattle.index_rules.specs.Fresh.{FitLengths, freshes}
 use Rattle.index_rules.specs.Contents.{Entry, entry, contents, listing, HoldSame, put, without, withPlace, In, StandsAt}
 use Rattle.index_rules.specs.Undoing.{Undoes, Fits, LinesUndone}
-use Rattle.index_rules.specs.Checked.{NoneBelow, floorAfter, insertsSound, removesSound, replacesSound, rollsSound}
+use Rattle.index_rules.specs.Checked.{NoneBelow, soundsIndex, floorAfter, insertsSound, removesSound, replacesSound, rollsSound}
 use Rattle.index_rules.specs.Batch.{FitCalls, batched, batches, singly, acceptedIn, answeredWith}
 use Rattle.index_rules.specs.Calls.{Call, called, after, Allowed, Places, Lowest, NoneFree, Takes, Frees, OnlyPlace, Notes, OneLine}
 use Rattle.index_rules.specs.Calls.{BackTo}
@@ -75,6 +75,12 @@ pub record Sounds (t : Live) : Type 0 where
   pub rule-six : Fit t → T1 t → {tree : Tree} → T3 t tree → (rule6 t ≡ true) ↔ T6 tree
   pub rule-seven : Fit t → T1 t → (rule7 t ≡ true) ↔ ((chain : List ℕ) × T7 t chain)
   pub rule-eight : Fit t → T1 t → {tree : Tree} → T3 t tree → (rule8 t ≡ true) ↔ T8 t tree
+
+-- The full check of a tree with its journal, on any words.
+pub record SoundsIndex (ix : Index) : Type 0 where
+  pub one : (soundsIndex ix ≡ refused 1) ↔ (FitIndex ix → ⊥)
+  pub yes : (soundsIndex ix ≡ given 1) ↔ (FitIndex ix × Sound (ix .live))
+  pub no : (soundsIndex ix ≡ given 0) ↔ (FitIndex ix × (Sound (ix .live) → ⊥))
 
 -- find on a sound tree: the slot exactly where the pair is, Nothing exactly where it is not, never 9; and no slot is looked at twice.
 pub record FindsSound (t : Live) (fit : Fit t) (h : Sound t) (hash key : ℕ) : Type 0 where
@@ -275,6 +281,7 @@ pub record Claims : Type 0 where
   pub find : (t : Unsized) (hash key : ℕ) → Finds t hash key
   pub check : (t : Unsized) → Checks t
   pub sound : (t : Live) → Sounds t
+  pub sound-index : (ix : Index) → SoundsIndex ix
   pub find-sound : (t : Live) (fit : Fit t) (h : Sound t) (hash key : ℕ) → FindsSound t fit h hash key
   pub holds : (t : Live) (fit : Fit t) → Contained t fit
   pub lists : (t : Live) (fit : Fit t) → Lists t fit

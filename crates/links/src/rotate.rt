@@ -1,17 +1,14 @@
 // The rotations, once over the side: near and far are the fields of the two sides.
 use crate::sizes::recount;
 use slots::BLACK;
-use slots::LEFT;
 use slots::NULL;
 use slots::PARENT;
-use slots::RIGHT;
 use slots::STATE;
 use slots::get;
 use slots::put;
 ghost use mathlib.Core.Path.{_≡_};
 ghost use mathlib.Core.List.{List};
 ghost use Prim.Native.Nat.{ℕ};
-ghost use Rattle.slots.specs.Words.{left, right};
 ghost use Rattle.redblack.specs.Rotate.{hung, rotated};
 ghost use Rattle.redblack.specs.Links.{lentLinks};
 
@@ -32,10 +29,17 @@ fn hang(cells: &mut [u32], root: u32, pp: u32, p: u32, r: u32, near: u32, far: u
     root
 }
 
-// The body that both rotations share. The child of p on the far side takes p's place, and p becomes its child on the near side; the sizes
-// of the two are written last, by the links as they stand then. Where p or that child is null nothing is written, and the root is the one
-// given.
-fn swing(cells: &mut [u32], sizes: &mut [u32], root: u32, p: u32, near: u32, far: u32) -> u32
+// The child of p on the far side takes p's place, and p becomes its child on the near side; the sizes of the two are written last, by the
+// links as they stand then. The source's rotate_left is this one with LEFT and RIGHT, its rotate_right with RIGHT and LEFT. Where p or that
+// child is null nothing is written, and the root is the one given.
+pub(crate) fn rotate(
+    cells: &mut [u32],
+    sizes: &mut [u32],
+    root: u32,
+    p: u32,
+    near: u32,
+    far: u32,
+) -> u32
     ensures { λ top. ⌜ lentLinks (now (cells .exit)) top (now (sizes .exit))
         ≡ rotated near far (lentLinks (now (cells .entry)) root (now (sizes .entry))) p ⌝ }
 {
@@ -58,46 +62,4 @@ fn swing(cells: &mut [u32], sizes: &mut [u32], root: u32, p: u32, near: u32, far
     let far_child = get(cells, p, far);
     recount(sizes, p, r, near_child, far_child);
     top
-}
-
-// The source's rotate_left: p goes down on the left.
-fn rotate_left(cells: &mut [u32], sizes: &mut [u32], root: u32, p: u32) -> u32
-    ensures { λ top. ⌜ lentLinks (now (cells .exit)) top (now (sizes .exit))
-        ≡ rotated left right (lentLinks (now (cells .entry)) root (now (sizes .entry))) p ⌝ }
-{
-    swing(cells, sizes, root, p, LEFT, RIGHT)
-}
-
-// The source's rotate_right: p goes down on the right.
-fn rotate_right(cells: &mut [u32], sizes: &mut [u32], root: u32, p: u32) -> u32
-    ensures { λ top. ⌜ lentLinks (now (cells .exit)) top (now (sizes .exit))
-        ≡ rotated right left (lentLinks (now (cells .entry)) root (now (sizes .entry))) p ⌝ }
-{
-    swing(cells, sizes, root, p, RIGHT, LEFT)
-}
-
-// The rotation that takes p down on the near side: the left one or the right one. Two fields that are no sides are swung as they stand, so
-// that no caller has to know that its fields are sides.
-pub(crate) fn rotate(
-    cells: &mut [u32],
-    sizes: &mut [u32],
-    root: u32,
-    p: u32,
-    near: u32,
-    far: u32,
-) -> u32
-    ensures { λ top. ⌜ lentLinks (now (cells .exit)) top (now (sizes .exit))
-        ≡ rotated near far (lentLinks (now (cells .entry)) root (now (sizes .entry))) p ⌝ }
-{
-    if near == LEFT {
-        if far == RIGHT {
-            return rotate_left(cells, sizes, root, p);
-        }
-    }
-    if near == RIGHT {
-        if far == LEFT {
-            return rotate_right(cells, sizes, root, p);
-        }
-    }
-    swing(cells, sizes, root, p, near, far)
 }

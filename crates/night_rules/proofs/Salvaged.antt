@@ -25,14 +25,13 @@ use Rattle.redblack.specs.Holding.{Stands}
 use Rattle.index_rules.specs.Live.{Live, Fit, lentTree, countOf}
 use Rattle.index_rules.specs.Sound.{Sound}
 use Rattle.index_rules.specs.Contents.{Entry, contents, listing, In}
-use Rattle.index_rules.proofs.Fit.{half, fit-fits, fits-fit}
+use Rattle.index_rules.proofs.Fit.{half, fit-fits, fits-fit, false-of}
 use Rattle.index_rules.proofs.Rules.{used-not}
 use Rattle.index_rules.proofs.Sounding.{sound-yes, yes-sound}
 use Rattle.index_rules.proofs.Frames.{tree-inside, free-nowhere, nowhere-free, sound-count}
 use Rattle.index_rules.proofs.Listing.{ascends-map, ascends-same}
 use Rattle.index_rules.proofs.Holding.{stands-in, in-stands, contents-length}
 use Rattle.index_rules.proofs.Placing.{slot-one}
-use Rattle.index_rules.proofs.Inserting.{false-of}
 use Rattle.index_rules.proofs.Freshing.{Blank, empty-sound}
 use Rattle.index_rules.proofs.Claims.{claims as index-claims}
 use Rattle.night_rules.specs.Salvage.{Salvage, Salvaged, salvaged, salvaging, salvagedAll, isClearedTree, fitsSalvage, salvages}

@@ -1,49 +1,33 @@
 -- What the two calls come to, on plain values: the full check's answer settles the tests, and the way down the rest.
-use mathlib.Core.Path.{_≡_, refl, ap, sym, _∙_}
-use mathlib.Core.Bool.{Bool, true, false}
+use mathlib.Core.Path.{_≡_}
+use mathlib.Core.Bool.{true, false}
 use mathlib.Core.List.{List}
 use Prim.Native.Nat.{ℕ, _<_, _≤_}
 use native.Mathlib.Omega.{arith}
 use lib.ListN.{length}
 use borrow.Author.Tests.{lt-ltb, le-ltb}
-use Rattle.slots.specs.Words.{pick}
-use Rattle.slots.specs.Answers.{Answer, Value, given, refused}
-use Rattle.slots.proofs.Laws.{number, given-is}
+use Rattle.slots.specs.Answers.{Value, given, refused}
 use Rattle.tree_rules.specs.Find.{slotsOf}
 use Rattle.tree_rules.specs.Ranks.{kthFrom, rankFrom}
 use Rattle.index_rules.specs.Live.{Live, rootOf, countOf, fits}
 use Rattle.index_rules.specs.Sound.{sound, sounds}
 use Rattle.index_rules.specs.Ranks.{kths, ranked, positions}
 use Rattle.index_rules.proofs.Fit.{fits-fit}
+use Rattle.index_rules.proofs.Sounding.{told-unfit, told-no, told-yes}
 
 -- What the full check's answer says.
 module _ (t : Live) where
   unfit : refused 1 ≡ sounds t → fits t ≡ false
   unfolding sounds
-  unfit e = go (fits t) refl (sound t) refl
-    where
-      go : (a : Bool) → fits t ≡ a → (b : Bool) → sound t ≡ b → fits t ≡ false
-      go false f b s = f
-      go true f true s = let z : refused 1 ≡ given 1 = e ∙ rw (f, s) in absurd (omega (arith, number z))
-      go true f false s = let z : refused 1 ≡ given 0 = e ∙ rw (f, s) in absurd (omega (arith, number z))
+  unfit e = told-unfit (fits t) (sound t) e
 
   damaged : given 0 ≡ sounds t → (fits t ≡ true) × (sound t ≡ false)
   unfolding sounds
-  damaged e = go (fits t) refl (sound t) refl
-    where
-      go : (a : Bool) → fits t ≡ a → (b : Bool) → sound t ≡ b → (fits t ≡ true) × (sound t ≡ false)
-      go false f b s = let z : given 0 ≡ refused 1 = e ∙ rw f in absurd (omega (arith, number z))
-      go true f true s = let z : given 0 ≡ given 1 = e ∙ rw (f, s) in absurd (omega (arith, given-is z))
-      go true f false s = (f, s)
+  damaged e = told-no (fits t) (sound t) e
 
   fine : given 1 ≡ sounds t → (fits t ≡ true) × (sound t ≡ true)
   unfolding sounds
-  fine e = go (fits t) refl (sound t) refl
-    where
-      go : (a : Bool) → fits t ≡ a → (b : Bool) → sound t ≡ b → (fits t ≡ true) × (sound t ≡ true)
-      go false f b s = let z : given 1 ≡ refused 1 = e ∙ rw f in absurd (omega (arith, number z))
-      go true f true s = (f, s)
-      go true f false s = let z : given 1 ≡ given 0 = e ∙ rw (f, s) in absurd (omega (arith, given-is z))
+  fine e = told-yes (fits t) (sound t) e
 
   -- A tree that passes has no more names than 4,096 slots have.
   pub few : given 1 ≡ sounds t → length (t .names) ≤ 8192

@@ -2,7 +2,7 @@
 use mathlib.Core.Path.{_≡_, refl, ap, sym, _∙_, subst}
 use mathlib.Core.Logic.{_≢_}
 use mathlib.Core.Bool.{Bool, true, false}
-use mathlib.Core.List.{List}
+use mathlib.Core.List.{List, [], _∷_}
 use Prim.Native.Nat.{ℕ, _+_, _-_, _*_, _/_, _<_, _≤_}
 use native.Mathlib.Decide.{decLt}
 use native.Mathlib.Omega.{arith}
@@ -19,7 +19,10 @@ use Rattle.upload_rules.specs.Reading.{Session, session, ReadOutcome, readOutco
 use Rattle.upload_rules.specs.Reading.{kindCame, countCame, inHash, entryCame, entryPlace, cameOf, lastCame, byteCame, byteRead}
 use Rattle.upload_rules.specs.Reading.{bytesRead, endCame}
 use Rattle.upload_rules.specs.Reading.{endRead, readChunk, readEnd, readStart}
+use Rattle.index_rules.specs.Checked.{soundsIndex}
 use Rattle.index_rules.proofs.Journal.{fits-index}
+use Rattle.index_rules.proofs.Sounding.{told-unfit, told-no, told-yes}
+use Rattle.index.proofs.Singly.{ready}
 use Rattle.upload_rules.proofs.Ranges.{end-range}
 
 -- A refusal that the rollback repeats goes up as it is.
@@ -83,9 +86,10 @@ module _ (r : Reader) (ix : Index) where
 
 module _ (r : Reader) (ix : Index) where
   module _ (b : ℕ) where
-    pub kind-right : b ≡ r .section + 1 → session (readerOf (r .section) 1 0 0 0 (r .mark) (r .taken) unsaid) ix ≡ kindCame r ix b
+    pub kind-right : {s : Reader} → b ≡ r .section + 1 → s ≡ readerOf (r .section) 1 0 0 0 (r .mark) (r .taken) unsaid
+        → session s ix ≡ kindCame r ix b
     unfolding kindCame
-    kind-right e = rw (eq-eqb b (r .section + 1) e)
+    kind-right e f = rw (eq-eqb b (r .section + 1) e) (ap (λ (x : Reader). session x ix) f)
 
     pub kind-wrong : {d : Session} → b ≢ r .section + 1 → d ≡ turnedDown r ix (refused 18) → d ≡ kindCame r ix b
     unfolding kindCame
@@ -141,6 +145,11 @@ module _ (r : Reader) (ix : Index) where
     pub read-on : r .note ≡ unsaid → byteCame r ix b ≡ byteRead (session r ix) b
     unfolding byteRead
     read-on e = sym (ap (λ (n : Note). pick (isOpen n) (byteCame r ix b) (session r ix)) e)
+
+  pub all-noted : {a : Answer} → r .note ≡ said a → (l : List ℕ) → bytesRead (session r ix) l ≡ session r ix
+  unfolding bytesRead
+  all-noted e [] = refl
+  all-noted e (b ∷ l) = rw (← read-noted b e) (all-noted e l)
 
 module _ (r : Reader) (b : ℕ) where
   pub count-low : r .got ≡ 1 → readerOf (r .section) 2 (r .owed / 256 + 256 * b) 0 0 (r .mark) (r .taken) unsaid ≡ countCame r b
@@ -212,18 +221,20 @@ end-fits d h n f =
 
 -- start.
 module _ (ix : Index) where
-  pub start-unfit : {s : Reader} → s ≡ newReader 0 → fitsIndex ix ≡ false
+  pub start-unfit : {s : Reader} → s ≡ newReader 0 → refused 1 ≡ soundsIndex ix
       → readOutcome (refused 1) (session s ix) ≡ readStart (session (newReader 0) ix)
-  unfolding readStart
-  start-unfit n e = rw (e, n)
+  unfolding readStart soundsIndex
+  start-unfit n e = rw (told-unfit (fitsIndex ix) (sound (ix .live)) e, n)
 
-  module _ (f : fitsIndex ix ≡ true) where
-    pub start-damaged : {s : Reader} → s ≡ newReader 0 → sound (ix .live) ≡ false
-        → readOutcome (refused 2) (session s ix) ≡ readStart (session (newReader 0) ix)
-    unfolding readStart
-    start-damaged n e = rw (f, e, n)
+  pub start-damaged : {s : Reader} → s ≡ newReader 0 → given 0 ≡ soundsIndex ix
+      → readOutcome (refused 2) (session s ix) ≡ readStart (session (newReader 0) ix)
+  unfolding readStart soundsIndex
+  start-damaged n e = let t = told-no (fitsIndex ix) (sound (ix .live)) e in rw (t .0, t .1, n)
 
-    pub start-begins : {m : ℕ} {s : Reader} → s ≡ newReader m → sound (ix .live) ≡ true → m ≡ lengthOf (ix .lines)
-        → readOutcome (given 1) (session s ix) ≡ readStart (session (newReader 0) ix)
-    unfolding readStart
-    start-begins n e g = rw (f, e, n, g)
+  module _ (e : given 1 ≡ soundsIndex ix) {m : ℕ} (g : m ≡ lengthOf (ix .lines)) where
+    pub few-lines : m ≤ 1024
+    few-lines = let f = ready ix e .passes .fit in omega (arith, f .most, f .within, g)
+
+    pub start-begins : {s : Reader} → s ≡ newReader m → readOutcome (given 1) (session s ix) ≡ readStart (session (newReader 0) ix)
+    unfolding readStart soundsIndex
+    start-begins n = let t = told-yes (fitsIndex ix) (sound (ix .live)) e in rw (t .0, t .1, n, g)

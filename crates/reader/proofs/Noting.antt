@@ -2,12 +2,13 @@
 use Prim.{Unit, tt}
 use mathlib.Core.Path.{_≡_, refl, ap, sym, _∙_, subst}
 use mathlib.Core.Logic.{_≢_}
-use Prim.Native.Nat.{ℕ, _+_, _-_, _*_, _/_, _%_, _<_}
+use Prim.Native.Nat.{ℕ, _+_, _-_, _*_, _/_, _%_, _<_, _≤_}
 use native.Mathlib.Omega.{arith}
 use lib.Dec.{eqb}
 use borrow.Author.Tests.{eq-eqb, ne-eqb, eqb-true, eqb-false}
 use Rattle.slots.specs.Words.{pick}
-use Rattle.slots.specs.Answers.{some, given, refused, answerWord, valueBeside}
+use Rattle.slots.specs.Answers.{Answer, Value, some, none, given, refused, answerWord, valueBeside}
+use Rattle.slots.proofs.Laws.{number, value}
 use Rattle.upload_rules.specs.Reader.{Note as Noting, unsaid, said}
 use Rattle.upload_rules.proofs.Ranges.{pick-by}
 use Rattle.reader.specs.Meanings.{replyOf}
@@ -50,6 +51,49 @@ module _ (w : ℕ) (s : w ≢ 0) where
         let z : plainAt ((w - 1) / 4294967296) ≡ noteWith ((w - 1) / 4294967296) ((w - 1) % 4294967296) =
         rw (ne-eqb ((w - 1) / 4294967296) 0 n0, ne-eqb ((w - 1) / 4294967296) 3 n3, eq-eqb ((w - 1) % 4294967296) 0 v) in
         f ∙ z ∙ at-with _ _ refl refl
+
+-- The number of a reply, and the word of the answer that it is.
+abbrev told : Value → ℕ
+told (some v) = 1
+told none = 0
+
+module _ (reply : Reply) {a : Answer} (e : a ≡ replyOf reply) where
+  pub number-small : a .number ≤ 18
+  number-small = rw (number e) (go reply)
+    where
+      go : (r : Reply) → replyOf r .number ≤ 18
+      go (Given v) = omega arith
+      go (Present v) = omega arith
+      go Unfit = omega arith
+      go Damaged = omega arith
+      go Full = omega arith
+      go JournalFull = omega arith
+      go BadMark = omega arith
+      go Misfit = omega arith
+      go Short = omega arith
+      go Long = omega arith
+      go WrongKind = omega arith
+
+  pub word-some : {v : ℕ} → a .value ≡ some v → 1 + (v + 4294967296 * a .number) ≡ 1 + answerWord (replyOf reply)
+  unfolding answerWord
+  word-some f = rw (← e, f)
+
+  pub word-none : a .value ≡ none → 1 + (0 + 4294967296 * a .number) ≡ 1 + answerWord (replyOf reply)
+  unfolding answerWord
+  word-none f = rw (← e, f, ne-eqb (a .number) 0 (λ z. go reply (sym (value e) ∙ f) (sym (number e) ∙ z)))
+    where
+      go : (r : Reply) → replyOf r .value ≡ none → replyOf r .number ≢ 0
+      go (Given v) g z = omega (arith, ap told g)
+      go (Present v) g z = omega arith
+      go Unfit g z = omega arith
+      go Damaged g z = omega arith
+      go Full g z = omega arith
+      go JournalFull g z = omega arith
+      go BadMark g z = omega arith
+      go Misfit g z = omega arith
+      go Short g z = omega arith
+      go Long g z = omega arith
+      go WrongKind g z = omega arith
 
 -- What a noted answer's word says is that answer.
 pub word-back : (reply : Reply) → valueBeside 0 (replyOf reply .number) (replyOf reply .value) < 4294967296

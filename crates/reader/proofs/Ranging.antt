@@ -8,7 +8,7 @@ use lib.Dec.{leb}
 use borrow.Author.Tests.{le-leb, lt-ltb, le-ltb}
 use Rattle.upload_rules.specs.Reader.{Reader, FitReader, fitsReader}
 use Rattle.upload_rules.proofs.Ranges.{range-in}
-use Rattle.index_rules.proofs.Inserting.{false-of}
+use Rattle.index_rules.proofs.Fit.{false-of}
 
 pub out-of-range : (r : Reader) → (FitReader r → ⊥) → false ≡ fitsReader r
 out-of-range r n = sym (false-of (fitsReader r) (λ e. n (range-in r e)))

@@ -7,22 +7,20 @@ use native.Mathlib.Numerals.{add-one}
 use native.Mathlib.Omega.{arith}
 use lib.ListN.{length, drop, getD}
 use lib.Seq.{drop-cons}
-use Rattle.slots.specs.Answers.{Answer, refused}
-use Rattle.index_rules.specs.Sound.{sound}
-use Rattle.index_rules.specs.Index.{Index, Outcome, outcome, fitsIndex}
+use Rattle.slots.specs.Answers.{Answer, given, refused}
+use Rattle.index_rules.specs.Index.{Index, Outcome, outcome}
 use Rattle.index_rules.specs.Insert.{inserts}
 use Rattle.index_rules.specs.Rollback.{rolls}
 use Rattle.index_rules.specs.Calls.{insertCall}
-use Rattle.index_rules.specs.Checked.{NoneBelow, Passes, Ready, raisedBy, insertsSound, rollsSound}
+use Rattle.index_rules.specs.Checked.{NoneBelow, Passes, Ready, soundsIndex, raisedBy, insertsSound, rollsSound}
 use Rattle.index_rules.specs.Claims.{OnceChecked}
-use Rattle.index_rules.proofs.Journal.{fits-index}
-use Rattle.index_rules.proofs.Sounding.{yes-sound}
 use Rattle.index_rules.proofs.Claims.{claims}
 use Rattle.index.proofs.Singly.{insert-unfit, insert-damaged, rollback-unfit, rollback-damaged}
-use Rattle.upload_rules.specs.Reader.{Reader, FitReader}
-use Rattle.upload_rules.specs.Reading.{Session, session, byteRead, bytesRead}
+use Rattle.upload_rules.specs.Reader.{unsaid, said, Reader, FitReader}
+use Rattle.upload_rules.specs.Reading.{Session, session, byteCame, byteRead, bytesRead}
 use Rattle.upload_rules.proofs.Ranges.{byte-range}
 use Rattle.reader.specs.Trusting.{EntryMade, Stepped}
+use Rattle.reader.proofs.Coming.{read-on, all-noted}
 
 -- What was not checked is not said to be ready.
 pub unchecked : {A : Type 0} → false ≡ true → A
@@ -56,17 +54,12 @@ module _ (ix : Index) (hash key p : ℕ) where
         denied = λ z. absurd (false≢true (sym z));
       }
 
-  pub entry-unfit : fitsIndex ix ≡ false → EntryMade ix hash key p (refused 1) false 0 ix
+  pub entry-unfit : refused 1 ≡ soundsIndex ix → EntryMade ix hash key p (refused 1) false 0 ix
   entry-unfit e = record { same = insert-unfit ix e hash key p; ready = unchecked; denied = λ z. ((λ y. omega arith), rollback-unfit ix e) }
 
-  module _ (e : fitsIndex ix ≡ true) where
-    pub entry-damaged : sound (ix .live) ≡ false → EntryMade ix hash key p (refused 2) false 0 ix
-    entry-damaged s =
-        record { same = insert-damaged ix e s hash key p; ready = unchecked; denied = λ z. ((λ y. omega arith), rollback-damaged ix e s) }
-
-pub first-ready : (ix : Index) → fitsIndex ix ≡ true → sound (ix .live) ≡ true → Ready ix 0
-first-ready ix e s =
-    record { passes = record { fit = fits-index ix e; sound = yes-sound (fits-index ix e .tree) s }; none = λ k l. absurd (omega arith) }
+  pub entry-damaged : given 0 ≡ soundsIndex ix → EntryMade ix hash key p (refused 2) false 0 ix
+  entry-damaged e =
+      record { same = insert-damaged ix e hash key p; ready = unchecked; denied = λ z. ((λ y. omega arith), rollback-damaged ix e) }
 
 -- A step that notes an answer, and one told otherwise.
 pub step-down : {d : Session} {r : Reader} {ix : Index} → session r ix ≡ d → Stepped d r false 0 ix
@@ -119,18 +112,19 @@ module _ {start : Session} {l : List ℕ} {r : Reader} {checked : Bool} {floor :
   unfolding bytesRead
   read-byte h f = rw (from l i h, f)
 
-  pub turn-on : {s : Reader} {checked′ : Bool} {floor′ : ℕ} {jx : Index} → i < length l → getD l i 0 < 256
-      → Stepped (byteRead (session r ix) (getD l i 0)) s checked′ floor′ jx
+  pub turn-on : {s : Reader} {checked′ : Bool} {floor′ : ℕ} {jx : Index} → i < length l → getD l i 0 < 256 → r .note ≡ unsaid
+      → Stepped (byteCame r ix (getD l i 0)) s checked′ floor′ jx
       → length (jx .live .names) ≡ length (ix .live .names)
       → length (jx .live .cells) ≡ length (ix .live .cells)
       → length (jx .live .head) ≡ length (ix .live .head)
       → length (jx .live .sizes) ≡ length (ix .live .sizes)
       → length (jx .lines) ≡ length (ix .lines)
       → Turn start l s checked′ floor′ jx (i + 1)
-  turn-on h small step n1 n2 n3 n4 n5 =
+  turn-on h small note step n1 n2 n3 n4 n5 =
+      let e = step .same ∙ read-on r ix (getD l i 0) note in
       record {
-        same = read-byte h (step .same) ∙ turn .same;
-        fit = subst (λ (x : Session). FitReader (x .reader)) (sym (step .same)) (byte-range (session r ix) (getD l i 0) small (turn .fit));
+        same = read-byte h e ∙ turn .same;
+        fit = subst (λ (x : Session). FitReader (x .reader)) (sym e) (byte-range (session r ix) (getD l i 0) small (turn .fit));
         ready = step .ready;
         within = omega arith;
         names = n1 ∙ turn .names;
@@ -138,6 +132,23 @@ module _ {start : Session} {l : List ℕ} {r : Reader} {checked : Bool} {floor :
         head = n3 ∙ turn .head;
         sizes = n4 ∙ turn .sizes;
         lines = n5 ∙ turn .lines;
+      }
+
+  -- After an answer is noted the bytes left change nothing.
+  pub turn-noted : {a : Answer} → r .note ≡ said a → Turn start l r checked floor ix (length l)
+  unfolding bytesRead
+  turn-noted note =
+      let none : session r ix ≡ bytesRead (session r ix) (drop (length l) l) = rw (past l (length l) (omega arith)) in
+      record {
+        same = sym none ∙ sym (all-noted r ix note (drop i l)) ∙ turn .same;
+        fit = turn .fit;
+        ready = turn .ready;
+        within = omega arith;
+        names = turn .names;
+        cells = turn .cells;
+        head = turn .head;
+        sizes = turn .sizes;
+        lines = turn .lines;
       }
 
   pub turn-end : length l ≤ i → session r ix ≡ bytesRead start l

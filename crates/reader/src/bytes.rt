@@ -1,6 +1,6 @@
 // The bytes that touch the reader alone: of a count, and of an entry but for its last.
-use crate::words::Note;
 use crate::words::Reader;
+use crate::words::unsaid;
 ghost use mathlib.Core.Path.{_≡_};
 ghost use Prim.Native.Nat.{_≤_};
 ghost use Rattle.upload_rules.specs.Reading.{owing, countCame, entryCame, nameByte};
@@ -12,27 +12,9 @@ pub(crate) fn owe(r: Reader, owed: u64, taken: u64) -> Reader
     ensures { λ x. ⌜ wordsOf x ≡ owing (wordsOf r) owed taken ⌝ }
 {
     if owed == 0 {
-        return Reader {
-            section: r.section + 1,
-            got: 0,
-            owed: 0,
-            hash: 0,
-            key: 0,
-            mark: r.mark,
-            taken,
-            note: Note::Unsaid,
-        };
+        return unsaid(r.section + 1, 0, 0, 0, 0, r.mark, taken);
     }
-    Reader {
-        section: r.section,
-        got: 3,
-        owed,
-        hash: 0,
-        key: 0,
-        mark: r.mark,
-        taken,
-        note: Note::Unsaid,
-    }
+    unsaid(r.section, 3, owed, 0, 0, r.mark, taken)
 }
 
 // A byte of the count.
@@ -42,16 +24,7 @@ pub(crate) fn take_count(r: Reader, b: u8) -> Reader
 {
     let owed = r.owed / 256 + 256 * (b as u64);
     if r.got == 1 {
-        return Reader {
-            section: r.section,
-            got: 2,
-            owed,
-            hash: 0,
-            key: 0,
-            mark: r.mark,
-            taken: r.taken,
-            note: Note::Unsaid,
-        };
+        return unsaid(r.section, 2, owed, 0, 0, r.mark, r.taken);
     }
     owe(r, owed, r.taken)
 }
@@ -74,26 +47,8 @@ pub(crate) fn take_entry(r: Reader, b: u8) -> Reader
     let got = r.got + 1;
     if r.got < 11 {
         let hash = name_byte(r.hash, b);
-        return Reader {
-            section: r.section,
-            got,
-            owed: r.owed,
-            hash,
-            key: r.key,
-            mark: r.mark,
-            taken: r.taken,
-            note: Note::Unsaid,
-        };
+        return unsaid(r.section, got, r.owed, hash, r.key, r.mark, r.taken);
     }
     let key = name_byte(r.key, b);
-    Reader {
-        section: r.section,
-        got,
-        owed: r.owed,
-        hash: r.hash,
-        key,
-        mark: r.mark,
-        taken: r.taken,
-        note: Note::Unsaid,
-    }
+    unsaid(r.section, got, r.owed, r.hash, key, r.mark, r.taken)
 }

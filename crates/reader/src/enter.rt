@@ -1,13 +1,11 @@
 // The two calls of the index that a byte may make: they are checked once in a chunk.
-use index::fit_index::Fitness;
-use index::fit_index::fit_index;
 use index::insert::Inserted;
 use index::insert::insert_sound;
 use index::rollback::RolledBack;
 use index::rollback::rollback;
 use index::rollback::rollback_sound;
 use index::sound::Soundness;
-use index::sound::sound;
+use index::sound::sound_index;
 ghost use mathlib.Core.Path.{_≡_};
 ghost use mathlib.Core.Bool.{true};
 ghost use Rattle.index_rules.specs.Index.{lent, outcome};
@@ -73,23 +71,20 @@ pub(crate) fn enter(
     if checked {
         return enter_sound(names, cells, head, sizes, lines, floor, hash, key, place);
     }
-    let fitness = fit_index(names, cells, head, sizes, lines);
-    let Fitness::Fit = fitness else {
-        return Entered {
+    let verdict = sound_index(names, cells, head, sizes, lines);
+    match verdict {
+        Soundness::Unfit => Entered {
             inserted: Inserted::Unfit,
             checked: false,
             floor: 0,
-        };
-    };
-    let verdict = sound(names, cells, head, sizes);
-    let Soundness::Yes = verdict else {
-        return Entered {
+        },
+        Soundness::No => Entered {
             inserted: Inserted::Damaged,
             checked: false,
             floor: 0,
-        };
-    };
-    enter_sound(names, cells, head, sizes, lines, 0, hash, key, place)
+        },
+        Soundness::Yes => enter_sound(names, cells, head, sizes, lines, 0, hash, key, place),
+    }
 }
 
 // rollback, with the check where the chunk has made none.

@@ -1,6 +1,7 @@
 // The exported word of a note: 0 while nothing is noted, else 1 + the answer's word.
 use crate::reply::Reply;
 use crate::words::Note;
+use slots::answer::Value;
 use slots::answer::packed;
 ghost use mathlib.Core.Path.{_≡_};
 ghost use Prim.Native.Nat.{_+_, _*_, _≤_};
@@ -31,18 +32,11 @@ fn noted(number: u32, value: u32) -> u64
 fn reply_word(reply: Reply) -> u64
     ensures { λ r. ⌜ r ≡ 1 + answerWord (replyOf reply) ⌝ }
 {
-    match reply {
-        Reply::Given(count) => noted(0, count),
-        Reply::Unfit => noted(1, 0),
-        Reply::Damaged => noted(2, 0),
-        Reply::Present(slot) => noted(3, slot),
-        Reply::Full => noted(5, 0),
-        Reply::JournalFull => noted(6, 0),
-        Reply::BadMark => noted(7, 0),
-        Reply::Misfit => noted(8, 0),
-        Reply::Short => noted(12, 0),
-        Reply::Long => noted(13, 0),
-        Reply::WrongKind => noted(18, 0),
+    let answer = reply.answer();
+    let value = answer.value;
+    match value {
+        Value::Some(v) => noted(answer.number, v),
+        Value::None => noted(answer.number, 0),
     }
 }
 

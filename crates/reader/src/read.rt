@@ -1,18 +1,17 @@
 // start, chunk and end: the reader goes in by value and comes back.
 use crate::reply::Reply;
 use crate::steps::Reading;
-use crate::steps::take_byte;
+use crate::steps::take;
 use crate::steps::turn_down;
 use crate::words::Note;
 use crate::words::Reader;
 use crate::words::fits_reader;
 use crate::words::noting;
 use crate::words::reply_of;
-use index::fit_index::Fitness;
-use index::fit_index::fit_index;
+use crate::words::unsaid;
 use index::journal::length_of;
 use index::sound::Soundness;
-use index::sound::sound;
+use index::sound::sound_index;
 ghost use mathlib.Core.Path.{_≡_};
 ghost use Rattle.index_rules.specs.Index.{lent};
 ghost use Rattle.upload_rules.specs.Reader.{FitReader, newReader};
@@ -29,16 +28,7 @@ pub struct Read {
 fn new_reader(mark: u32) -> Reader
     ensures { λ r. ⌜ wordsOf r ≡ newReader mark ⌝ }
 {
-    Reader {
-        section: 0,
-        got: 0,
-        owed: 0,
-        hash: 0,
-        key: 0,
-        mark,
-        taken: 0,
-        note: Note::Unsaid,
-    }
+    unsaid(0, 0, 0, 0, 0, mark, 0)
 }
 
 // The end of the bytes, nothing being noted.
@@ -70,30 +60,29 @@ impl Reader {
             ≡ readStart (session (newReader 0)
             (lent (now (names .entry)) (now (cells .entry)) (now (head .entry)) (now (sizes .entry)) (now (lines .entry)))) ⌝ }
     {
-        let blank = new_reader(0);
-        let fitness = fit_index(names, cells, head, sizes, lines);
-        let Fitness::Fit = fitness else {
-            return Read {
+        let verdict = sound_index(names, cells, head, sizes, lines);
+        match verdict {
+            Soundness::Unfit => Read {
                 reply: Reply::Unfit,
-                reader: blank,
-            };
-        };
-        let verdict = sound(names, cells, head, sizes);
-        let Soundness::Yes = verdict else {
-            return Read {
+                reader: new_reader(0),
+            },
+            Soundness::No => Read {
                 reply: Reply::Damaged,
-                reader: blank,
-            };
-        };
-        let mark = length_of(lines);
-        let reader = new_reader(mark as u32);
-        Read {
-            reply: Reply::Given(1),
-            reader,
+                reader: new_reader(0),
+            },
+            Soundness::Yes => {
+                let mark = length_of(lines);
+                let reader = new_reader(mark as u32);
+                Read {
+                    reply: Reply::Given(1),
+                    reader,
+                }
+            }
         }
     }
 
-    // Takes the bytes of a chunk one after the other: the index is checked where the first entry ends, and not again.
+    // Takes the bytes of a chunk one after the other, up to the one where an answer is noted: the index is checked where the first entry
+    // ends, and not again.
     pub fn chunk(
         self,
         names: &mut [u64],
@@ -123,9 +112,16 @@ impl Reader {
         };
         let mut i = 0;
         while i < chunk.len() {
-            let next = take_byte(names, cells, head, sizes, lines, at, chunk[i]);
-            at = next;
-            i += 1;
+            let r = at.reader;
+            let note = r.note;
+            match note {
+                Note::Unsaid => {
+                    let next = take(names, cells, head, sizes, lines, at, chunk[i]);
+                    at = next;
+                    i += 1;
+                }
+                Note::Said(_) => i = chunk.len(),
+            }
         }
         let reader = at.reader;
         let reply = reply_of(reader);

@@ -8,9 +8,9 @@ use crate::enter::enter;
 use crate::reply::Reply;
 use crate::reply::of_inserted;
 use crate::reply::of_rolled;
-use crate::words::Note;
 use crate::words::Reader;
 use crate::words::noting;
+use crate::words::unsaid;
 use index::insert::Inserted;
 use index::journal::length_of;
 use slots::NULL;
@@ -21,7 +21,7 @@ ghost use lib.Dec.{ltb};
 ghost use Rattle.slots.specs.Words.{null, pick};
 ghost use Rattle.index_rules.specs.Index.{lent, lengthOf};
 ghost use Rattle.upload_rules.specs.Reader.{FitReader};
-ghost use Rattle.upload_rules.specs.Reading.{session, turnedDown, kindCame, lastCame, byteCame, byteRead};
+ghost use Rattle.upload_rules.specs.Reading.{session, turnedDown, kindCame, lastCame, byteCame};
 ghost use Rattle.reader.specs.Meanings.{wordsOf, replyOf};
 ghost use Rattle.index_rules.specs.Checked.{Passes, Ready};
 ghost use Rattle.reader.specs.Trusting.{Stepped};
@@ -93,16 +93,7 @@ fn take_kind(
 {
     let r = at.reader;
     if b as u64 == r.section + 1 {
-        let reader = Reader {
-            section: r.section,
-            got: 1,
-            owed: 0,
-            hash: 0,
-            key: 0,
-            mark: r.mark,
-            taken: r.taken,
-            note: Note::Unsaid,
-        };
+        let reader = unsaid(r.section, 1, 0, 0, 0, r.mark, r.taken);
         return Reading {
             reader,
             checked: at.checked,
@@ -187,7 +178,7 @@ fn take_last(
 }
 
 // A byte, nothing being noted.
-fn take(
+pub(crate) fn take(
     names: &mut [u64],
     cells: &mut [u32],
     head: &mut [u32],
@@ -233,30 +224,4 @@ fn take(
         };
     }
     take_last(names, cells, head, sizes, lines, at, b)
-}
-
-// A byte: after an answer is noted, nothing changes.
-pub(crate) fn take_byte(
-    names: &mut [u64],
-    cells: &mut [u32],
-    head: &mut [u32],
-    sizes: &mut [u32],
-    lines: &mut [u64],
-    at: Reading,
-    b: u8,
-) -> Reading
-    requires { ⌜ FitReader (wordsOf (at .reader)) ⌝ }
-    requires { ⌜ (at .checked ≡ true → Ready (lent (now names) (now cells) (now head) (now sizes) (now lines)) (at .floor)) ⌝ }
-    ensures { λ x. ⌜ Stepped
-        (byteRead (session (wordsOf (at .reader))
-        (lent (now (names .entry)) (now (cells .entry)) (now (head .entry)) (now (sizes .entry)) (now (lines .entry)))) b)
-        (wordsOf (x .reader)) (x .checked) (x .floor)
-        (lent (now (names .exit)) (now (cells .exit)) (now (head .exit)) (now (sizes .exit)) (now (lines .exit))) ⌝ }
-{
-    let r = at.reader;
-    let note = r.note;
-    let Note::Unsaid = note else {
-        return at;
-    };
-    take(names, cells, head, sizes, lines, at, b)
 }

@@ -1,7 +1,7 @@
 // The reader's eight words, and their ranges.
 use crate::reply::Reply;
 ghost use mathlib.Core.Path.{_≡_};
-ghost use Rattle.upload_rules.specs.Reader.{FitReader, fitsReader, noting as withNote, readerAnswer};
+ghost use Rattle.upload_rules.specs.Reader.{readerOf, unsaid as nothing, FitReader, fitsReader, noting as withNote, readerAnswer};
 ghost use Rattle.reader.specs.Meanings.{wordsOf, replyOf};
 
 // Nothing is noted, or an answer is that every later call gives again.
@@ -51,6 +51,31 @@ pub(crate) fn fits_reader(r: Reader) -> bool
         return false;
     }
     taken + owed <= 65535 * (section + 1)
+}
+
+// A reader of these words, with nothing noted.
+pub(crate) fn unsaid(
+    section: u64,
+    got: u64,
+    owed: u64,
+    hash: u64,
+    key: u64,
+    mark: u32,
+    taken: u64,
+) -> Reader
+    ensures { λ r. ⌜ wordsOf r ≡ readerOf section got owed hash key mark taken nothing ⌝ }
+{
+    let note = Note::Unsaid;
+    Reader {
+        section,
+        got,
+        owed,
+        hash,
+        key,
+        mark,
+        taken,
+        note,
+    }
 }
 
 // The reader with an answer noted.

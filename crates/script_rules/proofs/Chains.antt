@@ -14,8 +14,7 @@ use Rattle.tree_rules.specs.Find.{slotsOf}
 use Rattle.tree_rules.proofs.Chaining.{chain-most}
 use Rattle.index_rules.specs.Live.{Live, Fit, fits, firstOf}
 use Rattle.index_rules.specs.Contents.{entryOf}
-use Rattle.index_rules.proofs.Fit.{fit-fits, fits-fit, half}
-use Rattle.index_rules.proofs.Inserting.{false-of}
+use Rattle.index_rules.proofs.Fit.{fit-fits, fits-fit, half, false-of}
 use Rattle.script_rules.specs.Text.{digits}
 use Rattle.script_rules.specs.Letters.{entryText, entryTexts, listingText, NextVisits, over, visit}
 use Rattle.script_rules.specs.Answers.{more, met, entryLine, entryLines, listText}

@@ -16,7 +16,7 @@ use Rattle.index_rules.specs.Insert.{inserts}
 use Rattle.index_rules.specs.Remove.{removes}
 use Rattle.index_rules.specs.Rollback.{rolls}
 use Rattle.index_rules.proofs.Journal.{fits-index, index-fits}
-use Rattle.index_rules.proofs.Inserting.{false-of}
+use Rattle.index_rules.proofs.Fit.{false-of}
 use Rattle.script_rules.specs.Text.{digits, noText}
 use Rattle.script_rules.specs.Letters.{letters, wordLine}
 use Rattle.script_rules.specs.Commands.{insert, remove, find, rollback, list, bad}

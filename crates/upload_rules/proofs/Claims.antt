@@ -10,7 +10,8 @@ use Rattle.index_rules.specs.Sound.{Sound}
 use Rattle.index_rules.specs.Index.{Index, FitIndex}
 use Rattle.index_rules.specs.Contents.{contents}
 use Rattle.index_rules.specs.Calls.{Places}
-use Rattle.index_rules.proofs.Inserting.{false-of, insert-claims}
+use Rattle.index_rules.proofs.Fit.{false-of}
+use Rattle.index_rules.proofs.Inserting.{insert-claims}
 use Rattle.index_rules.proofs.Rolling.{rollback-claims}
 use Rattle.endian.specs.Bytes.{Bytes}
 use Rattle.upload_rules.specs.Reader.{unsaid, noting, FitReader, fitsReader}

@@ -1,4 +1,5 @@
 -- The section is whole, or owes.
+use mathlib.Core.Path.{_∙_}
 use borrow.Author.Tests.{eq-eqb, ne-eqb}
 use Rattle.upload_rules.specs.Reading.{owing}
 use borrow.Author.Needs.{needs}
@@ -7,13 +8,11 @@ use Rattle.reader.proofs.bytes.owe.Tie as tie
 
 returns : tie.Need-returns
 unfolding owing
-returns c =
-    let c1 = c .before in
-    simp (eq-eqb _ _ (c1 .if1 .taken))
+returns c = c .unsaid .ensures ∙ simp (eq-eqb _ _ (c .before .before .if1 .taken))
 
 returns-2 : tie.Need-returns-2
 unfolding owing
-returns-2 c = simp (ne-eqb _ _ (c .if1 .left))
+returns-2 c = c .unsaid2 .ensures ∙ simp (ne-eqb _ _ (c .before .if1 .left))
 
 pub owe-spec : {M : Type 1} → statement M
-owe-spec = tie.close (tie.spec (λ c. search needs) returns returns-2)
+owe-spec = tie.close (tie.spec (λ c. search needs) (λ c κs. search needs) returns (λ c κs. search needs) returns-2)

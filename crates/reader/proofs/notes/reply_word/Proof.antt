@@ -1,85 +1,34 @@
--- Each case has its word.
-use mathlib.Core.Path.{ap, sym, _∙_}
-use Prim.Native.Nat.{_+_}
-use Rattle.slots.specs.Answers.{answerWord}
-use Rattle.reader.specs.Meanings.{replyOf}
-use Rattle.reader.specs.declared.reply.Reply.{Reply}
+-- The number is small, and the word that of the answer.
+use mathlib.Core.Path.{ap, _∙_}
+use Rattle.slots.specs.Coded.{valueOf}
+use Rattle.reader.proofs.Noting.{number-small, word-some, word-none}
 use borrow.Author.Needs.{needs}
 use Rattle.reader.proofs.notes.reply_word.Statement.{statement}
 use Rattle.reader.proofs.notes.reply_word.Tie as tie
 
+noted-requires : tie.Need-noted-requires
+noted-requires c κs =
+    let c3 = c .before .before .before in
+    number-small (c3 .before .args .reply) (c3 .answer .ensures)
+
+noted-requires-2 : tie.Need-noted-requires-2
+noted-requires-2 c κs =
+    let c2 = c .before .before in
+    number-small (c2 .before .args .reply) (c2 .answer .ensures)
+
 returns : tie.Need-returns
-unfolding answerWord
 returns c =
-    let c1 = c .before .before in
-    c .noted .ensures ∙ ap (λ (x : Reply). 1 + answerWord (replyOf x)) (sym (c1 .reply .given .1))
+    let c2 = c .before .before in
+    let c4 = c2 .before .before in
+    c .noted .ensures ∙ word-some (c4 .before .args .reply) (c4 .answer .ensures) (ap valueOf (c2 .value .given .1))
 
 returns-2 : tie.Need-returns-2
-unfolding answerWord
 returns-2 c =
     let c1 = c .before in
-    c .noted2 .ensures ∙ ap (λ (x : Reply). 1 + answerWord (replyOf x)) (sym (c1 .enum-told .given .1))
-
-returns-3 : tie.Need-returns-3
-unfolding answerWord
-returns-3 c =
-    let c1 = c .before in
-    c .noted3 .ensures ∙ ap (λ (x : Reply). 1 + answerWord (replyOf x)) (sym (c1 .enum-told2 .given .1))
-
-returns-4 : tie.Need-returns-4
-unfolding answerWord
-returns-4 c =
-    let c1 = c .before .before in
-    c .noted4 .ensures ∙ ap (λ (x : Reply). 1 + answerWord (replyOf x)) (sym (c1 .reply2 .given .1))
-
-returns-5 : tie.Need-returns-5
-unfolding answerWord
-returns-5 c =
-    let c1 = c .before in
-    c .noted5 .ensures ∙ ap (λ (x : Reply). 1 + answerWord (replyOf x)) (sym (c1 .enum-told3 .given .1))
-
-returns-6 : tie.Need-returns-6
-unfolding answerWord
-returns-6 c =
-    let c1 = c .before in
-    c .noted6 .ensures ∙ ap (λ (x : Reply). 1 + answerWord (replyOf x)) (sym (c1 .enum-told4 .given .1))
-
-returns-7 : tie.Need-returns-7
-unfolding answerWord
-returns-7 c =
-    let c1 = c .before in
-    c .noted7 .ensures ∙ ap (λ (x : Reply). 1 + answerWord (replyOf x)) (sym (c1 .enum-told5 .given .1))
-
-returns-8 : tie.Need-returns-8
-unfolding answerWord
-returns-8 c =
-    let c1 = c .before in
-    c .noted8 .ensures ∙ ap (λ (x : Reply). 1 + answerWord (replyOf x)) (sym (c1 .enum-told6 .given .1))
-
-returns-9 : tie.Need-returns-9
-unfolding answerWord
-returns-9 c =
-    let c1 = c .before in
-    c .noted9 .ensures ∙ ap (λ (x : Reply). 1 + answerWord (replyOf x)) (sym (c1 .enum-told7 .given .1))
-
-returns-10 : tie.Need-returns-10
-unfolding answerWord
-returns-10 c =
-    let c1 = c .before in
-    c .noted10 .ensures ∙ ap (λ (x : Reply). 1 + answerWord (replyOf x)) (sym (c1 .enum-told8 .given .1))
-
-returns-11 : tie.Need-returns-11
-unfolding answerWord
-returns-11 c =
-    let c1 = c .before in
-    c .noted11 .ensures ∙ ap (λ (x : Reply). 1 + answerWord (replyOf x)) (sym (c1 .enum-told9 .given .1))
+    let c3 = c1 .before .before in
+    c .noted2 .ensures ∙ word-none (c3 .before .args .reply) (c3 .answer .ensures) (ap valueOf (c1 .enum-told .given .1))
 
 pub reply-word-spec : {M : Type 1} → statement M
 reply-word-spec =
     tie.close
-    (tie.spec
-    (λ c. search needs) (λ c κs. search needs) (λ c. search needs) (λ c κs. search needs) (λ c. search needs) (λ c κs. search needs)
-    (λ c. search needs) (λ c κs. search needs) (λ c. search needs) (λ c κs. search needs) (λ c. search needs) (λ c κs. search needs)
-    (λ c. search needs) (λ c κs. search needs) (λ c. search needs) (λ c κs. search needs) (λ c. search needs) (λ c κs. search needs)
-    (λ c. search needs) (λ c κs. search needs) (λ c. search needs) (λ c κs. search needs) returns returns-2 returns-3 returns-4 returns-5
-    returns-6 returns-7 returns-8 returns-9 returns-10 returns-11)
+    (tie.spec (λ c κs. search needs) (λ c. search needs) noted-requires (λ c. search needs) noted-requires-2 returns returns-2)

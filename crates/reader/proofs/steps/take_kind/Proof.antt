@@ -7,8 +7,9 @@ use Rattle.reader.proofs.steps.take_kind.Tie as tie
 
 returns : tie.Need-returns
 returns c =
-    let c1 = c .before .before .before .before .before .before .before .before in
-    record { same = kind-right _ _ _ (c .if1 .taken); ready = c1 .pre .1 }
+    let c1 = c .before in
+    let c4 = c1 .before .before .before .before .before .before .before .before in
+    record { same = kind-right _ _ _ (c1 .if1 .taken) (c .unsaid .ensures); ready = c4 .pre .1 }
 
 turn-down-requires : tie.Need-turn-down-requires
 turn-down-requires c κs =
@@ -25,5 +26,5 @@ pub take-kind-spec : {M : Type 1} → statement M
 take-kind-spec =
     tie.close
     (tie.spec
-    (λ c. search needs) returns turn-down-requires (λ c. search needs) (λ c. search needs) (λ c. search needs) (λ c. search needs)
+    (λ c. search needs) (λ c κs. search needs) returns turn-down-requires (λ c. search needs) (λ c. search needs) (λ c. search needs) (λ c. search needs)
     (λ c. search needs) returns-2)

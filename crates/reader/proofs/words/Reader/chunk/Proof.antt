@@ -1,5 +1,5 @@
 -- The loop's invariant: the bytes left come to what all of them come to, and what was checked is ready.
-use mathlib.Core.Path.{sym, _∙_}
+use mathlib.Core.Path.{ap, sym, _∙_}
 use denote.Ref.{now}
 use Prim.Native.Nat.{_-_}
 use native.Mathlib.Omega.{arith}
@@ -8,9 +8,9 @@ use borrow.Author.Tests.{not-true, not-false}
 use Rattle.index_rules.specs.Index.{lent}
 use Rattle.upload_rules.specs.Reading.{session}
 use Rattle.upload_rules.proofs.Ranges.{range-in}
-use Rattle.reader.specs.Meanings.{wordsOf}
+use Rattle.reader.specs.Meanings.{noteOf, wordsOf}
 use Rattle.reader.proofs.Coming.{chunk-out, chunk-in}
-use Rattle.reader.proofs.Trusting.{Turn, turn-start, turn-on, turn-end}
+use Rattle.reader.proofs.Trusting.{Turn, turn-start, turn-on, turn-noted, turn-end}
 use borrow.Author.Needs.{needs}
 use Rattle.reader.proofs.words.Reader.chunk.Statement.{statement}
 use Rattle.reader.proofs.words.Reader.chunk.Tie as tie
@@ -33,16 +33,16 @@ loop-holds c =
     let c1 = c .before in
     turn-start _ _ _ (range-in _ (sym (c1 .fits-reader .ensures) ∙ not-false (c1 .fits-reader .result) (c .if1 .left)))
 
-take-byte-requires : tie.Need-take-byte-requires Inv-loop μ-loop
-take-byte-requires c κs =
-    let c1 = c .before .before .before .before .before .before .before in
+take-requires : tie.Need-take-requires Inv-loop μ-loop
+take-requires c κs =
+    let c1 = c .before .before .before .before .before .before .before .before .before .before in
     (c1 .loop .inv .fit, c1 .loop .inv .ready)
 
 add-i : tie.Need-add-i Inv-loop μ-loop
 add-i c =
     let c1 =
     c .before .before .before .before .before .before .before .before .before .before .before .before .before .before .before
-    .before .before in
+    .before .before .before .before .before in
     let c2 = c1 .before .before .before .before .before .before .before .before .before .before in
     let bytes = c2 .args .chunk in
     let below = c1 .loop-test .taken in
@@ -51,15 +51,20 @@ add-i c =
 loop-again : tie.Need-loop-again Inv-loop μ-loop
 loop-again c =
     let c1 = c .before .before .before .before .before .before .before .before .before .before in
-    let c2 = c1 .before .before .before .before .before .before .before in
+    let c7 = c1 .before .before .before .before .before .before .before in
+    let c2 = c7 .before .before .before in
     let c3 = c2 .before in
     let c4 = c3 .before .before .before in
-    turn-on (c3 .loop .inv) (c2 .loop-test .taken) (omega (arith, c4 .shared-slice-known .given (c3 .loop .i))) (c1 .take-byte .ensures)
-    (c1 .take-byte .kept .0)
-    (c1 .take-byte .kept .1 .0)
-    (c1 .take-byte .kept .1 .1 .0)
-    (c1 .take-byte .kept .1 .1 .1 .0)
-    (c1 .take-byte .kept .1 .1 .1 .1 .0)
+    turn-on (c3 .loop .inv) (c2 .loop-test .taken) (omega (arith, c4 .shared-slice-known .given (c3 .loop .i)))
+    (ap noteOf (c7 .enum-told .given .1)) (c1 .take .ensures)
+    (c1 .take .kept .0)
+    (c1 .take .kept .1 .0)
+    (c1 .take .kept .1 .1 .0)
+    (c1 .take .kept .1 .1 .1 .0)
+    (c1 .take .kept .1 .1 .1 .1 .0)
+
+loop-again-2 : tie.Need-loop-again-2 Inv-loop μ-loop
+loop-again-2 c = turn-noted (c .before .before .before .before .loop .inv) (ap noteOf (c .enum-told2 .given .1))
 
 reply-of-requires : tie.Need-reply-of-requires Inv-loop μ-loop
 reply-of-requires c κs =
@@ -80,5 +85,6 @@ pub chunk-spec : {M : Type 1} → statement M
 chunk-spec =
     tie.close
     (tie.spec
-    Inv-loop μ-loop (λ c κs. search needs) returns loop-holds (λ c. search needs) take-byte-requires add-i (λ c. search needs) loop-again
-    reply-of-requires (λ c. search needs) (λ c. search needs) (λ c. search needs) (λ c. search needs) (λ c. search needs) returns-2)
+    Inv-loop μ-loop (λ c κs. search needs) returns loop-holds (λ c. search needs) (λ c. search needs) take-requires add-i
+    (λ c. search needs) loop-again (λ c. search needs) (λ c. search needs) loop-again-2 reply-of-requires (λ c. search needs)
+    (λ c. search needs) (λ c. search needs) (λ c. search needs) (λ c. search needs) returns-2)
