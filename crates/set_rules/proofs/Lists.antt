@@ -67,7 +67,7 @@ module _ (names : List ℕ) (x y : ℕ) where
       go false e = e
 
 module _ (s : Set) (small : slotsOf (s .names) ≤ null) where
-  unlike-list : (v x : ℕ) {y : ℕ} {l : List ℕ} → Listed (slotsOf (s .names)) (s .cells) y l → unlike v (s .names) (s .cells) x y ≡ true
+  pub unlike-list : (v x : ℕ) {y : ℕ} {l : List ℕ} → Listed (slotsOf (s .names)) (s .cells) y l → unlike v (s .names) (s .cells) x y ≡ true
       → Unlike (s .names) x l
   unfolding unlike
   unlike-list v x (ended e) h = Unlike.last
@@ -80,7 +80,7 @@ module _ (s : Set) (small : slotsOf (s .names) ≤ null) where
       go true p h again = absurd (false≢true h)
       go false p h again = Unlike.other (other-pair (s .names) x y p) (again h)
 
-  list-unlike : (v x : ℕ) {y : ℕ} {l : List ℕ} → Listed (slotsOf (s .names)) (s .cells) y l → Unlike (s .names) x l → length l ≤ v
+  pub list-unlike : (v x : ℕ) {y : ℕ} {l : List ℕ} → Listed (slotsOf (s .names)) (s .cells) y l → Unlike (s .names) x l → length l ≤ v
       → unlike v (s .names) (s .cells) x y ≡ true
   unfolding unlike
   list-unlike zero x (ended {i = y} e) h b = eq-eqb y null e

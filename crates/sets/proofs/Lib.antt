@@ -2,6 +2,7 @@ pub mod Binned
 pub mod Sized
 pub mod Binning
 pub mod Steps
+pub mod Hanging
 pub mod Judging
 pub mod Looking
 pub mod OneLookup

@@ -7,17 +7,21 @@ use Prim.Native.Nat.{ℕ, zero, suc, _+_, _-_, _*_, _<_, _≤_}
 use native.Mathlib.Numerals.{sub-one, add-one}
 use native.Mathlib.Omega.{arith}
 use lib.ListN.{getD}
-use borrow.Author.Tests.{eq-eqb, ne-eqb}
-use Rattle.slots.specs.Words.{null, pick, left, right, next, cell}
+use lib.Dec.{ltb}
+use borrow.Author.Tests.{eq-eqb, ne-eqb, ltb-true}
+use Rattle.slots.specs.Words.{null, pick, left, right, next, cell, _and_}
 use Rattle.slots.specs.Answers.{Value, none, some}
 use Rattle.tree_rules.specs.Rules.{then}
+use Rattle.tree_rules.specs.Find.{slotsOf}
+use Rattle.index_rules.proofs.Fit.{both}
 use Rattle.set_rules.specs.Words.{Set, fits, tablesOf, lengthAt, Bin, empty, moved, bad, list, tree, binAt}
-use Rattle.set_rules.specs.Accepting.{isHome, samePair, unlike, listSlotFine, listFine, isOwn, chainOwn, treeHome, isBlank, filled}
-use Rattle.set_rules.specs.Accepting.{namesHeader}
+use Rattle.set_rules.specs.Accepting.{isHome, isListSlot, samePair, unlike, listSlotFine, listFine, isOwn, chainOwn, treeHome, isBlank}
+use Rattle.set_rules.specs.Accepting.{filled, namesHeader}
 use Rattle.set_rules.specs.Accepting.{treeFine, wellPlaced, ownFine, isMoved, binAsks, binFine, belowFine, tableFine}
 use Rattle.set_rules.proofs.Fit.{fits-fit, length-bound}
 use Rattle.set_rules.proofs.Forest.{row-found}
 use Rattle.sets.specs.Room.{Room}
+use Rattle.sets.specs.Lists.{slotHome, runsOver}
 
 -- The numbers of the recursion stay within their words.
 pub room-near : {lengths : List ℕ} {left k i : ℕ} → Room lengths left k i → left ≢ 0 → Room lengths (left - 1) (k + 1) i
@@ -115,6 +119,52 @@ module _ (names cells : List ℕ) (len i x : ℕ) where
   unfolding treeHome
   home-on zero d n = absurd (n refl)
   home-on (suc depth) d n = rw (ne-eqb x null d, sub-one)
+
+-- The test of a slot is that of its words, and that of its pair.
+module _ (names cells : List ℕ) (len i x : ℕ) where
+  pub slot-parts : (v : ℕ)
+      → listSlotFine v names cells len i x ≡ slotHome names cells len i x and unlike v names cells x (cell cells x next)
+  unfolding listSlotFine slotHome
+  slot-parts v = go (ltb x (slotsOf names)) (isListSlot cells x) (isHome names len i x) (unlike v names cells x (cell cells x next))
+    where
+      go : (a b c d : Bool) → a and b and c and d ≡ (a and b and c) and d
+      go false b c d = refl
+      go true false c d = refl
+      go true true false d = refl
+      go true true true d = refl
+
+  pub slot-inside : slotHome names cells len i x ≡ true → x < slotsOf names
+  unfolding slotHome
+  slot-inside e = ltb-true x (slotsOf names) (both (ltb x (slotsOf names)) _ e .0)
+
+  pub slot-on : (v : ℕ) → x ≢ null → v ≢ 0 → slotHome names cells len i x ≡ true
+      → listFine v names cells len i x
+      ≡ pick (unlike (v - 1) names cells x (cell cells x next)) (listFine (v - 1) names cells len i (cell cells x next)) none
+  unfolding listFine
+  slot-on zero d n h = absurd (n refl)
+  slot-on (suc v) d n h = rw (sub-one, ne-eqb x null d, slot-parts v, h)
+
+  pub slot-wrong : (v : ℕ) → x ≢ null → v ≢ 0 → slotHome names cells len i x ≡ false → none ≡ listFine v names cells len i x
+  slot-wrong v d n h =
+      let e : false ≡ listSlotFine (v - 1) names cells len i x = rw (slot-parts (v - 1), h) in
+      list-wrong names cells len i x v d n e refl
+
+-- A turn of the walk that asks whether a list is long.
+module _ (cells : List ℕ) (x : ℕ) where
+  pub long-null : (k : ℕ) → x ≡ null → false ≡ runsOver k cells x
+  unfolding runsOver
+  long-null zero e = simp (eq-eqb x null e)
+  long-null (suc k) e = simp (eq-eqb x null e)
+
+  pub long-end : (k : ℕ) → x ≢ null → k ≡ 0 → true ≡ runsOver k cells x
+  unfolding runsOver
+  long-end zero d e = simp (ne-eqb x null d)
+  long-end (suc k) d e = absurd (omega arith)
+
+  pub long-on : (k : ℕ) → x ≢ null → k ≢ 0 → {y : ℕ} → y ≡ cell cells x next → runsOver (k - 1) cells y ≡ runsOver k cells x
+  unfolding runsOver
+  long-on zero d n e = absurd (n refl)
+  long-on (suc k) d n e = rw (sub-one, ne-eqb x null d, e)
 
 -- Each thing counted is counted once at most.
 pub filled-one : (heads : List ℕ) (h : ℕ) → filled heads h ≤ 1

@@ -3,6 +3,7 @@ pub mod Binning
 pub mod Verdicts
 pub mod Room
 pub mod Judging
+pub mod Lists
 pub mod Lookups
 pub mod Looking
 pub mod Cursors

@@ -4,7 +4,7 @@ use crate::bin::bin_of;
 use crate::bin::bin_word;
 use crate::bin::header;
 use crate::fit::length_at;
-use crate::lists::list_fine;
+use crate::long::list_fine;
 use crate::trees::tree_fine;
 use slots::COUNT;
 use slots::FIRST;

@@ -7,6 +7,7 @@ pub mod accept;
 mod below;
 mod headers;
 pub mod lists;
+mod long;
 mod trees;
 // lookup: the slot that has a pair.
 pub mod lookup;

@@ -1,4 +1,5 @@
 // The check of a bin's list: it ends and repeats no pair, and its slots are a list's and in the bin that their hashes name.
+// Here the pair of each slot is compared with those after it, which is the quicker way for a short list.
 use crate::bin::index;
 use slots::BLACK;
 use slots::HASH;
@@ -17,6 +18,7 @@ ghost use mathlib.Core.Path.{_≡_};
 ghost use Rattle.tree.specs.Rules.{restOf};
 ghost use Rattle.set_rules.specs.Accepting.{isHome, isListSlot, samePair, listSlotFine, listFine};
 ghost use Rattle.set_rules.specs.Accepting.{unlike as differs};
+ghost use Rattle.sets.specs.Lists.{slotHome};
 
 // The hash of slot x names bin i of a table of so many bins.
 pub fn is_home(names: &[u64], length: u32, i: u32, x: u32) -> bool
@@ -66,18 +68,22 @@ fn unlike(names: &[u64], cells: &[u32], x: u32, first: u32, most: usize) -> bool
     true
 }
 
+// Slot x is one of the set's, a list's, and in the bin that its hash names.
+pub(crate) fn slot_home(names: &[u64], cells: &[u32], length: u32, i: u32, x: u32) -> bool
+    ensures { λ r. ⌜ r ≡ slotHome (now (names .entry)) (now (cells .entry)) length i x ⌝ }
+{
+    (x as usize) < names.len() / 2 && is_list_slot(cells, x) && is_home(names, length, i, x)
+}
+
 // Slot x may stand in the list of bin i of a table of so many bins, where visits are left for the slots after it.
 fn list_slot_fine(names: &[u64], cells: &[u32], length: u32, i: u32, x: u32, visits: usize) -> bool
     ensures { λ r. ⌜ r ≡ listSlotFine visits (now (names .entry)) (now (cells .entry)) length i x ⌝ }
 {
-    (x as usize) < names.len() / 2
-        && is_list_slot(cells, x)
-        && is_home(names, length, i, x)
-        && unlike(names, cells, x, get(cells, x, NEXT), visits)
+    slot_home(names, cells, length, i, x) && unlike(names, cells, x, get(cells, x, NEXT), visits)
 }
 
 // The visits left after the list from first, or that it goes wrong.
-pub(crate) fn list_fine(
+pub(crate) fn by_pairs(
     names: &[u64],
     cells: &[u32],
     length: u32,

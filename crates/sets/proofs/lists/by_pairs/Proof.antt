@@ -6,8 +6,8 @@ use borrow.Author.Needs.{needs}
 use borrow.Author.Tests.{not-false, not-true}
 use Rattle.set_rules.specs.Accepting.{listFine}
 use Rattle.sets.proofs.Steps.{list-null, list-spent, list-wrong, list-on}
-use Rattle.sets.proofs.lists.list_fine.Statement.{statement}
-use Rattle.sets.proofs.lists.list_fine.Tie as tie
+use Rattle.sets.proofs.lists.by_pairs.Statement.{statement}
+use Rattle.sets.proofs.lists.by_pairs.Tie as tie
 
 abbrev Inv-loop : tie.InvT-loop
 Inv-loop names cells length i first visits x₀ left₀ x left =
@@ -59,8 +59,8 @@ returns-3 c =
     list-null (now (a .names)) (now (a .cells)) (a .length) (a .i) (at-loop .loop .x) (at-loop .loop .left) (c .loop-test .left)
     ∙ at-loop .loop .inv .0
 
-pub list-fine-spec : {M : Type 1} → statement M
-list-fine-spec =
+pub by-pairs-spec : {M : Type 1} → statement M
+by-pairs-spec =
     tie.close
     (tie.spec
     Inv-loop μ-loop (λ c. search needs) returns (λ c. search needs) (λ c κs. search needs) returns-2 (λ c κs. search needs)
