@@ -26,5 +26,6 @@ pub take-kind-spec : {M : Type 1} → statement M
 take-kind-spec =
     tie.close
     (tie.spec
-    (λ c. search needs) (λ c κs. search needs) returns turn-down-requires (λ c. search needs) (λ c. search needs) (λ c. search needs) (λ c. search needs)
+    (λ c. search needs) (λ c κs. search needs) returns turn-down-requires (λ c. search needs) (λ c. search needs) (λ c. search needs)
+    (λ c. search needs)
     (λ c. search needs) returns-2)
