@@ -3,7 +3,7 @@ pub mod Rotating
 pub mod Balancing
 pub mod OneBalance
 pub mod Walks
-pub mod Placing
+pub mod Spotting
 pub mod Unlinking
 pub mod OneLink
 pub mod Claims

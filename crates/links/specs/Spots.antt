@@ -6,7 +6,7 @@ use Rattle.slots.specs.Words.{pick, left, right, black}
 use Rattle.redblack.specs.Links.{Links, read, stored, painted}
 use Rattle.redblack.specs.Hanging as hanging
 use Rattle.redblack.specs.Deletion.{balancedDeletion}
-use Rattle.links.specs.declared.place.Spot.{Spot}
+use Rattle.links.specs.declared.spot.Spot.{Spot}
 
 -- A spot of the code, as the models have it.
 abbrev pub spotOf : Spot → hanging.Spot

@@ -1,8 +1,8 @@
 // A slot is hung where the order of pairs says, and the tree is balanced.
 use crate::balance::balance_insertion;
-use crate::place::place;
 use crate::sizes::ONE_MORE;
 use crate::sizes::weigh;
+use crate::spot::find_spot;
 use slots::LEFT;
 use slots::NULL;
 use slots::PARENT;
@@ -41,7 +41,7 @@ pub fn hang_slot(
         ≡ inserted budget (lentLinks (now (cells .entry)) root (now (sizes .entry))) x
         (spotted budget (now (names .entry)) (lentLinks (now (cells .entry)) root (now (sizes .entry))) hash key) ⌝ }
 {
-    let at = place(names, cells, root, hash, key, budget);
+    let at = find_spot(names, cells, root, hash, key, budget);
     let above = at.above;
     let side = at.side;
     hook(cells, x, above, side);

@@ -2,7 +2,7 @@
 // and balancing are private, as in the source.
 mod balance;
 pub mod hang;
-mod place;
 mod rotate;
 mod sizes;
+mod spot;
 pub mod unlink;

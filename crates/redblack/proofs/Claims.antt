@@ -30,7 +30,7 @@ use Rattle.redblack.proofs.Deletion.{turn-root, turn-red, deletion-root
 use Rattle.redblack.proofs.Trade.{dive}
 use Rattle.redblack.proofs.Bridge.{sided, plain-sided, plain-slots, plain-count, site-holds, holds-site, sound-plain, plain-sound}
 use Rattle.redblack.proofs.Bridge.{plain-height, height-plain, plain-wants, wants-plain, plain-outcome}
-use Rattle.redblack.proofs.Placing.{depth-cap, placed-link}
+use Rattle.redblack.proofs.Spotting.{depth-cap, spotted-link}
 use Rattle.redblack.proofs.Plain.{hung-balanced, slot-removed, removed-spares, slot-hung, hung-spares}
 use Rattle.redblack.proofs.Sizes.{rotation-tree, insertion-tree, deletion-tree, removal-tree, hanging-tree}
 use Rattle.redblack.proofs.Kept.{read-write, rotated-keeps, insertion-keeps, deletion-keeps, removed-keeps, inserted-keeps}
@@ -168,7 +168,7 @@ hanging-claims n budget names s t x hash key =
     record {
       hangs = λ h v r none w z e l. slot-hung t budget names s x hash key h v r none w z e l;
       spares = λ h v r none w z l j d y. hung-spares t budget names s x hash key j h v r none w z l d y;
-      keeps = λ f a. inserted-keeps a budget s x _ (placed-link budget names s hash key);
+      keeps = λ f a. inserted-keeps a budget s x _ (spotted-link budget names s hash key);
     }
 
 -- The sizes.

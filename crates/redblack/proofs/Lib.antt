@@ -29,7 +29,7 @@ pub mod Climbing
 pub mod Joining
 pub mod Trading
 pub mod Leaving
-pub mod Placing
+pub mod Spotting
 pub mod Plain
 pub mod Sizes
 pub mod Guards

@@ -18,7 +18,7 @@ use Rattle.redblack.specs.Insertion.{balancedInsertion}
 use Rattle.redblack.specs.Hanging.{spot, spotted, inserted}
 use Rattle.redblack.specs.Removal.{removed}
 use Rattle.redblack.specs.Kept.{Agree}
-use Rattle.redblack.specs.Holding.{Holds, RedBlackTree, Hung, Has, Stands, Fresh, place, onLeft, onRight, depth}
+use Rattle.redblack.specs.Holding.{Holds, RedBlackTree, Hung, Has, Stands, Fresh, onNull, onLeft, onRight, depth}
 use Rattle.redblack.proofs.Ends.{Part, Outcome, Beside, With, blackPart}
 use Rattle.redblack.proofs.Frames.{inward, turn}
 use Rattle.redblack.proofs.Order.{slots-turn}
@@ -29,7 +29,7 @@ use Rattle.redblack.proofs.Whole.{leaving, leaving-spares, joining, joi
 use Rattle.redblack.proofs.Outside.{planting-spares}
 use Rattle.redblack.proofs.Kept.{place-aside, removed-keeps, inserted-keeps}
 use Rattle.redblack.proofs.Bridge.{sided, plain-sided, sided-slots, sited, plain-sound, outcome-of, plain-outcome}
-use Rattle.redblack.proofs.Placing.{placed-empty, placed-in, placed-link}
+use Rattle.redblack.proofs.Spotting.{spotted-empty, spotted-in, spotted-link}
 
 -- The slots of an outcome written another way.
 relist : {n : ℕ} {s : Links} {l k : List ℕ} → l ≡ k → Outcome n s l → Outcome n s k
@@ -39,7 +39,7 @@ relist e o = record { tree = o .tree; height = o .height; site = o .site; sound 
 hung-outcome : {n x : ℕ} {C : Way} {t u : Tree} (m : ℕ) (s : Links) → Hung x t u → Part C (sided t) → Site n (painted s x red) C (sided u)
     → length C + depth u ≤ m → Outcome n (balancedInsertion m s x) (Sided.slots (plug C (sided u)))
 unfolding sided depth plug
-hung-outcome m s place (blackPart w void) h l = insertion m s w h (omega arith)
+hung-outcome m s onNull (blackPart w void) h l = insertion m s w h (omega arith)
 hung-outcome {C = C} m s (onLeft {c} {l = a} {m = b} {i} {r} k) o h l =
     hung-outcome {C = frame leftward c i (sided r) ∷ C} m s k (part-in o) (inward h) (omega arith)
 hung-outcome {C = C} m s (onRight {c} {l = a} {i} {r} {m = b} k) o h l =
@@ -114,10 +114,10 @@ grown {σ = σ} names t f w =
 pub slot-hung : {n : ℕ} (t : Tree) (m : ℕ) (names : List ℕ) (s : Links) (x hash key : ℕ) → Holds n s t → RedBlackTree t
     → Rising names (slots t) → (Has names t hash key → ⊥) → x < n → Fresh x t → pairOf names x ≡ pair hash key → n ≤ m
     → Grown n names (inserted m s x (spotted m names s hash key)) t x
-slot-hung leaf m names s x hash key h v up none wx z e l = rw (placed-empty m names hash key h) (planted m names s x h wx l)
+slot-hung leaf m names s x hash key h v up none wx z e l = rw (spotted-empty m names hash key h) (planted m names s x h wx l)
 slot-hung (node c a i b) m names s x hash key h v up none wx z e l =
     let t : Tree = node c a i b in
-    let g = placed-in m names hash key c a i b h up none l in
+    let g = spotted-in m names hash key c a i b h up none l in
     rw (g .is)
     (grown names t (λ k. g .rises x k e)
     (joining m x (g .slot) (g .side) l wx (omega (arith)) (omega (arith, g .stands)) (g .free) (outcome-of t h v)))
@@ -126,12 +126,12 @@ pub hung-spares : {n : ℕ} (t : Tree) (m : ℕ) (names : List ℕ) (s : Links) 
     → Rising names (slots t) → (Has names t hash key → ⊥) → x < n → Fresh x t → n ≤ m → j ≢ x → Fresh j t
     → Agree s (inserted m s x (spotted m names s hash key)) j
 hung-spares leaf m names s x hash key j h v up none wx z l d y =
-    spared j h (inserted-keeps place-aside m s x (spotted m names s hash key) (placed-link m names s hash key) .long)
-    (λ k. rw (placed-empty m names hash key h) (planting-spares m x left j refl l wx (capped h) k d))
+    spared j h (inserted-keeps place-aside m s x (spotted m names s hash key) (spotted-link m names s hash key) .long)
+    (λ k. rw (spotted-empty m names hash key h) (planting-spares m x left j refl l wx (capped h) k d))
 hung-spares (node c a i b) m names s x hash key j h v up none wx z l d y =
     let t : Tree = node c a i b in
-    let g = placed-in m names hash key c a i b h up none l in
-    spared j h (inserted-keeps place-aside m s x (spotted m names s hash key) (placed-link m names s hash key) .long)
+    let g = spotted-in m names hash key c a i b h up none l in
+    spared j h (inserted-keeps place-aside m s x (spotted m names s hash key) (spotted-link m names s hash key) .long)
     (λ k. rw (g .is)
     (joining-spares m x (g .slot) j (g .side) wx (omega (arith)) (omega (arith, g .stands)) (g .free) k d (omega (arith))
     (outcome-of t h v)))

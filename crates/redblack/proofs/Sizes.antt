@@ -18,7 +18,7 @@ use Rattle.redblack.specs.Sizes.{Sized, SizedTree}
 use Rattle.redblack.proofs.Frames.{count-plug, inward, whole}
 use Rattle.redblack.proofs.Whole.{reached, counted, open-at}
 use Rattle.redblack.proofs.Bridge.{sided, plain-sided, plain-count, sited, outcome-of}
-use Rattle.redblack.proofs.Placing.{placed-empty, placed-in}
+use Rattle.redblack.proofs.Spotting.{spotted-empty, spotted-in}
 use Rattle.redblack.proofs.Steady.{Steady, slot, steady-rotated, steady-insertionTurns, steady-deletion}
 use Rattle.redblack.proofs.Rounds.{sides}
 use Rattle.redblack.proofs.Stored.{sized-plain, plain-sized, sized-any}
@@ -70,11 +70,11 @@ pub hanging-tree : {n : ℕ} {s : Links} (t : Tree) (m : ℕ) (names : List ℕ)
 unfolding plug count countWay plain sided
 hanging-tree leaf m names x hash key h v z up none wx f l u k =
     back u k
-    (rw (placed-empty m names hash key h)
+    (rw (spotted-empty m names hash key h)
     (planting-sized m x left refl l wx (record { long = h .long; small = h .small }) (plain-sized Sided.bare z)))
 hanging-tree (node c a i b) m names x hash key h v z up none wx f l u k =
     let t : Tree = node c a i b in
-    let g = placed-in m names hash key c a i b h up none l in
+    let g = spotted-in m names hash key c a i b h up none l in
     let r = open-at (g .side) (g .slot) (g .stands) (g .free) (outcome-of t h v) in
     let y : Sided = fork (g .side) (r .colour) Sided.bare (g .slot) (r .far) in
     back u k

@@ -36,7 +36,7 @@ pub record Has (names : List ℕ) (t : Tree) (hash key : ℕ) : Type 0 where
 
 -- The second tree is the first with the slot x, red and childless, in the place of one of its null links.
 pub data Hung (x : ℕ) : Tree → Tree → Type 0 where
-  place : Hung x leaf (node red leaf x leaf)
+  onNull : Hung x leaf (node red leaf x leaf)
   onLeft : {c : Colour} {l m : Tree} {i : ℕ} {r : Tree} → Hung x l m → Hung x (node c l i r) (node c m i r)
   onRight : {c : Colour} {l : Tree} {i : ℕ} {r m : Tree} → Hung x r m → Hung x (node c l i r) (node c l i m)
 

@@ -1,7 +1,7 @@
 -- The place, the hooking and the balancing are those of `inserted`.
 use denote.Ref.{now}
 use Rattle.redblack.specs.Links.{lentLinks}
-use Rattle.links.proofs.Placing.{hang}
+use Rattle.links.proofs.Spotting.{hang}
 use borrow.Author.Needs.{needs}
 use Rattle.links.proofs.hang.hang_slot.Statement.{statement}
 use Rattle.links.proofs.hang.hang_slot.Tie as tie
@@ -14,7 +14,7 @@ returns c =
     let c4 = c3 .before .before in
     let a = c4 .before .before .before .before .before .args in
     hang (a .budget) (now (a .names)) (lentLinks (now (a .cells)) (a .root) (now (a .sizes))) (a .x) (a .hash) (a .key)
-    (c4 .place .ensures)
+    (c4 .find-spot .ensures)
     (c3 .hook .ensures)
     (c2 .weigh .ensures)
     (c1 .balance-insertion .ensures)

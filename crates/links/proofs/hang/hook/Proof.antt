@@ -1,6 +1,6 @@
 -- The four writes are those of `hooked`, under any root.
 use denote.Ref.{now}
-use Rattle.links.proofs.Placing.{hook}
+use Rattle.links.proofs.Spotting.{hook}
 use borrow.Author.Needs.{needs}
 use Rattle.links.proofs.hang.hook.Statement.{statement}
 use Rattle.links.proofs.hang.hook.Tie as tie

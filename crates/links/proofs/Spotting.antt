@@ -11,7 +11,7 @@ use Rattle.redblack.specs.Climbing.{weighedIn}
 use Rattle.redblack.specs.Insertion.{balancedInsertion}
 use Rattle.redblack.specs.Hanging.{Spot, spot, sideFor, descended, hooked, inserted, spotted}
 use Rattle.links.specs.Spots.{spotOf}
-use Rattle.links.specs.declared.place.Spot as code
+use Rattle.links.specs.declared.spot.Spot as code
 use Rattle.links.proofs.Walks.{Walk}
 
 -- The descent is a walk by the side where the pair belongs.

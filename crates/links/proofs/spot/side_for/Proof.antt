@@ -1,7 +1,7 @@
 -- The side is the one that the test of the order picks.
 use borrow.Author.Needs.{needs}
-use Rattle.links.proofs.place.side_for.Statement.{statement}
-use Rattle.links.proofs.place.side_for.Tie as tie
+use Rattle.links.proofs.spot.side_for.Statement.{statement}
+use Rattle.links.proofs.spot.side_for.Tie as tie
 
 returns : tie.Need-returns
 returns c =

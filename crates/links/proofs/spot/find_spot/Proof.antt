@@ -1,10 +1,10 @@
 -- `place` goes as `spotted` does, on each side of its test.
 use denote.Ref.{now}
 use Rattle.redblack.specs.Links.{lentLinks}
-use Rattle.links.proofs.Placing.{empty, full}
+use Rattle.links.proofs.Spotting.{empty, full}
 use borrow.Author.Needs.{needs}
-use Rattle.links.proofs.place.place.Statement.{statement}
-use Rattle.links.proofs.place.place.Tie as tie
+use Rattle.links.proofs.spot.find_spot.Statement.{statement}
+use Rattle.links.proofs.spot.find_spot.Tie as tie
 
 returns : tie.Need-returns
 returns c =
@@ -20,5 +20,5 @@ returns-2 c =
     (c1 .if1 .left)
     (c .descend .ensures)
 
-pub place-spec : {M : Type 1} → statement M
-place-spec = tie.close (tie.spec returns (λ c κs. search needs) returns-2)
+pub find-spot-spec : {M : Type 1} → statement M
+find-spot-spec = tie.close (tie.spec returns (λ c κs. search needs) returns-2)

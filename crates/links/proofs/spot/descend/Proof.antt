@@ -4,10 +4,10 @@ use Prim.Native.Nat.{_<_, _^_}
 use denote.Ref.{now}
 use borrow.Author.Needs.{needs}
 use Rattle.redblack.specs.Hanging.{descended}
-use Rattle.links.proofs.Placing.{descent}
+use Rattle.links.proofs.Spotting.{descent}
 use Rattle.links.proofs.Walks.{bottom, ended, down}
-use Rattle.links.proofs.place.descend.Statement.{statement}
-use Rattle.links.proofs.place.descend.Tie as tie
+use Rattle.links.proofs.spot.descend.Statement.{statement}
+use Rattle.links.proofs.spot.descend.Tie as tie
 
 abbrev Inv-loop : tie.InvT-loop
 Inv-loop names cells p hash key steps at₀ rest₀ at rest =

@@ -1,7 +1,7 @@
--- The search for a place keeps the pair between its neighbours: it goes left below a greater pair and right above a lesser one.
+-- The search for a spot keeps the pair between its neighbours: it goes left below a greater pair and right above a lesser one.
 -- So the slot where it ends is next to the pair in the order, and no way is longer than there are slots.
 -- Parts: the capacity bounds the depth; the order seen from a side, and the test of the search; rising lists, and the subtree on a side;
--- the gap next to a pair; one step of the search, and all of them; a pair put in at its gap keeps the list rising; the place that is found,
+-- the gap next to a pair; one step of the search, and all of them; a pair put in at its gap keeps the list rising; the spot that is found,
 -- and its side.
 use mathlib.Core.Path.{_≡_, refl, ap, _∙_, sym}
 use mathlib.Core.Logic.{_≢_, _⊎_, inl, inr}
@@ -396,8 +396,8 @@ gap-rising : {names l k : List ℕ} {x q : ℕ} (σ : Side) → Rising names l �
 gap-rising {x = x} {q} leftward h g b = rw (b .now) (put-left x q (b .before) (b .after) (rw (b .was) at h) (rw (b .was) at g))
 gap-rising {x = x} {q} rightward h g b = rw (b .now) (put-right x q (b .before) (b .after) (rw (b .was) at h) (rw (b .was) at g))
 
--- The place of a pair that no slot of a tree with slots l has: a null link next to which any slot of that pair may stand.
-pub record Place (names : List ℕ) (s : Links) (P : Pair) (l : List ℕ) (at : Spot) : Type 0 where
+-- The spot of a pair that no slot of a tree with slots l has: a null link next to which any slot of that pair may stand.
+pub record NextTo (names : List ℕ) (s : Links) (P : Pair) (l : List ℕ) (at : Spot) : Type 0 where
   pub slot : ℕ
   pub side : Side
   pub is : at ≡ spot slot (toward side)
@@ -405,8 +405,8 @@ pub record Place (names : List ℕ) (s : Links) (P : Pair) (l : List ℕ) (at : 
   pub free : read s slot (toward side) ≡ null
   pub rises : (x : ℕ) (k : List ℕ) → pairOf names x ≡ P → Beside side slot x l k → Rising names k
 
-place-of : {names l : List ℕ} {s : Links} {P : Pair} {at : Spot} → Rising names l → Ended names (s .cells) P l at → Place names s P l at
-place-of h f =
+spot-of : {names l : List ℕ} {s : Links} {P : Pair} {at : Spot} → Rising names l → Ended names (s .cells) P l at → NextTo names s P l at
+spot-of h f =
     record {
       slot = f .slot;
       side = f .side;
@@ -416,27 +416,27 @@ place-of h f =
       rises = λ x k e b. gap-rising (f .side) h (rw e (f .gap)) b;
     }
 
-pub placed-empty : {n : ℕ} {s : Links} (steps : ℕ) (names : List ℕ) (hash key : ℕ) → Holds n s leaf
+pub spotted-empty : {n : ℕ} {s : Links} (steps : ℕ) (names : List ℕ) (hash key : ℕ) → Holds n s leaf
     → spotted steps names s hash key ≡ spot null left
 unfolding spotted
-placed-empty steps names hash key h = rw (h .rooted .from)
+spotted-empty steps names hash key h = rw (h .rooted .from)
 
-placed-on : (steps : ℕ) (names : List ℕ) (s : Links) (hash key r : ℕ) → s .root ≡ r → r ≢ null
+spotted-on : (steps : ℕ) (names : List ℕ) (s : Links) (hash key r : ℕ) → s .root ≡ r → r ≢ null
     → spotted steps names s hash key ≡ descended names (s .cells) steps r hash key
 unfolding spotted
-placed-on steps names s hash key r e d = rw (e, ne-eqb r null d)
+spotted-on steps names s hash key r e d = rw (e, ne-eqb r null d)
 
-pub placed-in : {n : ℕ} {s : Links} (steps : ℕ) (names : List ℕ) (hash key : ℕ) (c : Colour) (l : Tree) (i : ℕ) (r : Tree)
+pub spotted-in : {n : ℕ} {s : Links} (steps : ℕ) (names : List ℕ) (hash key : ℕ) (c : Colour) (l : Tree) (i : ℕ) (r : Tree)
     → Holds n s (node c l i r) → Rising names (slots (node c l i r)) → (Has names (node c l i r) hash key → ⊥) → n ≤ steps
-    → Place names s (pair hash key) (slots (node c l i r)) (spotted steps names s hash key)
-placed-in {s = s} steps names hash key c l i r h rises none m =
+    → NextTo names s (pair hash key) (slots (node c l i r)) (spotted steps names s hash key)
+spotted-in {s = s} steps names hash key c l i r h rises none m =
     let t : Tree = node c l i r in
-    rw (placed-on steps names s hash key i (h .rooted .from) (omega (arith, inside-of (h .rooted .hangs), h .small)))
-    (place-of rises
+    rw (spotted-on steps names s hash key i (h .rooted .from) (omega (arith, inside-of (h .rooted .hangs), h .small)))
+    (spot-of rises
     (descent names (s .cells) hash key t steps (h .rooted .hangs) (h .small) rises
     (λ j u e. none (record { slot = j; stands = u; named = e })) (omega (arith, depth-cap t h)) (node-deep c l i r)))
 
--- The side of a place is a link, whatever the words.
+-- The side of a spot is a link, whatever the words.
 side-link : (b : Bool) → Link (pick b left right)
 side-link true = on leftward
 side-link false = on rightward
@@ -454,8 +454,8 @@ descended-link names cells (suc steps) p hash key =
     pick-link (eqb q null) (spot p f) (descended names cells steps q hash key)
     (side-link (before hash key (nameOf names p hashPart) (nameOf names p keyPart))) (descended-link names cells steps q hash key)
 
-pub placed-link : (steps : ℕ) (names : List ℕ) (s : Links) (hash key : ℕ) → Link (spotted steps names s hash key .side)
+pub spotted-link : (steps : ℕ) (names : List ℕ) (s : Links) (hash key : ℕ) → Link (spotted steps names s hash key .side)
 unfolding spotted
-placed-link steps names s hash key =
+spotted-link steps names s hash key =
     pick-link (eqb (s .root) null) (spot null left) (descended names (s .cells) steps (s .root) hash key) (on leftward)
     (descended-link names (s .cells) steps (s .root) hash key)

@@ -59,7 +59,7 @@ fn descend(names: &[u64], cells: &[u32], p: u32, hash: u64, key: u64, steps: u32
 }
 
 // The spot where the order says that the pair hangs: under no slot where the tree is empty.
-pub(crate) fn place(
+pub(crate) fn find_spot(
     names: &[u64],
     cells: &[u32],
     root: u32,
