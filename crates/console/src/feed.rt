@@ -1,14 +1,16 @@
 // Chunks of input in, answers out. What is kept between two calls is the line that has come so far.
 use crate::answer::obey;
+use crate::read::Command;
 use crate::read::meaning;
 ghost use mathlib.Core.Path.{_≡_};
 ghost use Prim.Native.Nat.{_≤_};
 ghost use lib.ListN.{length, replicate, take};
 ghost use Rattle.index_rules.specs.Index.{lent};
 ghost use Rattle.script_rules.specs.Commands.{spoken};
-ghost use Rattle.script_rules.specs.Feeding.{Line as Held, blankLine, performed, heldOf, noted, fedByte, feeds, finishes};
-ghost use Rattle.script_rules.specs.Feeding.{lentPaper, lentTurn, lentDesk};
+ghost use Rattle.script_rules.specs.Feeding.{Line as Held, blankLine, heldOf, noted, fedByte, feeds, finishes};
+ghost use Rattle.script_rules.specs.Feeding.{lentDesk};
 ghost use Rattle.console.specs.Meanings.{heldLine, fedOf};
+ghost use Rattle.console.specs.Phrases.{commandOf};
 
 // No answer is longer: 4,096 entries of at most 63 bytes, and the line before them.
 pub const LONGEST: usize = 262144;
@@ -57,77 +59,22 @@ fn note(line: Line, b: u8) -> Line
     }
 }
 
-// Answers a whole line.
-fn reply(
-    line: &[u8],
-    names: &mut [u64],
-    cells: &mut [u32],
-    head: &mut [u32],
-    sizes: &mut [u32],
-    lines: &mut [u64],
-    out: &mut [u8],
-    at: usize,
-) -> usize
-    ensures { λ r. ⌜ lentTurn (now (names .exit)) (now (cells .exit)) (now (head .exit)) (now (sizes .exit)) (now (lines .exit))
-        (now (out .exit)) r
-        ≡ performed (lent (now (names .entry)) (now (cells .entry)) (now (head .entry)) (now (sizes .entry)) (now (lines .entry)))
-        (lentPaper (now (out .entry)) at) (spoken (now (line .entry))) ⌝ }
-{
-    let command = meaning(line);
-    obey(command, names, cells, head, sizes, lines, out, at)
-}
-
-// Answers the first bytes of those that were kept.
-fn reply_first(
-    bytes: &[u8],
-    count: usize,
-    names: &mut [u64],
-    cells: &mut [u32],
-    head: &mut [u32],
-    sizes: &mut [u32],
-    lines: &mut [u64],
-    out: &mut [u8],
-    at: usize,
-) -> usize
-    ensures { λ r. ⌜ lentTurn (now (names .exit)) (now (cells .exit)) (now (head .exit)) (now (sizes .exit)) (now (lines .exit))
-        (now (out .exit)) r
-        ≡ performed (lent (now (names .entry)) (now (cells .entry)) (now (head .entry)) (now (sizes .entry)) (now (lines .entry)))
-        (lentPaper (now (out .entry)) at) (spoken (take count (now (bytes .entry)))) ⌝ }
+// What the first bytes of those that were kept mean.
+fn first_meaning(bytes: &[u8], count: usize) -> Command
+    ensures { λ r. ⌜ commandOf r ≡ spoken (take count (now (bytes .entry))) ⌝ }
 {
     if bytes.len() <= count {
-        return reply(bytes, names, cells, head, sizes, lines, out, at);
+        return meaning(bytes);
     }
-    reply(&bytes[..count], names, cells, head, sizes, lines, out, at)
+    meaning(&bytes[..count])
 }
 
-// Answers the line that was kept.
-fn reply_kept(
-    line: Line,
-    names: &mut [u64],
-    cells: &mut [u32],
-    head: &mut [u32],
-    sizes: &mut [u32],
-    lines: &mut [u64],
-    out: &mut [u8],
-    at: usize,
-) -> usize
-    ensures { λ r. ⌜ lentTurn (now (names .exit)) (now (cells .exit)) (now (head .exit)) (now (sizes .exit)) (now (lines .exit))
-        (now (out .exit)) r
-        ≡ performed (lent (now (names .entry)) (now (cells .entry)) (now (head .entry)) (now (sizes .entry)) (now (lines .entry)))
-        (lentPaper (now (out .entry)) at) (spoken (heldOf (heldLine line))) ⌝ }
+// What the line that was kept means.
+fn kept_meaning(line: Line) -> Command
+    ensures { λ r. ⌜ commandOf r ≡ spoken (heldOf (heldLine line)) ⌝ }
 {
     let bytes = line.bytes;
-    reply_first(
-        &bytes,
-        line.count,
-        names,
-        cells,
-        head,
-        sizes,
-        lines,
-        out,
-        at,
-    )
+    first_meaning(&bytes, line.count)
 }
 
 // What one byte comes to: the line, and where the next byte of the buffer goes.
@@ -153,7 +100,8 @@ fn take_byte(
         (now (lines .entry)) (now (out .entry)) at) b ⌝ }
 {
     if b == b'\n' {
-        let end = reply_kept(line, names, cells, head, sizes, lines, out, at);
+        let command = kept_meaning(line);
+        let end = obey(command, names, cells, head, sizes, lines, out, at);
         let next = blank();
         return Step {
             line: next,
@@ -260,7 +208,8 @@ pub fn finish(
             written: 0,
         };
     }
-    let written = reply_kept(line, names, cells, head, sizes, lines, out, 0);
+    let command = kept_meaning(line);
+    let written = obey(command, names, cells, head, sizes, lines, out, 0);
     let next = blank();
     Fed {
         number: 0,
