@@ -143,82 +143,87 @@ record Deep (n : ℕ) (s u : Links) (τ : Side) (p t q r a b w : ℕ) : Type 0 w
   ups : (i : ℕ) → i ≢ p → i ≢ t → i ≢ a → i ≢ b → i ≢ r → read u i parent ≡ read s i parent
   along : (i : ℕ) → i ≢ p → i ≢ t → i ≢ q → (f : ℕ) → ltb f fields ≡ true → eqb parent f ≡ false → read u i f ≡ read s i f
 
-module _ {n : ℕ} {s : Links} (k : Cap n s) (p t a b w : ℕ) (wp : p < n) (wt : t < n) (pt : p ≢ t) (pa : p ≢ a) (pb : p ≢ b) (ta : t ≢ a)
-    (tb : t ≢ b) (ab : a < n → a ≢ b) where
+-- No slot is two of p, t, a and b, nor x and one of them.
+abbrev Alone : ℕ → ℕ → ℕ → ℕ → ℕ → ℕ → Type 0
+Alone n p t a b x = (i : ℕ) → i < n → hit i x + (hit i p + hit i t + hit i a + hit i b) ≤ 1
+
+abbrev Apart : ℕ → ℕ → ℕ → ℕ → ℕ → Type 0
+Apart n p t a b = (i : ℕ) → i < n → hit i p + hit i t + hit i a + hit i b ≤ 1
+
+module _ {n : ℕ} {s : Links} (k : Cap n s) (p t a b w : ℕ) (wp : p < n) (wt : t < n) (o : Apart n p t a b) where
   traded-next : Traded n s (next s p t a b w) p t t p a b w
-  unfolding next linked
+  unfolding next linked flip
   traded-next =
       let hp : roomy fields (s .cells) p ≡ true = roomy-cap p k wp in
       let ht : roomy fields (s .cells) t ≡ true = roomy-cap t k wt in
-      let tp : t ≢ p = flip pt in
-      let a≢p : a ≢ p = flip pa in
-      let b≢p : b ≢ p = flip pb in
-      let a≢t : a ≢ t = flip ta in
-      let b≢t : b ≢ t = flip tb in
+      let pt : p ≢ t = apart (omega (arith, o p wp, hit-same p)) in
+      let pa : p ≢ a = apart (omega (arith, o p wp, hit-same p)) in
+      let pb : p ≢ b = apart (omega (arith, o p wp, hit-same p)) in
+      let ta : t ≢ a = apart (omega (arith, o t wt, hit-same t)) in
+      let tb : t ≢ b = apart (omega (arith, o t wt, hit-same t)) in
       record {
         cap = recap k (simp length-write);
         root = refl;
-        p-up = simp (reads, hp);
-        p-left = simp (reads, hp);
-        p-right = simp (reads, hp);
-        p-hue = simp reads;
-        t-up = simp (reads, ht);
-        t-left = simp (reads, ht);
-        t-right = simp (reads, ht);
-        t-hue = simp reads;
-        a-moved = λ l. (let v : a ≢ b = ab l in record { up = simp (reads, roomy-cap a k l); same = λ f g e. simp reads });
-        b-moved = λ l. record { up = simp (reads, roomy-cap b k l); same = λ f g e. simp reads };
+        p-up = simp (reads, flip, hp);
+        p-left = simp (reads, flip, hp);
+        p-right = simp (reads, flip, hp);
+        p-hue = simp (reads, flip);
+        t-up = simp (reads, flip, ht);
+        t-left = simp (reads, flip, ht);
+        t-right = simp (reads, flip, ht);
+        t-hue = simp (reads, flip);
+        a-moved = λ l. (let v : a ≢ b = apart (omega (arith, o a l, hit-same a)) in record { up = simp (reads, flip, roomy-cap a k l); same = λ f g e. simp (reads, flip) });
+        b-moved = λ l. record { up = simp (reads, flip, roomy-cap b k l); same = λ f g e. simp (reads, flip) };
       }
 
   next-rest : (i : ℕ) → i ≢ p → i ≢ t → i ≢ a → i ≢ b → Agree s (next s p t a b w) i
-  unfolding next linked
-  next-rest i d e f g = record { same = λ h l. simp reads }
+  unfolding next linked flip
+  next-rest i d e f g = record { same = λ h l. simp (reads, flip) }
 
-  deep-all : (τ : Side) (q r : ℕ) (wq : q < n) (wr : r < n) (pq : p ≢ q) (pr : p ≢ r) (tq : t ≢ q) (tr : t ≢ r) (qa : q ≢ a) (ra : r ≢ a)
-      (qb : q ≢ b) (rb : r ≢ b)
+  deep-all : (τ : Side) (q r : ℕ) (wq : q < n) (wr : r < n) → Alone n p t a b q → Alone n p t a b r
       → Deep n s (deep s p t a b w τ q r) τ p t q r a b w
-  unfolding deep linked
-  deep-all τ q r wq wr pq pr tq tr qa ra qb rb =
+  unfolding deep linked flip
+  deep-all τ q r wq wr oq or =
       let hp : roomy fields (s .cells) p ≡ true = roomy-cap p k wp in
       let ht : roomy fields (s .cells) t ≡ true = roomy-cap t k wt in
+      let pt : p ≢ t = apart (omega (arith, o p wp, hit-same p)) in
+      let pa : p ≢ a = apart (omega (arith, o p wp, hit-same p)) in
+      let pb : p ≢ b = apart (omega (arith, o p wp, hit-same p)) in
+      let ta : t ≢ a = apart (omega (arith, o t wt, hit-same t)) in
+      let tb : t ≢ b = apart (omega (arith, o t wt, hit-same t)) in
       let hq : roomy fields (s .cells) q ≡ true = roomy-cap q k wq in
       let hr : roomy fields (s .cells) r ≡ true = roomy-cap r k wr in
-      let tp : t ≢ p = flip pt in
-      let a≢p : a ≢ p = flip pa in
-      let b≢p : b ≢ p = flip pb in
-      let a≢t : a ≢ t = flip ta in
-      let b≢t : b ≢ t = flip tb in
-      let q≢p : q ≢ p = flip pq in
-      let r≢p : r ≢ p = flip pr in
-      let q≢t : q ≢ t = flip tq in
-      let r≢t : r ≢ t = flip tr in
-      let a≢q : a ≢ q = flip qa in
-      let a≢r : a ≢ r = flip ra in
-      let b≢q : b ≢ q = flip qb in
-      let b≢r : b ≢ r = flip rb in
+      let qp : q ≢ p = apart (omega (arith, oq q wq, hit-same q)) in
+      let qt : q ≢ t = apart (omega (arith, oq q wq, hit-same q)) in
+      let qa : q ≢ a = apart (omega (arith, oq q wq, hit-same q)) in
+      let qb : q ≢ b = apart (omega (arith, oq q wq, hit-same q)) in
+      let rp : r ≢ p = apart (omega (arith, or r wr, hit-same r)) in
+      let rt : r ≢ t = apart (omega (arith, or r wr, hit-same r)) in
+      let ra : r ≢ a = apart (omega (arith, or r wr, hit-same r)) in
+      let rb : r ≢ b = apart (omega (arith, or r wr, hit-same r)) in
       let T : Traded n s (deep s p t a b w τ q r) p t q r a b w =
       record {
         cap = recap k (simp length-write);
         root = refl;
-        p-up = simp (reads, hp);
-        p-left = simp (reads, hp);
-        p-right = simp (reads, hp);
-        p-hue = simp reads;
-        t-up = simp (reads, ht);
-        t-left = simp (reads, ht);
-        t-right = simp (reads, ht);
-        t-hue = simp reads;
-        a-moved = λ l. (let v : a ≢ b = ab l in record { up = simp (reads, roomy-cap a k l); same = λ f g e. simp reads });
-        b-moved = λ l. record { up = simp (reads, roomy-cap b k l); same = λ f g e. simp reads };
+        p-up = simp (reads, flip, hp);
+        p-left = simp (reads, flip, hp);
+        p-right = simp (reads, flip, hp);
+        p-hue = simp (reads, flip);
+        t-up = simp (reads, flip, ht);
+        t-left = simp (reads, flip, ht);
+        t-right = simp (reads, flip, ht);
+        t-hue = simp (reads, flip);
+        a-moved = λ l. (let v : a ≢ b = apart (omega (arith, o a l, hit-same a)) in record { up = simp (reads, flip, roomy-cap a k l); same = λ f g e. simp (reads, flip) });
+        b-moved = λ l. record { up = simp (reads, flip, roomy-cap b k l); same = λ f g e. simp (reads, flip) };
       } in
       record {
         ends = T;
-        rest = λ i d e f g h j. record { same = λ o l. simp reads };
-        r-up = simp (reads, hr);
-        q-this = simp (reads, hq);
-        q-same = λ f l d e. simp reads;
-        ups = λ i d e f g h. simp reads;
-        along = λ i d e f g l h. simp reads;
+        rest = λ i d e f g h j. record { same = λ o l. simp (reads, flip) };
+        r-up = simp (reads, flip, hr);
+        q-this = simp (reads, flip, hq);
+        q-same = λ f l d e. simp (reads, flip);
+        ups = λ i d e f g h. simp (reads, flip);
+        along = λ i d e f g l h. simp (reads, flip);
       }
 
 -- The parts of the tree around p and t in the links v, where t has p's place at the end of C.
@@ -283,21 +288,14 @@ next-site {n} {s} {cp} {ct} {pl} {tr} {C} {p} {t} h =
     let kp = way-cell (h .way) in
     let kt = cell-of (h .tree) in
     let small = h .cap .small in
-    let lp : p < null = omega (arith, kp .inside, small) in
-    let lt : t < null = omega (arith, kt .inside, small) in
     let o : (k : ℕ) → hit k p + count k pl + countWay k C + hit k t + count k tr ≤ 1 = λ k. omega (arith, h .once k) in
-    let pt : p ≢ t = apart (omega (arith, o p, hit-same p)) in
-    let pa : p ≢ top tr = apart (omega (arith, o p, hit-same p, count-top p tr lp)) in
-    let pb : p ≢ top pl = apart (omega (arith, o p, hit-same p, count-top p pl lp)) in
-    let ta : t ≢ top tr = apart (omega (arith, o t, hit-same t, count-top t tr lt)) in
-    let tb : t ≢ top pl = apart (omega (arith, o t, hit-same t, count-top t pl lt)) in
-    let ab : top tr < n → top tr ≢ top pl =
-    λ l. apart (omega (arith, o (top tr), top-count tr (omega (arith, small)), count-top (top tr) pl (omega (arith, small)))) in
+    let four : Apart n p t (top tr) (top pl) =
+    λ i l. omega (arith, o i, count-top i tr (omega (arith, small)), count-top i pl (omega (arith, small))) in
     let u = next s p t (top tr) (top pl) (upper C) in
     let T : Traded n s u p t t p (top tr) (top pl) (upper C) =
-    traded-next (h .cap) p t (top tr) (top pl) (upper C) (kp .inside) (kt .inside) pt pa pb ta tb ab in
+    traded-next (h .cap) p t (top tr) (top pl) (upper C) (kp .inside) (kt .inside) four in
     let off : (i : ℕ) → i ≢ p → i ≢ t → i ≢ top tr → i ≢ top pl → Agree s u i =
-    next-rest (h .cap) p t (top tr) (top pl) (upper C) (kp .inside) (kt .inside) pt pa pb ta tb ab in
+    next-rest (h .cap) p t (top tr) (top pl) (upper C) (kp .inside) (kt .inside) four in
     let end : (i : ℕ) → 1 ≤ countWay i C → i < n → Agree s u i =
     λ i z l. off i (apart (omega (arith, o i))) (apart (omega (arith, o i)))
     (apart (omega (arith, o i, count-top i tr (omega (arith, small)))))
@@ -329,29 +327,17 @@ deep-site {n} {s} {τ} {c} {ct} {tr} {y} {q} {t} cp p pl C D h =
     let small = h .cap .small in
     let r : ℕ = crest q D in
     let wr : r < n = crest-inside D E (kq .inside) (way-on (h .way)) in
-    let lp : p < null = omega (arith, kp .inside, small) in
-    let lt : t < null = omega (arith, kt .inside, small) in
-    let lq : q < null = omega (arith, kq .inside, small) in
-    let lr : r < null = omega (arith, wr, small) in
     let O : (k : ℕ) → hit k q + count k y + countWay k D + (hit k p + count k pl + countWay k C) + hit k t + count k tr ≤ 1 =
     λ k. omega (arith, h .once k, countWay-append k D E) in
     let Z : (k : ℕ) → hit k r ≤ hit k q + countWay k D = λ k. crest-count k q D in
     let o : (k : ℕ) → hit k p + count k pl + countWay k C + hit k t + count k tr ≤ 1 = λ k. omega (arith, O k) in
-    let pt : p ≢ t = apart (omega (arith, O p, hit-same p)) in
-    let pa : p ≢ top tr = apart (omega (arith, O p, hit-same p, count-top p tr lp)) in
-    let pb : p ≢ top pl = apart (omega (arith, O p, hit-same p, count-top p pl lp)) in
-    let ta : t ≢ top tr = apart (omega (arith, O t, hit-same t, count-top t tr lt)) in
-    let tb : t ≢ top pl = apart (omega (arith, O t, hit-same t, count-top t pl lt)) in
-    let ab : top tr < n → top tr ≢ top pl =
-    λ l. apart (omega (arith, O (top tr), top-count tr (omega (arith, small)), count-top (top tr) pl (omega (arith, small)))) in
+    let alone : (i : ℕ) → i < n → hit i q + countWay i D + (hit i p + hit i t + hit i (top tr) + hit i (top pl)) ≤ 1 =
+    λ i l. omega (arith, O i, count-top i tr (omega (arith, small)), count-top i pl (omega (arith, small))) in
     let u = deep s p t (top tr) (top pl) (upper C) τ q r in
     let v = replaced u (upper C) p t in
     let K : Deep n s u τ p t q r (top tr) (top pl) (upper C) =
-    deep-all (h .cap) p t (top tr) (top pl) (upper C) (kp .inside) (kt .inside) pt pa pb ta tb ab τ q r (kq .inside) wr
-    (apart (omega (arith, O p, hit-same p))) (apart (omega (arith, O p, hit-same p, Z p))) (apart (omega (arith, O t, hit-same t)))
-    (apart (omega (arith, O t, hit-same t, Z t)))
-    (apart (omega (arith, O q, hit-same q, count-top q tr lq))) (apart (omega (arith, O r, hit-same r, Z r, count-top r tr lr)))
-    (apart (omega (arith, O q, hit-same q, count-top q pl lq))) (apart (omega (arith, O r, hit-same r, Z r, count-top r pl lr))) in
+    deep-all (h .cap) p t (top tr) (top pl) (upper C) (kp .inside) (kt .inside) (λ i l. omega (arith, alone i l)) τ q r (kq .inside) wr
+    (λ i l. omega (arith, alone i l)) (λ i l. omega (arith, alone i l, Z i)) in
     let T = K .ends in
     let off : (i : ℕ) → i < n → hit i p + hit i t + hit i q + countWay i D ≡ 0 → i ≢ top tr → i ≢ top pl → Agree s u i =
     λ i l z e f. K .rest i (apart (omega arith)) (apart (omega arith)) e f (apart (omega arith)) (apart (omega (arith, Z i))) in
