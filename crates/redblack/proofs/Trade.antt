@@ -172,7 +172,8 @@ module _ {n : ℕ} {s : Links} (k : Cap n s) (p t a b w : ℕ) (wp : p < n) (wt 
         t-left = simp (reads, flip, ht);
         t-right = simp (reads, flip, ht);
         t-hue = simp (reads, flip);
-        a-moved = λ l. (let v : a ≢ b = apart (omega (arith, o a l, hit-same a)) in record { up = simp (reads, flip, roomy-cap a k l); same = λ f g e. simp (reads, flip) });
+        a-moved = λ l. (let v : a ≢ b = apart (omega (arith, o a l, hit-same a)) in
+            record { up = simp (reads, flip, roomy-cap a k l); same = λ f g e. simp (reads, flip) });
         b-moved = λ l. record { up = simp (reads, flip, roomy-cap b k l); same = λ f g e. simp (reads, flip) };
       }
 
@@ -213,7 +214,8 @@ module _ {n : ℕ} {s : Links} (k : Cap n s) (p t a b w : ℕ) (wp : p < n) (wt 
         t-left = simp (reads, flip, ht);
         t-right = simp (reads, flip, ht);
         t-hue = simp (reads, flip);
-        a-moved = λ l. (let v : a ≢ b = apart (omega (arith, o a l, hit-same a)) in record { up = simp (reads, flip, roomy-cap a k l); same = λ f g e. simp (reads, flip) });
+        a-moved = λ l. (let v : a ≢ b = apart (omega (arith, o a l, hit-same a)) in
+            record { up = simp (reads, flip, roomy-cap a k l); same = λ f g e. simp (reads, flip) });
         b-moved = λ l. record { up = simp (reads, flip, roomy-cap b k l); same = λ f g e. simp (reads, flip) };
       } in
       record {
