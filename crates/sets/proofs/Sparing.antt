@@ -27,7 +27,8 @@ module _ (names cells : List ℕ) (few : slotsOf names ≤ null) (len i x v : �
         go none p = sym p
         go (some r) p =
             let w = list-walked (listsOf names cells) few len i v x r p in
-            refuted (e ∙ walked-list (listsOf names cells) few len i (slotsOf names) (w .ends) (w .apart) (w .plain) (w .home) (few-slots w))
+            refuted
+            (e ∙ walked-list (listsOf names cells) few len i (slotsOf names) (w .ends) (w .apart) (w .plain) (w .home) (few-slots w))
 
     pub spare-left : {r : ℕ} → some r ≡ listFine (slotsOf names) names cells len i x
         → (r ≤ slotsOf names) × (some (r + (v - slotsOf names)) ≡ listFine v names cells len i x)

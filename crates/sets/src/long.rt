@@ -85,9 +85,9 @@ fn by_tree(names: &[u64], cells: &[u32], bins: u32, i: u32, first: u32, visits: 
     Rest::Left(left)
 }
 
-// The visits left after the list from first, or that it goes wrong. No list has more slots than there are, so that more visits than slots
-// come to so many more that are left. Acceptance never has them; but a function that calls itself the compiler puts into no caller, and
-// into it no callee with so many words of its own. Else those of by_tree would stand in the frame of every bin.
+// The visits left after the list from first, or that it goes wrong. No list has more slots than there are, so that visits beyond their
+// number are left. Acceptance never has any; but a function that calls itself is put into no caller by the compiler, and no callee with so
+// many words of its own is put into it. Else those of by_tree would stand in the frame of every bin.
 pub(crate) fn list_fine(
     names: &[u64],
     cells: &[u32],

@@ -1,15 +1,11 @@
 -- Each way out is a law of the model: a short list, one of more visits than slots, a long one. The visits fall with the call.
-use mathlib.Core.Path.{_≡_, sym, ap, _∙_}
+use mathlib.Core.Path.{sym, ap, _∙_}
 use denote.Ref.{now}
-use Prim.Native.Nat.{ℕ, _+_, _-_, _/_, _<_, _≤_}
+use Prim.Native.Nat.{ℕ, _<_}
 use native.Mathlib.Omega.{arith}
-use lib.ListN.{length}
 use borrow.Author.Needs.{needs}
 use borrow.Author.Tests.{ltb-false}
-use Rattle.slots.specs.Answers.{some}
-use Rattle.slots.specs.Words.{mostNames}
 use Rattle.tree.specs.Rules.{restOf}
-use Rattle.set_rules.specs.Accepting.{listFine}
 use Rattle.sets.proofs.Hanging.{small}
 use Rattle.sets.proofs.Sparing.{spare-wrong, spare-left}
 use borrow.Fn.Kinds.{In}
