@@ -618,7 +618,7 @@ fn main() {
     });
     row(&format!("a whole walk from table 0, for each of {n} entries"), ours, Some(source), Some(btree));
     accept_row(&format!("acceptance of that set (BTreeMap: one walk of {n})"), times, &set);
-    // Where acceptance has the most to do: each slot of a list is compared with those after it, and each bin has a tree of its own.
+    // Where acceptance has the most to do: the slots of a long list are hung in a tree, and each bin has a tree of its own.
     accept_row("acceptance of 4096 slots in one list", 1, &sets::one_list(&mut rng, 4096));
     accept_row("acceptance of 4096 bins, each a tree of one slot", times, &sets::lone_trees(&mut rng, 4096));
 }

@@ -128,14 +128,14 @@ module _ {a : Answer} {looks : ℕ} (r : Found) (e : searchedOf r ≡ withLooks 
       go (Lost k) z f = omega (arith, number f)
 
 -- The set that has these slots and nothing else: the laws of lists are said of a set.
-abbrev listsOf : List ℕ → List ℕ → Set
+abbrev pub listsOf : List ℕ → List ℕ → Set
 listsOf names cells = record { lengths = []; bins = []; heads = []; names = names; cells = cells }
 
 module _ (names : List ℕ) (few : length names ≤ mostNames) where
   most : slotsOf names ≤ mostSlots
   most = omega arith
 
-  small : slotsOf names ≤ null
+  pub small : slotsOf names ≤ null
   small = omega (arith, most)
 
 module _ (names cells : List ℕ) (len i first visits : ℕ) where

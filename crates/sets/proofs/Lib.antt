@@ -3,6 +3,7 @@ pub mod Sized
 pub mod Binning
 pub mod Steps
 pub mod Hanging
+pub mod Sparing
 pub mod Judging
 pub mod Looking
 pub mod OneLookup

@@ -9,12 +9,12 @@ use native.Mathlib.Omega.{arith}
 use lib.ListN.{getD}
 use lib.Dec.{ltb}
 use borrow.Author.Tests.{eq-eqb, ne-eqb, ltb-true}
-use Rattle.slots.specs.Words.{null, pick, left, right, next, cell, _and_}
+use Rattle.slots.specs.Words.{null, pick, left, right, next, cell, mostSlots, _and_}
 use Rattle.slots.specs.Answers.{Value, none, some}
 use Rattle.tree_rules.specs.Rules.{then}
 use Rattle.tree_rules.specs.Find.{slotsOf}
 use Rattle.index_rules.proofs.Fit.{both}
-use Rattle.set_rules.specs.Words.{Set, fits, tablesOf, lengthAt, Bin, empty, moved, bad, list, tree, binAt}
+use Rattle.set_rules.specs.Words.{Set, fits, tablesOf, lengthAt, headersIn, binsBefore, Bin, empty, moved, bad, list, tree, binOf, binAt}
 use Rattle.set_rules.specs.Accepting.{isHome, isListSlot, samePair, unlike, listSlotFine, listFine, isOwn, chainOwn, treeHome, isBlank}
 use Rattle.set_rules.specs.Accepting.{filled, namesHeader}
 use Rattle.set_rules.specs.Accepting.{treeFine, wellPlaced, ownFine, isMoved, binAsks, binFine, belowFine, tableFine}
@@ -22,15 +22,31 @@ use Rattle.set_rules.proofs.Fit.{fits-fit, length-bound}
 use Rattle.set_rules.proofs.Forest.{row-found}
 use Rattle.sets.specs.Room.{Room}
 use Rattle.sets.specs.Lists.{slotHome, runsOver}
+use Rattle.sets.proofs.Sized.{begins-on, begins-most}
 
 -- The numbers of the recursion stay within their words.
-pub room-near : {lengths : List ℕ} {left k i : ℕ} → Room lengths left k i → left ≢ 0 → Room lengths (left - 1) (k + 1) i
-room-near r d = record { tables = omega (arith, r .tables); index = omega (arith, r .index); lengths-most = r .lengths-most }
+module _ {lengths : List ℕ} {left k from i : ℕ} (r : Room lengths left k from i) where
+  pub room-from : from ≤ mostSlots * k
+  room-from = omega (arith, r .begins, begins-most mostSlots lengths (r .lengths-most) k)
 
-pub room-far : {lengths : List ℕ} {left k i len : ℕ} → Room lengths left k i → left ≢ 0 → len ≡ getD lengths k 0
-    → Room lengths (left - 1) (k + 1) (i + len)
-room-far {k = k} r d e =
-    record { tables = omega (arith, r .tables); index = omega (arith, r .index, r .lengths-most k); lengths-most = r .lengths-most }
+  module _ (d : left ≢ 0) {len next : ℕ} (e : len ≡ getD lengths k 0) (f : next ≡ from + len) where
+    pub room-near : Room lengths (left - 1) (k + 1) next i
+    room-near =
+        record {
+          tables = omega (arith, r .tables);
+          begins = omega (arith, r .begins, begins-on lengths k);
+          index = omega (arith, r .index);
+          lengths-most = r .lengths-most;
+        }
+
+    pub room-far : Room lengths (left - 1) (k + 1) next (i + len)
+    room-far =
+        record {
+          tables = omega (arith, r .tables);
+          begins = omega (arith, r .begins, begins-on lengths k);
+          index = omega (arith, r .index, r .lengths-most k);
+          lengths-most = r .lengths-most;
+        }
 
 module _ (names cells : List ℕ) (x y : ℕ) where
   pub unlike-null : (v : ℕ) → y ≡ null → true ≡ unlike v names cells x y
@@ -231,6 +247,12 @@ module _ (s : Set) where
   own-same len i (tree h) v = refl
   own-same len i bad v = refl
 
+  -- The bin is read where its table begins.
+  pub bin-read : {left k from i : ℕ} → Room (s .lengths) left k from i → {b : Bin}
+      → b ≡ binOf (slotsOf (s .names)) (headersIn s) (getD (s .bins) (from + i) 0)
+      → b ≡ binAt s k i
+  bin-read r e = rw (← r .begins) e
+
   module _ (left k i : ℕ) (may : Bool) (v : ℕ) {b : Bin} (e : b ≡ binAt s k i) {stands : Bool} (f : stands ≡ wellPlaced b may left) where
     pub bin-misplaced : stands ≡ false → none ≡ binFine left s k i may v
     unfolding binFine binAsks
@@ -270,7 +292,13 @@ module _ (s : Set) where
     pub table-within : (i v rest : ℕ) → tableFine i s v ≡ some rest → rest ≤ v
     table-within i v rest e = let r = row-found (fits-fit s fine) i v rest e in omega (arith, r .2)
 
-    pub room-first : (i : ℕ) → i ≤ lengthAt s 0 → Room (s .lengths) (tablesOf s - 1) 0 (i - 1)
+    pub room-first : (i : ℕ) → i ≤ lengthAt s 0 → Room (s .lengths) (tablesOf s - 1) 0 0 (i - 1)
+    unfolding binsBefore
     room-first i b =
         let fit = fits-fit s fine in
-        record { tables = omega (arith, fit .most); index = omega (arith, length-bound fit 0); lengths-most = length-bound fit }
+        record {
+          tables = omega (arith, fit .most);
+          begins = refl;
+          index = omega (arith, length-bound fit 0);
+          lengths-most = length-bound fit;
+        }

@@ -38,7 +38,19 @@ fn table_fine(
     let mut rest = visits;
     while 0 < i {
         i -= 1;
-        let walk = bin_fine(lengths, bins, heads, names, cells, left, 0, i, true, rest);
+        let walk = bin_fine(
+            lengths,
+            bins,
+            heads,
+            names,
+            cells,
+            left,
+            0,
+            0,
+            i,
+            true,
+            rest,
+        );
         let Rest::Left(next) = walk else {
             return Rest::Wrong;
         };

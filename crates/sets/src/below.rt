@@ -1,7 +1,6 @@
 // A bin's check and the check of the two bins below it, which ask each other, the tables left falling.
 use crate::bin::Bin;
-use crate::bin::bin_of;
-use crate::bin::bin_word;
+use crate::bin::bin_from;
 use crate::bin::header;
 use crate::fit::length_at;
 use crate::long::list_fine;
@@ -12,7 +11,7 @@ use slots::ROOT;
 use tree::rules::Rest;
 ghost use mathlib.Core.Path.{_≡_};
 ghost use mathlib.Core.List.{[]};
-ghost use Rattle.set_rules.specs.Words.{binAt, lentSet};
+ghost use Rattle.set_rules.specs.Words.{lentSet};
 ghost use Rattle.set_rules.specs.Accepting.{ownFine, binFine, belowFine};
 ghost use Rattle.set_rules.specs.Accepting.{wellPlaced as mayStand, isMoved as opens};
 ghost use Rattle.tree.specs.Rules.{restOf};
@@ -71,17 +70,8 @@ fn own_fine(
     }
 }
 
-// Bin i of table k.
-fn bin_at(lengths: &[u32], bins: &[u32], heads: &[u32], names: &[u64], k: u32, i: u32) -> Bin
-    ensures { λ r. ⌜ binAs r
-        ≡ binAt (lentSet (now (lengths .entry)) (now (bins .entry)) (now (heads .entry)) (now (names .entry)) []) k i ⌝ }
-{
-    let word = bin_word(lengths, bins, k, i);
-    bin_of(names.len() / 2, heads.len() / 3, word)
-}
-
-// The check of bin i of table k, where so many tables come after that one: the visits left after it and what is below it. A bin whose
-// parent is not Moved may not hold anything.
+// The check of bin i of table k, whose bins begin at `from`, where so many tables come after that one: the visits left after it and what
+// is below it. A bin whose parent is not Moved may not hold anything.
 pub(crate) fn bin_fine(
     lengths: &[u32],
     bins: &[u32],
@@ -90,16 +80,17 @@ pub(crate) fn bin_fine(
     cells: &[u32],
     left: u32,
     k: u32,
+    from: usize,
     i: u32,
     may: bool,
     visits: usize,
 ) -> Rest
-    requires { ⌜ Room (now lengths) left k i ⌝ }
+    requires { ⌜ Room (now lengths) left k from i ⌝ }
     ensures { λ r. ⌜ restOf r
         ≡ binFine left (lentSet (now (lengths .entry)) (now (bins .entry)) (now (heads .entry)) (now (names .entry))
         (now (cells .entry))) k i may visits ⌝ }
 {
-    let bin = bin_at(lengths, bins, heads, names, k, i);
+    let bin = bin_from(bins, names.len() / 2, heads.len() / 3, from, i);
     let stands = placed(bin, may, left);
     if !stands {
         return Rest::Wrong;
@@ -110,7 +101,19 @@ pub(crate) fn bin_fine(
         return Rest::Wrong;
     };
     let opened = is_moved(bin);
-    two_below(lengths, bins, heads, names, cells, left, k, i, opened, rest)
+    two_below(
+        lengths,
+        bins,
+        heads,
+        names,
+        cells,
+        left,
+        k,
+        from,
+        i,
+        opened,
+        rest,
+    )
 }
 
 // The check of the two bins below bin i of table k: the same index, and that plus the upper length.
@@ -122,11 +125,12 @@ fn two_below(
     cells: &[u32],
     left: u32,
     k: u32,
+    from: usize,
     i: u32,
     may: bool,
     visits: usize,
 ) -> Rest
-    requires { ⌜ Room (now lengths) left k i ⌝ }
+    requires { ⌜ Room (now lengths) left k from i ⌝ }
     ensures { λ r. ⌜ restOf r
         ≡ belowFine left (lentSet (now (lengths .entry)) (now (bins .entry)) (now (heads .entry)) (now (names .entry))
         (now (cells .entry))) k i may visits ⌝ }
@@ -135,6 +139,7 @@ fn two_below(
         return Rest::Left(visits);
     }
     let length = length_at(lengths, k);
+    let next = from + length as usize;
     let near = bin_fine(
         lengths,
         bins,
@@ -143,6 +148,7 @@ fn two_below(
         cells,
         left - 1,
         k + 1,
+        next,
         i,
         may,
         visits,
@@ -158,6 +164,7 @@ fn two_below(
         cells,
         left - 1,
         k + 1,
+        next,
         i + length,
         may,
         rest,

@@ -85,7 +85,9 @@ fn by_tree(names: &[u64], cells: &[u32], bins: u32, i: u32, first: u32, visits: 
     Rest::Left(left)
 }
 
-// The visits left after the list from first, or that it goes wrong.
+// The visits left after the list from first, or that it goes wrong. No list has more slots than there are, so that visits beyond their
+// number are left. Acceptance never has any; but a function that calls itself is put into no caller by the compiler, and no callee with so
+// many words of its own is put into it. Else those of by_tree would stand in the frame of every bin.
 pub(crate) fn list_fine(
     names: &[u64],
     cells: &[u32],
@@ -97,8 +99,16 @@ pub(crate) fn list_fine(
     ensures { λ r. ⌜ restOf r ≡ listFine visits (now (names .entry)) (now (cells .entry)) bins i first ⌝ }
 {
     let long = is_long(cells, first);
-    if long && names.len() <= MOST_NAMES {
-        return by_tree(names, cells, bins, i, first, visits);
+    if !long || MOST_NAMES < names.len() {
+        return by_pairs(names, cells, bins, i, first, visits);
     }
-    by_pairs(names, cells, bins, i, first, visits)
+    let n = names.len() / 2;
+    if n < visits {
+        let rest = list_fine(names, cells, bins, i, first, n);
+        let Rest::Left(left) = rest else {
+            return Rest::Wrong;
+        };
+        return Rest::Left(left + (visits - n));
+    }
+    by_tree(names, cells, bins, i, first, visits)
 }

@@ -1,11 +1,13 @@
 -- Each way out is a law of one bin, or of the two below one. Twice the tables left, and one more for a bin, falls with each call.
-use mathlib.Core.Path.{sym, ap, _∙_}
+use mathlib.Core.Path.{refl, sym, ap, _∙_}
 use denote.Ref.{now}
 use native.Mathlib.Omega.{arith}
 use borrow.Author.Needs.{needs}
 use borrow.Author.Tests.{not-false, not-true}
 use Rattle.tree.specs.Rules.{restOf}
-use Rattle.sets.proofs.Steps.{room-near, room-far, bin-misplaced, bin-wrong, bin-on, below-none, below-wrong, below-both}
+use Rattle.set_rules.specs.Words.{Set}
+use Rattle.sets.proofs.Steps.{room-from, room-near, room-far, bin-read, bin-misplaced, bin-wrong, bin-on}
+use Rattle.sets.proofs.Steps.{below-none, below-wrong, below-both}
 use Prim.Native.Nat.{ℕ, _<_, _+_, _*_}
 use borrow.Fn.Kinds.{In}
 use borrow.Fn.PlainCycle.{Measures, is, falls, and}
@@ -15,7 +17,7 @@ use Rattle.sets.proofs.below.+bin_fine+two_below.Lts-bin_fine as bin-fi
 use Rattle.sets.proofs.below.two_below.Reads as two-below
 use Rattle.sets.proofs.below.two_below.Kinds as two-below-kinds
 use Rattle.sets.proofs.below.+bin_fine+two_below.Lts-two_below as two-below-lts
-use Rattle.sets.proofs.below.bin_at.Reads as bin-at-reads
+use Rattle.sets.proofs.bin.bin_from.Reads as bin-from-reads
 use Rattle.sets.proofs.below.is_moved.Reads as is-moved-reads
 use Rattle.sets.proofs.below.own_fine.Reads as own-fine-reads
 use Rattle.sets.proofs.below.placed.Reads as placed-reads
@@ -45,8 +47,8 @@ two-below-below t =
 
 abbrev bin-fine-calls : ℕ → bin-fine-lts.Claims
 bin-fine-calls t = (
-  bin-at-reads.Asked,
-  bin-at-reads.Learnt,
+  bin-from-reads.Asked,
+  bin-from-reads.Learnt,
   placed-reads.Asked,
   placed-reads.Learnt,
   length-at-reads.Asked,
@@ -64,13 +66,16 @@ bin-fine-returns t c =
     let c1 = c .before in
     let c2 = c1 .before in
     let c3 = c2 .before .before .before .before .before .before in
-    bin-misplaced (record {
+    let s : Set =
+    record {
       lengths = now (c3 .args .lengths);
       bins = now (c3 .args .bins);
       heads = now (c3 .args .heads);
       names = now (c3 .args .names);
       cells = now (c3 .args .cells);
-    }) (c3 .args .left) (c3 .args .k) (c3 .args .i) (c3 .args .may) (c3 .args .visits) (c2 .bin-at .ensures) (c1 .placed .ensures)
+    } in
+    bin-misplaced s (c3 .args .left) (c3 .args .k) (c3 .args .i) (c3 .args .may) (c3 .args .visits)
+    (bin-read s (c3 .pre .1) (c2 .bin-from .ensures)) (c1 .placed .ensures)
     (not-true (c1 .placed .result) (c .if1 .taken))
 
 bin-fine-returns-2 : (t : ℕ) → bin-fine-lts.Need-returns-2 (bin-fine-calls t) (bin-fine-at t) bin-fine.Post
@@ -82,13 +87,16 @@ bin-fine-returns-2 t c =
     let c5 = c4 .before in
     let c6 = c5 .before in
     let c7 = c6 .before .before .before .before .before .before in
-    bin-wrong (record {
+    let s : Set =
+    record {
       lengths = now (c7 .args .lengths);
       bins = now (c7 .args .bins);
       heads = now (c7 .args .heads);
       names = now (c7 .args .names);
       cells = now (c7 .args .cells);
-    }) (c7 .args .left) (c7 .args .k) (c7 .args .i) (c7 .args .may) (c7 .args .visits) (c6 .bin-at .ensures) (c5 .placed .ensures)
+    } in
+    bin-wrong s (c7 .args .left) (c7 .args .k) (c7 .args .i) (c7 .args .may) (c7 .args .visits)
+    (bin-read s (c7 .pre .1) (c6 .bin-from .ensures)) (c5 .placed .ensures)
     (not-false (c5 .placed .result) (c4 .if1 .left)) (c3 .length-at .ensures)
     (sym (ap restOf (c .enum-told .given .1)) ∙ c2 .own-fine .ensures)
 
@@ -117,13 +125,16 @@ bin-fine-returns-3 t c =
     let c8 = c7 .before in
     let c9 = c8 .before in
     let c10 = c9 .before .before .before .before .before .before in
-    bin-on (record {
+    let s : Set =
+    record {
       lengths = now (c10 .args .lengths);
       bins = now (c10 .args .bins);
       heads = now (c10 .args .heads);
       names = now (c10 .args .names);
       cells = now (c10 .args .cells);
-    }) (c10 .args .left) (c10 .args .k) (c10 .args .i) (c10 .args .may) (c10 .args .visits) (c9 .bin-at .ensures) (c8 .placed .ensures)
+    } in
+    bin-on s (c10 .args .left) (c10 .args .k) (c10 .args .i) (c10 .args .may) (c10 .args .visits)
+    (bin-read s (c10 .pre .1) (c9 .bin-from .ensures)) (c8 .placed .ensures)
     (not-false (c8 .placed .result) (c7 .if1 .left)) (c6 .length-at .ensures) (sym (ap restOf (c3 .own .given .1)) ∙ c5 .own-fine .ensures)
     (c1 .is-moved .ensures) (c .two-below .ensures)
 
@@ -146,6 +157,11 @@ two-below-returns t c =
       cells = now (c1 .args .cells);
     }) (c1 .args .left) (c1 .args .k) (c1 .args .i) (c1 .args .may) (c1 .args .visits) (c .if1 .taken)
 
+two-below-add-next : (t : ℕ) → two-below-lts.Need-add-next (two-below-calls t) (two-below-at t) two-below.Post
+two-below-add-next t c =
+    let c1 = c .before .before .before .before .before .before .before in
+    omega (arith, room-from (c1 .pre .1), c1 .pre .1 .tables)
+
 two-below-sub-bin-fine : (t : ℕ) → two-below-lts.Need-sub-bin-fine (two-below-calls t) (two-below-at t) two-below.Post
 two-below-sub-bin-fine t c =
     let c1 = c .before in
@@ -162,7 +178,7 @@ two-below-bin-fine-requires : (t : ℕ) → two-below-lts.Need-bin-fine-requires
 two-below-bin-fine-requires t c κs =
     let c1 = c .before in
     let c2 = c1 .before .before .before .before .before .before in
-    (omega (arith, c2 .pre .0, c1 .if1 .left), room-near (c2 .pre .1) (c1 .if1 .left))
+    (omega (arith, c2 .pre .0, c1 .if1 .left), room-near (c2 .pre .1) (c1 .if1 .left) (c .length-at .ensures) refl)
 
 two-below-returns-2 : (t : ℕ) → two-below-lts.Need-returns-2 (two-below-calls t) (two-below-at t) two-below.Post
 two-below-returns-2 t c =
@@ -218,7 +234,7 @@ two-below-bin-fine-requires-2 t c κs =
     let c4 = c3 .before in
     let c5 = c4 .before in
     let c6 = c5 .before .before .before .before .before .before in
-    (omega (arith, c6 .pre .0, c5 .if1 .left), room-far (c6 .pre .1) (c5 .if1 .left) (c4 .length-at .ensures))
+    (omega (arith, c6 .pre .0, c5 .if1 .left), room-far (c6 .pre .1) (c5 .if1 .left) (c4 .length-at .ensures) refl)
 
 two-below-returns-3 : (t : ℕ) → two-below-lts.Need-returns-3 (two-below-calls t) (two-below-at t) two-below.Post
 two-below-returns-3 t c =
@@ -259,6 +275,8 @@ pub +bin-fine+two-below-spec : {M : Type 1} → statement M
     two-below.Post
     (two-below-returns t)
     (λ c κs. search needs)
+    (λ c. search needs)
+    (two-below-add-next t)
     (two-below-sub-bin-fine t)
     (two-below-add-bin-fine t)
     (two-below-bin-fine-requires t)
