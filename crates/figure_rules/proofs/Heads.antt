@@ -11,8 +11,8 @@ use Rattle.tree_rules.specs.Chain.{tally}
 use Rattle.tree_rules.specs.Find.{slotsOf}
 use Rattle.tree_rules.proofs.Counting.{times-append, times-cases, times-head, times-else, tally-same, length-most}
 use Rattle.set_rules.specs.Words.{Set, Fit, tablesOf, headersIn, binsBefore, Bin, empty, moved, bad, list, tree, binAt, wordBin}
-use Rattle.set_rules.specs.Accepted.{Accepted, BinPlace}
-use Rattle.set_rules.proofs.Naming.{begins-place}
+use Rattle.set_rules.specs.Accepted.{Accepted, BinThere}
+use Rattle.set_rules.proofs.Naming.{begins-there}
 use Rattle.set_rules.proofs.Claims.{claims as set-claims}
 use Rattle.figure_rules.specs.Added.{isList, isTree, overBins}
 use Rattle.figure_rules.proofs.Sums.{tally-split}
@@ -149,21 +149,21 @@ trees-head (tree a) h m = times-cases h a [] m (λ e. ap tree (sym e)) (λ n. ab
 
 module _ (s : Set) (fit : Fit s) (acc : Accepted s) where
   WordPlace : ℕ → Type 0
-  WordPlace p = (k : ℕ) × (i : ℕ) × BinPlace s k i × (binsBefore (s .lengths) k + i ≡ p)
+  WordPlace p = (k : ℕ) × (i : ℕ) × BinThere s k i × (binsBefore (s .lengths) k + i ≡ p)
 
-  word-place : (p : ℕ) → p < length (s .bins) → WordPlace p
+  word-there : (p : ℕ) → p < length (s .bins) → WordPlace p
   unfolding WordPlace
-  word-place p b =
-      let q = begins-place (s .lengths) (tablesOf s) p (omega (arith, fit .all)) in
+  word-there p b =
+      let q = begins-there (s .lengths) (tablesOf s) p (omega (arith, fit .all)) in
       (q .0, q .1, record { table = q .2; index = q .3 }, q .4)
 
-  module _ (make : ℕ → Bin) (heads : (k i l j a : ℕ) → BinPlace s k i → BinPlace s l j → binAt s k i ≡ make a → binAt s l j ≡ make a
+  module _ (make : ℕ → Bin) (heads : (k i l j a : ℕ) → BinThere s k i → BinThere s l j → binAt s k i ≡ make a → binAt s l j ≡ make a
       → (k ≡ l) × (i ≡ j)) where
     words-once : (p q h : ℕ) → p < length (s .bins) → q < length (s .bins) → wordBin s p ≡ make h → wordBin s q ≡ make h → p ≡ q
     unfolding WordPlace
     words-once p q h b c e f =
-        let u = word-place p b in
-        let v = word-place q c in
+        let u = word-there p b in
+        let v = word-there q c in
         let r = heads (u .0) (u .1) (v .0) (v .1) h (u .2) (v .2) (ap (wordBin s) (u .3) ∙ e) (ap (wordBin s) (v .3) ∙ f) in
         cc (r .0, r .1, u .3, v .3)
 

@@ -7,7 +7,7 @@ use Rattle.tree_rules.specs.Chain.{tally}
 use Rattle.tree_rules.specs.Check.{linksIn}
 use Rattle.index_rules.specs.Sound.{isCleared, slotFine, slotsFine}
 use Rattle.set_rules.specs.Words.{binsBefore, doubling, doubled, fitTables, fits, binOf, bini}
-use Rattle.set_rules.specs.Accepting.{isHome, isListSlot, samePair, unlike, listSlotFine, listFine, wellPlaced, ownFine}
+use Rattle.set_rules.specs.Accepting.{isHome, isListSlot, samePair, unlike, listSlotFine, listFine, mayStand, ownFine}
 use Rattle.set_rules.specs.Accepting.{binAsks, belowFine, binFine, tableFine, isBlank, headersFine, allHeld, accepted}
 use Rattle.set_rules.specs.Lookup.{hasPair, soughtInList, forwarded, lookupsFit}
 use Rattle.file_rules.specs.Layout.{slotWidth, slotField, fieldOf, sectionWords, mostOf, canHold}
@@ -23,14 +23,14 @@ use Rattle.figure_rules.specs.Sample.{listOfTwo, totalsOfTwo, inputOfTwo
 
 pub two-tallied : tallies listOfTwo noTotals ≡ tallyOutcome (given 1) (totalsOfTwo 0)
 unfolding cell nameOf tally linksIn isCleared slotFine slotsFine binsBefore doubling doubled fitTables fits binOf bini isHome isListSlot
-    samePair unlike listSlotFine listFine wellPlaced ownFine binAsks belowFine binFine tableFine isBlank headersFine allHeld accepted
+    samePair unlike listSlotFine listFine mayStand ownFine binAsks belowFine binFine tableFine isBlank headersFine allHeld accepted
     hasPair soughtInList forwarded lookupsFit wordsFit fitsTotals withMore rowWord entryTallied slotLooks slotTallied slotsTallied
     binTallied binsTallied setTallied tallies
 two-tallied = refl
 
 pub two-figured : figuresOf inputOfTwo ≡ figures (totalsOfTwo 1) false
 unfolding cell nameOf tally linksIn isCleared slotFine slotsFine binsBefore doubling doubled fitTables fits binOf bini isHome isListSlot
-    samePair unlike listSlotFine listFine wellPlaced ownFine binAsks belowFine binFine tableFine isBlank headersFine allHeld accepted
+    samePair unlike listSlotFine listFine mayStand ownFine binAsks belowFine binFine tableFine isBlank headersFine allHeld accepted
     hasPair soughtInList forwarded lookupsFit wordsFit fitsTotals withMore rowWord entryTallied slotLooks slotTallied slotsTallied
     binTallied binsTallied setTallied tallies
     slotWidth slotField fieldOf sectionWords mostOf canHold nextWidth slotLong wordsLong begunLong wholesLong takenOf loadRefused

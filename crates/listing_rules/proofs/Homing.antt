@@ -57,5 +57,5 @@ module _ (s : Set) (fit : Fit s) (acc : Accepted s) where
       let k = r .table in
       let d : homeWord s hash k ≢ 1 = λ e. not-moved (r .entry .holds) (moved-is s hash k e) in
       let is : homeTable 7 s 0 hash ≡ k =
-      leads s hash (r .comes) (7 - k) 7 (omega (arith, r .entry .place .table, fit .most)) ∙ stops s hash k (7 - k) d in
+      leads s hash (r .comes) (7 - k) 7 (omega (arith, r .entry .there .table, fit .most)) ∙ stops s hash k (7 - k) d in
       rw is (r .entry)

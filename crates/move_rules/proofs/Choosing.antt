@@ -12,7 +12,7 @@ use lib.Dec.{leb}
 use borrow.Author.Tests.{eqb-true, eqb-false, eq-eqb, ne-eqb, leb-false, le-leb, lt-leb}
 use Rattle.slots.specs.Words.{null}
 use Rattle.set_rules.specs.Words.{Set, Fit, headersIn, Bin, empty, moved, bad, list, tree, binAt}
-use Rattle.set_rules.specs.Accepted.{BinPlace, Accepted}
+use Rattle.set_rules.specs.Accepted.{BinThere, Accepted}
 use Rattle.set_rules.proofs.Fit.{headers-are}
 use Rattle.move_rules.specs.Moving.{headerIn, highIndex, halfCount, mostListed, spareFrom, headerFor, lowHeader, highHeader, lacks}
 use Rattle.move_rules.specs.Moved.{FreeHeader, RunOut, for-one, for-two}
@@ -120,7 +120,7 @@ header-names bad w e = absurd (omega arith)
 header-names (list a) w e = absurd (omega arith)
 header-names (tree g) w e = ap tree (sym e)
 
-module _ {s : Set} (fit : Fit s) (acc : Accepted s) {k i : ℕ} (p : BinPlace s k i) where
+module _ {s : Set} (fit : Fit s) (acc : Accepted s) {k i : ℕ} (p : BinThere s k i) where
   abbrev own : ℕ
   own = headerIn (binAt s k i)
 

@@ -49,8 +49,8 @@ module _ (s : Set) (k i : ℕ) where
   ten (View.no-table f b) = (λ e. (f, b), λ x. refl)
   ten (View.not-accepted f b n) = (λ e. clash (omega arith) e, λ x. absurd (omega (arith, x .1)))
   ten (View.cannot f b h c) = (λ e. clash (omega arith) e, λ x. absurd (omega (arith, x .1)))
-  ten (View.short f h m a) = (λ e. clash (omega arith) e, λ x. absurd (omega (arith, x .1, m .place .table)))
-  ten (View.went f h m a w b) = (λ e. given-clash (omega arith) e, λ x. absurd (omega (arith, x .1, m .place .table)))
+  ten (View.short f h m a) = (λ e. clash (omega arith) e, λ x. absurd (omega (arith, x .1, m .there .table)))
+  ten (View.went f h m a w b) = (λ e. given-clash (omega arith) e, λ x. absurd (omega (arith, x .1, m .there .table)))
 
   two : {o : MoveOutcome} → View s k i o → (o .answer ≡ refused 2) ↔ (Fit s × (k < tablesOf s) × (Accepted s → ⊥))
   two (View.unfit n) = (λ e. clash (omega arith) e, λ x. absurd (n (x .0)))
@@ -75,12 +75,12 @@ module _ (s : Set) (k i : ℕ) where
   five (View.not-accepted f b n) all low high c = (λ e. clash (omega arith) e, λ x. absurd (n (x .2)))
   five (View.cannot f b h n) all low high c = (λ e. clash (omega arith) e, λ x. absurd (x .3 n))
   five (View.short f h m a) all low high c = (
-    λ e. (f, m .place .table, h, may-not m, rw (low-is f h (m .place) (m .unmoved) c, high-is f h (m .place) (m .unmoved) c) a),
+    λ e. (f, m .there .table, h, may-not m, rw (low-is f h (m .there) (m .unmoved) c, high-is f h (m .there) (m .unmoved) c) a),
     λ x. refl,
   )
   five (View.went f h m a w b) all low high c = (
     λ e. given-clash (omega arith) e,
-    λ x. absurd (a (rw (low-is f h (m .place) (m .unmoved) c, high-is f h (m .place) (m .unmoved) c) at (x .4))),
+    λ x. absurd (a (rw (low-is f h (m .there) (m .unmoved) c, high-is f h (m .there) (m .unmoved) c) at (x .4))),
   )
 
   unchanged : {o : MoveOutcome} → View s k i o → o .answer .number ≢ 0 → o .set ≡ s
@@ -96,14 +96,14 @@ module _ (s : Set) (k i : ℕ) where
       → (RunOut s k i low high → ⊥)
       → (o .answer ≡ given (length all)) × BinMoved s k i low high (o .set)
   went-well (View.unfit n) all low high c f h d r = absurd (n f)
-  went-well (View.no-table x b) all low high c f h d r = absurd (omega (arith, may-of k i d .place .table))
+  went-well (View.no-table x b) all low high c f h d r = absurd (omega (arith, may-of k i d .there .table))
   went-well (View.not-accepted x b n) all low high c f h d r = absurd (n h)
   went-well (View.cannot x b y n) all low high c f h d r = absurd (d n)
   went-well (View.short x y m a) all low high c f h d r =
-      absurd (r (rw (low-is f h (m .place) (m .unmoved) c, high-is f h (m .place) (m .unmoved) c) a))
+      absurd (r (rw (low-is f h (m .there) (m .unmoved) c, high-is f h (m .there) (m .unmoved) c) a))
   went-well (View.went x y m a w b) all low high c f h d r = (
-    ap given (w ∙ ap length (sym (all-is f h (m .place) (m .unmoved) c))),
-    rw (low-is f h (m .place) (m .unmoved) c, high-is f h (m .place) (m .unmoved) c) b,
+    ap given (w ∙ ap length (sym (all-is f h (m .there) (m .unmoved) c))),
+    rw (low-is f h (m .there) (m .unmoved) c, high-is f h (m .there) (m .unmoved) c) b,
   )
 
 -- A move that answers a refusal comes to it with the set as it was.
@@ -124,11 +124,11 @@ claims =
       };
       moving = λ s k i. record {
         splits = λ f h n. (let m = may-of k i n in
-            (entriesIn s (binAt s k i), lowHalf s k i, highHalf s k i, splits f h (m .place) (m .unmoved)));
+            (entriesIn s (binAt s k i), lowHalf s k i, highHalf s k i, splits f h (m .there) (m .unmoved)));
         one-split = λ f h n a b c d e g x y. (let m = may-of k i n in (
-          all-is f h (m .place) (m .unmoved) x ∙ sym (all-is f h (m .place) (m .unmoved) y),
-          low-is f h (m .place) (m .unmoved) x ∙ sym (low-is f h (m .place) (m .unmoved) y),
-          high-is f h (m .place) (m .unmoved) x ∙ sym (high-is f h (m .place) (m .unmoved) y),
+          all-is f h (m .there) (m .unmoved) x ∙ sym (all-is f h (m .there) (m .unmoved) y),
+          low-is f h (m .there) (m .unmoved) x ∙ sym (low-is f h (m .there) (m .unmoved) y),
+          high-is f h (m .there) (m .unmoved) x ∙ sym (high-is f h (m .there) (m .unmoved) y),
         ));
         moved = went-well s k i (view s k i);
       };

@@ -11,7 +11,7 @@ use lib.Dec.{ltb}
 use borrow.Author.Tests.{ltb-true, ltb-false}
 use Rattle.slots.specs.Answers.{given, refused}
 use Rattle.set_rules.specs.Words.{Set, Fit, tablesOf, lengthAt, fits, Bin, empty, moved, bad, list, tree, binAt}
-use Rattle.set_rules.specs.Accepted.{BinPlace, Accepted}
+use Rattle.set_rules.specs.Accepted.{BinThere, Accepted}
 use Rattle.set_rules.specs.Accepting.{accepted, isMoved}
 use Rattle.set_rules.proofs.Fit.{fits-fit, fit-fits}
 use Rattle.set_rules.proofs.Accepting.{yes-accepted, accepted-yes}
@@ -34,14 +34,14 @@ not-moved b e z = false≢true (sym e ∙ ap isMoved z)
 
 -- A bin that may be moved.
 pub record May (s : Set) (k i : ℕ) : Type 0 where
-  pub place : BinPlace s k i
+  pub there : BinThere s k i
   pub lower : suc k < tablesOf s
   pub unmoved : binAt s k i ≢ moved
   pub above : (j : ℕ) → k ≡ suc j → binAt s j (i % lengthAt s j) ≡ moved
 
 pub may-not : {s : Set} {k i : ℕ} → May s k i → CannotMove s k i → ⊥
 may-not m (CannotMove.no-next b) = omega (arith, m .lower)
-may-not m (CannotMove.no-bin b) = omega (arith, m .place .index)
+may-not m (CannotMove.no-bin b) = omega (arith, m .there .index)
 may-not m (CannotMove.already e) = m .unmoved e
 may-not m (CannotMove.not-yet j e d) = d (m .above j e)
 
@@ -69,7 +69,7 @@ may-move s k i =
         let l : suc k < tablesOf s = ltb-true _ _ x in
         rw (x, y, z) (
           λ e. record {
-            place = record { table = omega arith; index = ltb-true _ _ y };
+            there = record { table = omega arith; index = ltb-true _ _ y };
             lower = l;
             unmoved = not-moved _ z;
             above = parent-yes s k i e;
@@ -89,25 +89,25 @@ module _ {s : Set} {k i : ℕ} (fit : Fit s) (acc : Accepted s) (m : May s k i) 
       → lacks (halfCount s k i (highIndex s k i)) (highHeader s k i) ≡ false
       → BinMoved s k i low high (bothLaid s k i)
   all-moved a b =
-      let lows = low-chosen fit acc (m .place) a in
-      let highs = high-chosen fit acc (m .place) a b in
-      let d = half-done fit acc (m .place) (m .lower) (m .unmoved) (m .above) (λ z. lows z .0) in
-      let g = whole-done fit acc (m .place) (m .lower) (m .unmoved) (m .above) d highs in
+      let lows = low-chosen fit acc (m .there) a in
+      let highs = high-chosen fit acc (m .there) a b in
+      let d = half-done fit acc (m .there) (m .lower) (m .unmoved) (m .above) (λ z. lows z .0) in
+      let g = whole-done fit acc (m .there) (m .lower) (m .unmoved) (m .above) d highs in
       subst (λ (t : Set). BinMoved s k i low high t) (sym (g .is))
-      (moved-well fit acc (m .place) (m .lower) (m .unmoved) (m .above) d g lows highs)
+      (moved-well fit acc (m .there) (m .lower) (m .unmoved) (m .above) d g lows highs)
 
   -- Where none lacks a header, the headers do not run out.
   enough : lacks (halfCount s k i i) (lowHeader s k i) ≡ false
       → lacks (halfCount s k i (highIndex s k i)) (highHeader s k i) ≡ false
       → RunOut s k i low high → ⊥
-  enough a b (for-one (inl big) none) = none _ (low-chosen fit acc (m .place) a big .0)
-  enough a b (for-one (inr big) none) = none _ (high-chosen fit acc (m .place) a b big .frees)
+  enough a b (for-one (inl big) none) = none _ (low-chosen fit acc (m .there) a big .0)
+  enough a b (for-one (inr big) none) = none _ (high-chosen fit acc (m .there) a b big .frees)
   enough a b (for-two big bigger same) =
-      let r = high-chosen fit acc (m .place) a b bigger in
-      r .other big (same _ _ (r .frees) (low-chosen fit acc (m .place) a big .0))
+      let r = high-chosen fit acc (m .there) a b bigger in
+      r .other big (same _ _ (r .frees) (low-chosen fit acc (m .there) a big .0))
 
   told : halfCount s k i i + halfCount s k i (highIndex s k i) ≡ length (entriesIn s (binAt s k i))
-  told = omega (arith, low-count fit acc (m .place), high-count fit acc (m .place), both-count fit acc (m .place) (m .lower))
+  told = omega (arith, low-count fit acc (m .there), high-count fit acc (m .there), both-count fit acc (m .there) (m .lower))
 
 -- What a move comes to, in the order of the refusals.
 pub data View (s : Set) (k i : ℕ) : MoveOutcome → Type 0 where
@@ -130,8 +130,8 @@ view-bin {s} {k} {i} fit acc m =
     go : (a : Bool) → lacks (halfCount s k i i) (lowHeader s k i) ≡ a → (b : Bool)
         → lacks (halfCount s k i (highIndex s k i)) (highHeader s k i) ≡ b
         → View s k i (movesBin s k i)
-    go true e b f = rw e (short fit acc m (low-short fit acc (m .place) e))
-    go false e true f = rw (e, f) (short fit acc m (high-short fit acc (m .place) e f))
+    go true e b f = rw e (short fit acc m (low-short fit acc (m .there) e))
+    go false e true f = rw (e, f) (short fit acc m (high-short fit acc (m .there) e f))
     go false e false f = rw (e, f) (went fit acc m (enough fit acc m e f) (told fit acc m) (all-moved fit acc m e f))
 
 pub view : (s : Set) (k i : ℕ) → View s k i (moves s k i)

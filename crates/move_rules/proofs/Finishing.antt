@@ -12,7 +12,7 @@ use borrow.Author.Tests.{eq-eqb, ne-eqb}
 use Rattle.slots.specs.Words.{place, nameOf, hashPart, keyPart}
 use Rattle.slots.specs.Answers.{refused}
 use Rattle.set_rules.specs.Words.{Set, Fit, tablesOf, lengthAt, moved, binAt}
-use Rattle.set_rules.specs.Accepted.{BinPlace, EntryOf, Accepted}
+use Rattle.set_rules.specs.Accepted.{BinThere, EntryOf, Accepted}
 use Rattle.set_rules.specs.Lookup.{lookups}
 use Rattle.set_rules.specs.Held.{EntryFrom}
 use Rattle.set_rules.proofs.Fit.{length-least}
@@ -154,7 +154,7 @@ module _ {s : Set} (fit : Fit s) (acc : Accepted s) where
             rw (eq-eqb (f .number) 0 e, z)
             (record {
               same = moved-same (g .same) b;
-              made = rw w (MovesMade.one-more (g .made) (splits x y (m .place) (m .unmoved)) b);
+              made = rw w (MovesMade.one-more (g .made) (splits x y (m .there) (m .unmoved)) b);
               onward = λ y. moved-before (g .same) b (g .onward e);
               halted = λ n. absurd (n refl);
             })
@@ -208,9 +208,9 @@ module _ {s : Set} (fit : Fit s) (acc : Accepted s) where
       only : {t : Set} → SameEntries s t → MovedBefore t (tablesOf s - 1) 0 → OnlyLast t
       only {t} e b = record { moves = λ k i q w. gone k i q w; entries = λ k i x h. at k i x h (ℕ-discrete (suc k) (tablesOf t)) }
         where
-          gone : (k i : ℕ) → BinPlace t k i → suc k < tablesOf t → binAt t k i ≡ moved
+          gone : (k i : ℕ) → BinThere t k i → suc k < tablesOf t → binAt t k i ≡ moved
           gone k i q w = b .tables k i (omega (arith, tables-same e)) (q .index)
 
           at : (k i x : ℕ) → EntryOf t k i x → Dec (suc k ≡ tablesOf t) → suc k ≡ tablesOf t
           at k i x h (yes z) = z
-          at k i x h (no z) = absurd (not-moved (h .holds) (gone k i (h .place) (omega (arith, h .place .table))))
+          at k i x h (no z) = absurd (not-moved (h .holds) (gone k i (h .there) (omega (arith, h .there .table))))

@@ -14,7 +14,7 @@ use Rattle.tree_rules.specs.Chain.{Chain}
 use Rattle.tree_rules.proofs.Counting.{times-head, times-rest, times-cases}
 use Rattle.index_rules.proofs.Frames.{hangs-frame, chain-frame}
 use Rattle.set_rules.specs.Words.{Set, Fit, rootAt, firstAt, countAt, Bin, empty, moved, list, tree, binAt}
-use Rattle.set_rules.specs.Accepted.{BinPlace, Listed, ended, onward, HeldIn, listed, grown, EntryOf, GoodList, GoodLists, GoodTrees}
+use Rattle.set_rules.specs.Accepted.{BinThere, Listed, ended, onward, HeldIn, listed, grown, EntryOf, GoodList, GoodLists, GoodTrees}
 use Rattle.set_rules.specs.Accepted.{ListSlot}
 use Rattle.set_rules.specs.Whole.{Gives}
 use Rattle.set_rules.proofs.Gathering.{holds-unique}
@@ -95,12 +95,12 @@ chain-listed (chainEnded e) = ended e
 chain-listed (chainLinked w p c) = onward w (chain-listed c)
 
 -- What a bin lists is what it holds, where its chain is good.
-pub lists-own : (s : Set) → slotsOf (s .names) ≤ null → GoodChains s → {k i : ℕ} → BinPlace s k i → {b : Bin} {l : List ℕ} → binAt s k i ≡ b
+pub lists-own : (s : Set) → slotsOf (s .names) ≤ null → GoodChains s → {k i : ℕ} → BinThere s k i → {b : Bin} {l : List ℕ} → binAt s k i ≡ b
     → BinLists s b l → (x : ℕ) → 1 ≤ times x l → EntryOf s k i x
 unfolding times
 lists-own s few chains p e of-none x z = absurd (omega arith)
 lists-own s few chains p {l = l} e (of-list d) x z =
-    record { place = p; held = l; holds = subst (λ (c : Bin). HeldIn s c l) (sym e) (listed d); member = z }
+    record { there = p; held = l; holds = subst (λ (c : Bin). HeldIn s c l) (sym e) (listed d); member = z }
 lists-own s few chains {k} {i} p e (of-tree {h} {l} d) x z =
     let g = chains k i h p e in
     g .own x .0 (subst (λ (v : List ℕ). 1 ≤ times x v) (listed-unique s few d (chain-listed (g .linked))) z)
@@ -110,11 +110,11 @@ module _ (s : Set) (bins heads cells : List ℕ) where
   abbrev t : Set
   t = rewritten s bins heads cells
 
-  pub place-over : {k i : ℕ} → BinPlace s k i → BinPlace t k i
-  place-over p = record { table = p .table; index = p .index }
+  pub there-over : {k i : ℕ} → BinThere s k i → BinThere t k i
+  there-over p = record { table = p .table; index = p .index }
 
-  pub place-back : {k i : ℕ} → BinPlace t k i → BinPlace s k i
-  place-back p = record { table = p .table; index = p .index }
+  pub there-back : {k i : ℕ} → BinThere t k i → BinThere s k i
+  there-back p = record { table = p .table; index = p .index }
 
   -- The header h has the words that it had.
   pub record SameHeader (h : ℕ) : Type 0 where
@@ -136,7 +136,7 @@ module _ (s : Set) (bins heads cells : List ℕ) where
     pub entry-over : {x : ℕ} → EntryOf s k i x → EntryOf t k i x
     entry-over f =
         record {
-          place = place-over (f .place);
+          there = there-over (f .there);
           held = f .held;
           holds = rw same (held-frame e (f .holds));
           member = f .member;
@@ -144,17 +144,17 @@ module _ (s : Set) (bins heads cells : List ℕ) where
 
     -- Back, where its list or tree was good.
     module _ (fit : Fit t) (lists : GoodLists s) (trees : GoodTrees s) where
-      good-held : BinPlace s k i → (b : Bin) → binAt s k i ≡ b → {l : List ℕ} → HeldIn t b l → (m : List ℕ) × HeldIn s b m
+      good-held : BinThere s k i → (b : Bin) → binAt s k i ≡ b → {l : List ℕ} → HeldIn t b l → (m : List ℕ) × HeldIn s b m
       good-held p (list a) q (listed d) = let g = lists k i a p q in (g .visits, listed (g .ends))
       good-held p (tree h) q (grown d) = let g = trees k i h p q in (slots (g .tree), grown (g .rooted))
 
       pub entry-back : {x : ℕ} → EntryOf t k i x → EntryOf s k i x
       entry-back {x} f =
-          let p = place-back (f .place) in
+          let p = there-back (f .there) in
           let h : HeldIn t (binAt s k i) (f .held) = rw same at (f .holds) in
           let g = good-held p (binAt s k i) refl h in
           let z : f .held ≡ g .0 = holds-unique fit h (held-frame e (g .1)) in
-          record { place = p; held = g .0; holds = g .1; member = rw z at (f .member) }
+          record { there = p; held = g .0; holds = g .1; member = rw z at (f .member) }
 
   pub good-list-frame : (a : ℕ) (g : GoodList s a) → ((x : ℕ) → 1 ≤ times x (g .visits) → Untouched (s .cells) cells x) → GoodList t a
   good-list-frame a g w =

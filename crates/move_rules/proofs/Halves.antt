@@ -15,7 +15,7 @@ use Rattle.tree_rules.specs.Tree.{times}
 use Rattle.tree_rules.proofs.Counting.{times-head, times-else, times-rest, times-cases, length-most}
 use Rattle.tree_rules.proofs.Chaining.{chain-once, chain-most}
 use Rattle.set_rules.specs.Words.{Set, Fit, tablesOf, lengthAt, firstAt, Bin, empty, moved, bad, list, tree, binAt, bini}
-use Rattle.set_rules.specs.Accepted.{BinPlace, Listed, HeldIn, listed, EntryOf, Accepted}
+use Rattle.set_rules.specs.Accepted.{BinThere, Listed, HeldIn, listed, EntryOf, Accepted}
 use Rattle.set_rules.specs.Accepting.{isHome}
 use Rattle.set_rules.specs.Held.{EntryFrom}
 use Rattle.set_rules.proofs.Fit.{small, bini-up, bini-less, halves, length-least}
@@ -116,7 +116,7 @@ unfolding times
 nil-none x z = omega arith
 
 -- On an accepted set.
-module _ {s : Set} (fit : Fit s) (acc : Accepted s) {k i : ℕ} (p : BinPlace s k i) where
+module _ {s : Set} (fit : Fit s) (acc : Accepted s) {k i : ℕ} (p : BinThere s k i) where
   -- The slots of the bin from its first by next.
   record Listing (b : Bin) : Type 0 where
     visits : List ℕ
@@ -153,7 +153,7 @@ module _ {s : Set} (fit : Fit s) (acc : Accepted s) {k i : ℕ} (p : BinPlace s 
         once = o;
         own = λ x. (
           λ z. record {
-            place = p;
+            there = p;
             held = g .visits;
             holds = subst (λ (c : Bin). HeldIn s c (g .visits)) (sym e) (listed (g .ends));
             member = z;

@@ -20,7 +20,7 @@ use Rattle.redblack.proofs.Kept.{place-aside, prev-aside, next-aside}
 use Rattle.redblack.specs.Links.{Links, lentLinks}
 use Rattle.set_rules.specs.Words.{Set, Fit, lengthAt, headersIn, rootAt, firstAt, countAt, Bin, empty, moved, list, tree, binAt, binOf}
 use Rattle.set_rules.specs.Words.{bini}
-use Rattle.set_rules.specs.Accepted.{BinPlace, Listed, Unlike, Apart, EntryOf}
+use Rattle.set_rules.specs.Accepted.{BinThere, Listed, Unlike, Apart, EntryOf}
 use Rattle.set_rules.proofs.Fit.{small, slots-are, headers-are}
 use Rattle.set_rules.proofs.Naming.{ranges}
 use Rattle.move_rules.specs.Passes.{plained, backed}
@@ -30,8 +30,8 @@ use Rattle.move_rules.specs.Moved.{Form, as-none, as-few, as-many, Plant
 use Rattle.move_rules.proofs.Rows.{headOf}
 use Rattle.move_rules.proofs.Building.{Distinct, Built, built-all, grows-all}
 use Rattle.move_rules.proofs.Framing.{BinLists, Untouched, SameHeader, listed-next}
-use Rattle.move_rules.proofs.Places.{headed-long, headed-root, headed-first, headed-count, headed-else, fit-over}
-use Rattle.move_rules.proofs.Places.{written-range, written-here, written-else}
+use Rattle.move_rules.proofs.BinRow.{headed-long, headed-root, headed-first, headed-count, headed-else, fit-over}
+use Rattle.move_rules.proofs.BinRow.{written-range, written-here, written-else}
 use Rattle.move_rules.proofs.Lining.{Lined, plain-list, Backed, backed-chain}
 use Rattle.move_rules.proofs.Laying.{Sits, nothing, as-list, as-tree, Lays, laid-loose, laid-entries, laid-lists}
 use Rattle.move_rules.proofs.Loose.{Loose}
@@ -77,10 +77,10 @@ pub record Done (s : Set) (P : ℕ → Type 0) (k i : ℕ) (l : List ℕ) (h : �
   pub bin : Bin
   pub here : binAt (rewritten s bins heads cells) k i ≡ bin
   pub sits : Sits (rewritten s bins heads cells) l bin
-  pub there : (m j : ℕ) → BinPlace s m j → ((m ≡ k) × (j ≡ i) → ⊥) → binAt (rewritten s bins heads cells) m j ≡ binAt s m j
+  pub there : (m j : ℕ) → BinThere s m j → ((m ≡ k) × (j ≡ i) → ⊥) → binAt (rewritten s bins heads cells) m j ≡ binAt s m j
   pub spares : (x : ℕ) → times x l ≡ 0 → Untouched (s .cells) cells x
   pub places : (x : ℕ) → cell cells x place ≡ cell (s .cells) x place
-  pub lists : (m j : ℕ) → BinPlace s m j → ((m ≡ k) × (j ≡ i) → ⊥) → {v : List ℕ} → BinLists s (binAt s m j) v
+  pub lists : (m j : ℕ) → BinThere s m j → ((m ≡ k) × (j ≡ i) → ⊥) → {v : List ℕ} → BinLists s (binAt s m j) v
       → BinLists (rewritten s bins heads cells) (binAt (rewritten s bins heads cells) m j) v
   pub headers : (g : ℕ) → bin ≢ tree g → SameHeader s bins heads cells g
   pub range : headersIn (rewritten s bins heads cells) ≡ headersIn s
@@ -88,7 +88,7 @@ pub record Done (s : Set) (P : ℕ → Type 0) (k i : ℕ) (l : List ℕ) (h : �
   pub form : Form l bin
   pub planted : (g : ℕ) → bin ≡ tree g → Planted (rewritten s bins heads cells) g l
 
-module _ {s : Set} {P : ℕ → Type 0} (fit : Fit s) (loose : Loose s P) {k i : ℕ} (spot : BinPlace s k i) (was : binAt s k i ≡ empty)
+module _ {s : Set} {P : ℕ → Type 0} (fit : Fit s) (loose : Loose s P) {k i : ℕ} (spot : BinThere s k i) (was : binAt s k i ≡ empty)
     (above : (j : ℕ) → k ≡ suc j → binAt s j (i % lengthAt s j) ≡ moved) (l : List ℕ) (pending : (x : ℕ) → 1 ≤ times x l → P x)
     (homes : (x : ℕ) → 1 ≤ times x l → bini (lengthAt s k) (nameOf (s .names) x hashPart) ≡ i) (d : Distinct (s .names) l)
     (strung : Listed (slotsOf (s .names)) (s .cells) (headOf l) l) (few : length l ≤ slotsOf (s .names)) where

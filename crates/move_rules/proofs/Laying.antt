@@ -19,7 +19,7 @@ use Rattle.tree_rules.proofs.Reaching.{hangs-stand}
 use Rattle.index_rules.specs.Sound.{Cleared}
 use Rattle.index_rules.proofs.Building.{hangs-links, chain-links}
 use Rattle.set_rules.specs.Words.{Set, Fit, lengthAt, headersIn, rootAt, firstAt, countAt, Bin, empty, moved, bad, list, tree, binAt, bini}
-use Rattle.set_rules.specs.Accepted.{slotted, BinPlace, Listed, ended, onward, HeldIn, listed, grown, EntryOf, NoneBad, SlotWords}
+use Rattle.set_rules.specs.Accepted.{slotted, BinThere, Listed, ended, onward, HeldIn, listed, grown, EntryOf, NoneBad, SlotWords}
 use Rattle.set_rules.specs.Accepted.{LastUnmoved}
 use Rattle.set_rules.specs.Accepted.{ParentMoved, EntriesHome, HeadsOnce, GoodList, GoodLists, Headers, GoodTrees, GoodChain, GoodChains}
 use Rattle.set_rules.specs.Accepted.{InOne}
@@ -29,7 +29,7 @@ use Rattle.set_rules.proofs.Gathering.{not-empty, holds-unique}
 use Rattle.set_rules.proofs.Homes.{entry-only}
 use Rattle.set_rules.proofs.Naming.{ranges}
 use Rattle.move_rules.specs.Moving.{rewritten}
-use Rattle.move_rules.proofs.Framing.{Untouched, place-over, place-back, SameHeader, Left, entry-over, entry-back, good-list-frame}
+use Rattle.move_rules.proofs.Framing.{Untouched, there-over, there-back, SameHeader, Left, entry-over, entry-back, good-list-frame}
 use Rattle.move_rules.proofs.Framing.{shaped-frame, linked-frame, chain-listed, lists-own, lists-frame}
 use Rattle.move_rules.proofs.Framing.{BinLists, of-none, of-list, of-tree}
 use Rattle.move_rules.proofs.Loose.{Loose}
@@ -124,8 +124,8 @@ head-in (ended e) w z = absurd (omega arith)
 head-in (onward {i} {l} c r) w z = omega (arith, times-head i l)
 
 -- The parent of a bin.
-pub parent-place : (s : Set) {bins heads cells : List ℕ} → Fit (rewritten s bins heads cells) → {m j : ℕ} → BinPlace s (suc m) j
-    → BinPlace s m (j % lengthAt s m)
+pub parent-place : (s : Set) {bins heads cells : List ℕ} → Fit (rewritten s bins heads cells) → {m j : ℕ} → BinThere s (suc m) j
+    → BinThere s m (j % lengthAt s m)
 parent-place s fit {m} {j} p = record { table = omega (arith, p .table); index = mod-lt j (length-least fit m (omega (arith, p .table))) }
 
 -- The slots l are laid as the bin b, which is bin i of table k, into the set s.
@@ -136,14 +136,14 @@ module _ (s : Set) (P : ℕ → Type 0) (k i : ℕ) (l : List ℕ) (b : Bin) (bi
   pub record Lays : Type 0 where
     pub fit : Fit t
     pub loose : Loose s P
-    pub spot : BinPlace s k i
+    pub spot : BinThere s k i
     pub was : binAt s k i ≡ empty
     pub above : (j : ℕ) → k ≡ suc j → binAt s j (i % lengthAt s j) ≡ moved
     pub pending : (x : ℕ) → 1 ≤ times x l → P x
     pub homes : (x : ℕ) → 1 ≤ times x l → bini (lengthAt s k) (nameOf (s .names) x hashPart) ≡ i
     pub range : headersIn t ≡ headersIn s
     pub here : binAt t k i ≡ b
-    pub there : (m j : ℕ) → BinPlace s m j → ((m ≡ k) × (j ≡ i) → ⊥) → binAt t m j ≡ binAt s m j
+    pub there : (m j : ℕ) → BinThere s m j → ((m ≡ k) × (j ≡ i) → ⊥) → binAt t m j ≡ binAt s m j
     pub spares : (x : ℕ) → times x l ≡ 0 → Untouched (s .cells) cells x
     pub headers : (h : ℕ) → b ≢ tree h → SameHeader s bins heads cells h
     pub blank : (h : ℕ) → b ≡ tree h → rootAt s h ≡ null
@@ -175,27 +175,27 @@ module _ (s : Set) (P : ℕ → Type 0) (k i : ℕ) (l : List ℕ) (b : Bin) (bi
     not-laid m j x e = among x (λ z. absurd (g .loose .nowhere x (g .pending x z) m j e)) (λ z. z)
 
     -- Every other bin is left alone.
-    kept : (m j : ℕ) → BinPlace s m j → Left s bins heads cells (binAt s m j)
+    kept : (m j : ℕ) → BinThere s m j → Left s bins heads cells (binAt s m j)
     kept m j p =
         record {
           header = λ h e. g .headers h (λ f. g .loose .headers .roots m j h p e (g .blank h f));
-          slots = λ {l = n} d x z. g .spares x (not-laid m j x (record { place = p; held = n; holds = d; member = z }));
+          slots = λ {l = n} d x z. g .spares x (not-laid m j x (record { there = p; held = n; holds = d; member = z }));
         }
 
     over : (m j x : ℕ) → EntryOf s m j x → EntryOf t m j x
     over m j x e =
-        let p = e .place in
+        let p = e .there in
         entry-over s bins heads cells (g .there m j p (full m j (not-empty (e .holds)))) (kept m j p) e
 
     back : (m j x : ℕ) → ((m ≡ k) × (j ≡ i) → ⊥) → EntryOf t m j x → EntryOf s m j x
     back m j x d e =
-        let p = place-back s bins heads cells (e .place) in
+        let p = there-back s bins heads cells (e .there) in
         entry-back s bins heads cells (g .there m j p d) (kept m j p) (g .fit) (g .loose .lists) (g .loose .trees) e
 
     new : (x : ℕ) → 1 ≤ times x l → EntryOf t k i x
     new x z =
         let h = sits-held (g .sits) x z in
-        record { place = place-over s bins heads cells (g .spot); held = h .0; holds = rw (g .here) (h .1); member = h .2 }
+        record { there = there-over s bins heads cells (g .spot); held = h .0; holds = rw (g .here) (h .1); member = h .2 }
 
     new-only : (x : ℕ) → EntryOf t k i x → 1 ≤ times x l
     new-only x e = sits-only (g .fit) (g .sits) (rw (g .here) at (e .holds)) x (e .member)
@@ -214,7 +214,7 @@ module _ (s : Set) (P : ℕ → Type 0) (k i : ℕ) (l : List ℕ) (b : Bin) (bi
     none-bad : NoneBad t
     none-bad m j p e =
         which m j (λ z. sits-good (g .sits) (sym (at-here m j z) ∙ e))
-        (λ d. (let q = place-back s bins heads cells p in g .loose .none-bad m j q (sym (g .there m j q d) ∙ e)))
+        (λ d. (let q = there-back s bins heads cells p in g .loose .none-bad m j q (sym (g .there m j q d) ∙ e)))
 
     words : SlotWords t
     words =
@@ -238,20 +238,20 @@ module _ (s : Set) (P : ℕ → Type 0) (k i : ℕ) (l : List ℕ) (b : Bin) (bi
     last-unmoved : LastUnmoved t
     last-unmoved m j p f e =
         which m j (λ z. sits-unmoved (g .sits) (sym (at-here m j z) ∙ e))
-        (λ d. (let q = place-back s bins heads cells p in g .loose .last-unmoved m j q f (sym (g .there m j q d) ∙ e)))
+        (λ d. (let q = there-back s bins heads cells p in g .loose .last-unmoved m j q f (sym (g .there m j q d) ∙ e)))
 
     parent-moved : ParentMoved t
     parent-moved m j p d =
         which (suc m) j (λ z. absurd (d (this z)))
         (λ n. g .there (suc m) j q n ∙ g .loose .parent-moved m j q (λ e. d (still m (j % lengthAt s m) r e)))
       where
-        q : BinPlace s (suc m) j
-        q = place-back s bins heads cells p
+        q : BinThere s (suc m) j
+        q = there-back s bins heads cells p
 
-        r : BinPlace s m (j % lengthAt s m)
+        r : BinThere s m (j % lengthAt s m)
         r = parent-place s (g .fit) q
 
-        still : (a c : ℕ) → BinPlace s a c → binAt s a c ≡ moved → binAt t a c ≡ moved
+        still : (a c : ℕ) → BinThere s a c → binAt s a c ≡ moved → binAt t a c ≡ moved
         still a c y e = g .there a c y (full a c (λ z. empty-moved (sym z ∙ e))) ∙ e
 
         this : (suc m ≡ k) × (j ≡ i) → binAt t m (j % lengthAt s m) ≡ moved
@@ -283,11 +283,11 @@ module _ (s : Set) (P : ℕ → Type 0) (k i : ℕ) (l : List ℕ) (b : Bin) (bi
               (sym (g .there n h (over-back q) z) ∙ f)));
         }
       where
-        over-back : {m j : ℕ} → BinPlace t m j → BinPlace s m j
-        over-back p = place-back s bins heads cells p
+        over-back : {m j : ℕ} → BinThere t m j → BinThere s m j
+        over-back p = there-back s bins heads cells p
 
         -- a list's head is an entry of its bin, so no loose slot
-        clash-list : (m j a : ℕ) → BinPlace s m j → binAt s m j ≡ list a → b ≡ list a → ⊥
+        clash-list : (m j a : ℕ) → BinThere s m j → binAt s m j ≡ list a → b ≡ list a → ⊥
         clash-list m j a p e f = sits-head (rw f at (g .sits))
           where
             sits-head : Sits t l (list a) → ⊥
@@ -296,20 +296,20 @@ module _ (s : Set) (P : ℕ → Type 0) (k i : ℕ) (l : List ℕ) (b : Bin) (bi
                 let inside : a < slotsOf (s .names) = ranges (slotsOf (s .names)) (headersIn s) _ .lists a .0 e .3 in
                 g .loose .nowhere a (g .pending a y) m j
                 (record {
-                  place = p;
+                  there = p;
                   held = v .visits;
                   holds = rw e (listed (v .ends));
                   member = head-in (v .ends) inside (small (g .fit));
                 })
 
-        clash-tree : (m j h : ℕ) → BinPlace s m j → binAt s m j ≡ tree h → b ≡ tree h → ⊥
+        clash-tree : (m j h : ℕ) → BinThere s m j → binAt s m j ≡ tree h → b ≡ tree h → ⊥
         clash-tree m j h p e f = g .loose .headers .roots m j h p e (g .blank h f)
 
-    old-place : {m j : ℕ} → BinPlace t m j → BinPlace s m j
-    old-place p = place-back s bins heads cells p
+    old-place : {m j : ℕ} → BinThere t m j → BinThere s m j
+    old-place p = there-back s bins heads cells p
 
     -- What every other bin holds is an entry of it, so its words stay.
-    held-still : (m j : ℕ) → BinPlace s m j → {c : Bin} {v : List ℕ} → binAt s m j ≡ c → HeldIn s c v → (x : ℕ) → 1 ≤ times x v
+    held-still : (m j : ℕ) → BinThere s m j → {c : Bin} {v : List ℕ} → binAt s m j ≡ c → HeldIn s c v → (x : ℕ) → 1 ≤ times x v
         → Untouched (s .cells) cells x
     held-still m j p {c} {v} e d x z = kept m j p .slots (subst (λ (y : Bin). HeldIn s y v) (sym e) d) x z
 
@@ -329,7 +329,7 @@ module _ (s : Set) (P : ℕ → Type 0) (k i : ℕ) (l : List ℕ) (b : Bin) (bi
             let v = g .loose .lists m j a q f in
             good-list-frame s bins heads cells a v (held-still m j q f (listed (v .ends)))
 
-    named-else : (m j h : ℕ) → BinPlace s m j → binAt s m j ≡ tree h → SameHeader s bins heads cells h
+    named-else : (m j h : ℕ) → BinThere s m j → binAt s m j ≡ tree h → SameHeader s bins heads cells h
     named-else m j h p e = kept m j p .header h e
 
     headers : Headers t
@@ -356,12 +356,12 @@ module _ (s : Set) (P : ℕ → Type 0) (k i : ℕ) (l : List ℕ) (b : Bin) (bi
         own-first : {h : ℕ} → Sits t l (tree h) → firstAt t h ≢ null
         own-first (as-tree r f w c n d) = f
 
-        same : (h : ℕ) → ((m j : ℕ) → BinPlace t m j → binAt t m j ≢ tree h) → SameHeader s bins heads cells h
-        same h n = g .headers h (λ e. n k i (place-over s bins heads cells (g .spot)) (g .here ∙ e))
+        same : (h : ℕ) → ((m j : ℕ) → BinThere t m j → binAt t m j ≢ tree h) → SameHeader s bins heads cells h
+        same h n = g .headers h (λ e. n k i (there-over s bins heads cells (g .spot)) (g .here ∙ e))
 
-        unnamed : (h : ℕ) → ((m j : ℕ) → BinPlace t m j → binAt t m j ≢ tree h) → (m j : ℕ) → BinPlace s m j → binAt s m j ≢ tree h
+        unnamed : (h : ℕ) → ((m j : ℕ) → BinThere t m j → binAt t m j ≢ tree h) → (m j : ℕ) → BinThere s m j → binAt s m j ≢ tree h
         unnamed h n m j p e =
-            n m j (place-over s bins heads cells p) (g .there m j p (full m j (λ z. empty-tree (sym z ∙ e))) ∙ e)
+            n m j (there-over s bins heads cells p) (g .there m j p (full m j (λ z. empty-tree (sym z ∙ e))) ∙ e)
 
     trees : GoodTrees t
     trees m j h p e = which m j this that
@@ -471,7 +471,7 @@ module _ (s : Set) (P : ℕ → Type 0) (k i : ℕ) (l : List ℕ) (b : Bin) (bi
             subst (λ (a : ℕ). EntryOf t m a x) (sym (z .1)) (subst (λ (a : ℕ). EntryOf t a i x) (sym (z .0)) (new x (z .2)))
 
     -- What another bin lists.
-    pub laid-lists : (m j : ℕ) → BinPlace s m j → ((m ≡ k) × (j ≡ i) → ⊥) → {v : List ℕ} → BinLists s (binAt s m j) v
+    pub laid-lists : (m j : ℕ) → BinThere s m j → ((m ≡ k) × (j ≡ i) → ⊥) → {v : List ℕ} → BinLists s (binAt s m j) v
         → BinLists t (binAt t m j) v
     laid-lists m j p d {v} w =
         rw (g .there m j p d)

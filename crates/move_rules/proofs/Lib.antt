@@ -1,6 +1,6 @@
 pub mod Rows
 pub mod Framing
-pub mod Places
+pub mod BinRow
 pub mod Loose
 pub mod Laying
 pub mod Threading

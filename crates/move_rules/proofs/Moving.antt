@@ -26,11 +26,11 @@ use Rattle.move_rules.specs.Moving.{rewritten, headsFreed, binsMoved, ce
 use Rattle.move_rules.specs.Moving.{mostListed, lowHeader, highHeader, lowLaid, bothLaid}
 use Rattle.move_rules.specs.Moved.{FreeHeader, Form, Planted, Elsewhere, BinMoved}
 use Rattle.move_rules.proofs.Finding.{same-lookup, same-walk}
-use Rattle.move_rules.proofs.Places.{fit-over}
+use Rattle.move_rules.proofs.BinRow.{fit-over}
 use Rattle.move_rules.proofs.Lining.{Threaded, Past, threads}
 use Rattle.move_rules.proofs.Threading.{Threads, threaded-loose, threaded-entries, threaded-lists}
 use Rattle.move_rules.proofs.Laying.{sits-lists, list-links}
-use Rattle.set_rules.specs.Accepted.{BinPlace, EntryOf, Accepted}
+use Rattle.set_rules.specs.Accepted.{BinThere, EntryOf, Accepted}
 use Rattle.set_rules.proofs.Fit.{small, ends, slots-are, length-least, near-parent, far-parent}
 use Rattle.set_rules.proofs.Homes.{entry-only}
 use Rattle.move_rules.proofs.Building.{Distinct}
@@ -58,7 +58,7 @@ same-cursors s bins heads cells c (BadCursor.out-of-range j a b d) = BadCursor.o
 same-cursors s bins heads cells c (BadCursor.not-congruent j a d) = BadCursor.not-congruent j a d
 same-cursors s bins heads cells c (BadCursor.stray-last a b) = BadCursor.stray-last a b
 
-module _ {s : Set} (fit : Fit s) (acc : Accepted s) {k i : ℕ} (p : BinPlace s k i) (lower : suc k < tablesOf s)
+module _ {s : Set} (fit : Fit s) (acc : Accepted s) {k i : ℕ} (p : BinThere s k i) (lower : suc k < tablesOf s)
     (unmoved : binAt s k i ≢ moved) (above : (j : ℕ) → k ≡ suc j → binAt s j (i % lengthAt s j) ≡ moved) where
   -- The halves.
   pub low-own : (x : ℕ) → 1 ≤ times x (lowHalf s k i) → EntryOf s k i x
@@ -115,11 +115,11 @@ module _ {s : Set} (fit : Fit s) (acc : Accepted s) {k i : ℕ} (p : BinPlace s 
   some-bins : 1 ≤ lengthAt s k
   some-bins = length-least fit k (omega arith)
 
-  pub low-place : BinPlace s (suc k) i
-  low-place = record { table = lower; index = omega (arith, fit .twice k lower, p .index) }
+  pub low-there : BinThere s (suc k) i
+  low-there = record { table = lower; index = omega (arith, fit .twice k lower, p .index) }
 
-  high-place : BinPlace s (suc k) (i + lengthAt s k)
-  high-place = record { table = lower; index = omega (arith, fit .twice k lower, p .index) }
+  high-there : BinThere s (suc k) (i + lengthAt s k)
+  high-there = record { table = lower; index = omega (arith, fit .twice k lower, p .index) }
 
   -- No entry is in both.
   pub not-both : (x : ℕ) → 1 ≤ times x (lowHalf s k i) → 1 ≤ times x (highHalf s k i) → ⊥
@@ -182,8 +182,8 @@ module _ {s : Set} (fit : Fit s) (acc : Accepted s) {k i : ℕ} (p : BinPlace s 
   half-done e =
       rw (low-count fit acc p, low-first fit acc p)
       (done strung-fit (threaded-loose (takenOf s k i) (EntryOf s k i) (entriesIn s (binAt s k i)) (cellsHalved s k i) strung-threads)
-      (record { table = low-place .table; index = low-place .index })
-      (taken-below fit acc p lower unmoved above i low-place (near-parent i (lengthAt s k) (p .index)))
+      (record { table = low-there .table; index = low-there .index })
+      (taken-below fit acc p lower unmoved above i low-there (near-parent i (lengthAt s k) (p .index)))
       up (lowHalf s k i) low-own low-home low-distinct (pass .lows) low-few (lowHeader s k i)
       (λ b. taken-free fit acc p lower unmoved above (lowHeader s k i) .0 (e b)))
     where
@@ -195,7 +195,7 @@ module _ {s : Set} (fit : Fit s) (acc : Accepted s) {k i : ℕ} (p : BinPlace s 
   strung-entries : (m j x : ℕ) → EntryOf (binTaken s k i) m j x ↔ EntryOf (takenOf s k i) m j x
   strung-entries = threaded-entries (takenOf s k i) (EntryOf s k i) (entriesIn s (binAt s k i)) (cellsHalved s k i) strung-threads
 
-  strung-lists : (m j : ℕ) → BinPlace s m j → ((m ≡ k) × (j ≡ i) → ⊥) → {v : List ℕ} → BinLists s (binAt s m j) v
+  strung-lists : (m j : ℕ) → BinThere s m j → ((m ≡ k) × (j ≡ i) → ⊥) → {v : List ℕ} → BinLists s (binAt s m j) v
       → BinLists (binTaken s k i) (binAt (binTaken s k i) m j) v
   strung-lists m j q a z =
       threaded-lists (takenOf s k i) (EntryOf s k i) (entriesIn s (binAt s k i)) (cellsHalved s k i) strung-threads m j
@@ -224,7 +224,7 @@ module _ {s : Set} (fit : Fit s) (acc : Accepted s) {k i : ℕ} (p : BinPlace s 
         (highHeader s k i) (halfLaid h (suc k) (i + lengthAt s k) (highHeader s k i) (halfFirst s k i (i + lengthAt s k))
         (halfCount s k i (i + lengthAt s k)))) (sym (d .is))
         (rw (high-count fit acc p, high-first fit acc p)
-        (done (d .fit) (d .loose) (record { table = high-place .table; index = high-place .index })
+        (done (d .fit) (d .loose) (record { table = high-there .table; index = high-there .index })
         was up (highHalf s k i) (λ x z. (high-own x z, none x z)) high-home high-distinct
         (listed-frame (λ x z. d .spares x (none x z)) (pass .highs)) high-few (highHeader s k i) (λ b. rootless (e b))))
       where
@@ -243,9 +243,9 @@ module _ {s : Set} (fit : Fit s) (acc : Accepted s) {k i : ℕ} (p : BinPlace s 
 
         was : binAt halfway (suc k) (i + lengthAt s k) ≡ empty
         was =
-            d .there (suc k) (i + lengthAt s k) (record { table = high-place .table; index = high-place .index })
+            d .there (suc k) (i + lengthAt s k) (record { table = high-there .table; index = high-there .index })
             (λ z. omega (arith, z .1, some-bins))
-            ∙ taken-below fit acc p lower unmoved above (i + lengthAt s k) high-place (far-parent i (lengthAt s k) (p .index))
+            ∙ taken-below fit acc p lower unmoved above (i + lengthAt s k) high-there (far-parent i (lengthAt s k) (p .index))
 
         up : (j : ℕ) → suc k ≡ suc j → binAt halfway j ((i + lengthAt s k) % lengthAt s j) ≡ moved
         up j e =
@@ -273,10 +273,10 @@ module _ {s : Set} (fit : Fit s) (acc : Accepted s) {k i : ℕ} (p : BinPlace s 
               go (inl h) = omega (arith, low-all x (z .0 .0) h, z .0 .1)
               go (inr h) = omega (arith, high-all x (z .0 .0) h, z .1)
 
-      over-half : {m j : ℕ} → BinPlace s m j → BinPlace halfway m j
+      over-half : {m j : ℕ} → BinThere s m j → BinThere halfway m j
       over-half q = record { table = q .table; index = q .index }
 
-      over-taken : {m j : ℕ} → BinPlace s m j → BinPlace (binTaken s k i) m j
+      over-taken : {m j : ℕ} → BinThere s m j → BinThere (binTaken s k i) m j
       over-taken q = record { table = q .table; index = q .index }
 
       -- Where an entry of the new set comes from.
@@ -310,7 +310,7 @@ module _ {s : Set} (fit : Fit s) (acc : Accepted s) {k i : ℕ} (p : BinPlace s 
           let r = entry-only (g .fit) (moved-accepted .parent-moved) (moved-accepted .home) e f in omega (arith, r .1, some-bins)
 
       -- The bins below held nothing.
-      none-below : (j x : ℕ) → BinPlace s (suc k) j → j % lengthAt s k ≡ i → EntryOf s (suc k) j x → ⊥
+      none-below : (j x : ℕ) → BinThere s (suc k) j → j % lengthAt s k ≡ i → EntryOf s (suc k) j x → ⊥
       none-below j x q e f = not-empty (f .holds) (acc .parent-moved k j q (λ z. unmoved (ap (λ (y : ℕ). binAt s k y) (sym e) ∙ z)))
 
       abbrev InHalf : ℕ → Type 0
@@ -331,13 +331,13 @@ module _ {s : Set} (fit : Fit s) (acc : Accepted s) {k i : ℕ} (p : BinPlace s 
 
       from-low : (x : ℕ) → EntryOf after (suc k) i x → EntryOf s k i x
       from-low x e =
-          come-from (suc k) i x e (λ n f. absurd (none-below i x low-place (near-parent i (lengthAt s k) (p .index)) f))
+          come-from (suc k) i x e (λ n f. absurd (none-below i x low-there (near-parent i (lengthAt s k) (p .index)) f))
           (λ z. low-own x (z .2)) (λ z. high-own x (z .2))
 
       from-high : (x : ℕ) → EntryOf after (suc k) (i + lengthAt s k) x → EntryOf s k i x
       from-high x e =
           come-from (suc k) (i + lengthAt s k) x e
-          (λ n f. absurd (none-below (i + lengthAt s k) x high-place (far-parent i (lengthAt s k) (p .index)) f))
+          (λ n f. absurd (none-below (i + lengthAt s k) x high-there (far-parent i (lengthAt s k) (p .index)) f))
           (λ z. low-own x (z .2)) (λ z. high-own x (z .2))
 
       -- The entries from a table on, but for the next, are the same.
@@ -374,7 +374,7 @@ module _ {s : Set} (fit : Fit s) (acc : Accepted s) {k i : ℕ} (p : BinPlace s 
               go (no u) v = stayed (λ z. u (z .0))
 
       low-bin : binAt after (suc k) i ≡ d .bin
-      low-bin = g .there (suc k) i (over-half low-place) (λ z. omega (arith, z .1, some-bins)) ∙ d .here
+      low-bin = g .there (suc k) i (over-half low-there) (λ z. omega (arith, z .1, some-bins)) ∙ d .here
 
       low-header : (h : ℕ) → binAt after (suc k) i ≡ tree h → FreeHeader s k i h × ((j : ℕ) → j < h → FreeHeader s k i j → ⊥)
       low-header h e = let z = sym low-bin ∙ e in rw (d .named h z) (lows (large (d .form) z))
@@ -447,7 +447,7 @@ module _ {s : Set} (fit : Fit s) (acc : Accepted s) {k i : ℕ} (p : BinPlace s 
       low-gives : Gives after (suc k) i (lowHalf s k i)
       low-gives =
           lists-gives refl
-          (g .lists (suc k) i (over-half low-place) (λ z. omega (arith, z .1, some-bins))
+          (g .lists (suc k) i (over-half low-there) (λ z. omega (arith, z .1, some-bins))
           (subst (λ (b : Bin). BinLists halfway b (lowHalf s k i)) (sym (d .here)) (sits-lists (d .sits))))
 
       high-gives : Gives after (suc k) (i + lengthAt s k) (highHalf s k i)
@@ -458,7 +458,7 @@ module _ {s : Set} (fit : Fit s) (acc : Accepted s) {k i : ℕ} (p : BinPlace s 
           g .there k i (over-half p) (λ z. omega (arith, z .0)) ∙ d .there k i (over-taken p) (λ z. omega (arith, z .0))
           ∙ taken-here fit acc p lower unmoved above
 
-      other-words : (m j : ℕ) → BinPlace s m j → Elsewhere s k i m j → binAt after m j ≡ binAt s m j
+      other-words : (m j : ℕ) → BinThere s m j → Elsewhere s k i m j → binAt after m j ≡ binAt s m j
       other-words m j q o =
           g .there m j (over-half q) (o .high)
           ∙ d .there m j (over-taken q) (o .low)

@@ -10,7 +10,7 @@ use borrow.Author.Tests.{eqb-true, eqb-false, eq-eqb, ne-eqb}
 use Rattle.slots.specs.Words.{pick, nameOf, hashPart}
 use Rattle.tree_rules.specs.Find.{slotsOf}
 use Rattle.set_rules.specs.Words.{Set, Fit, lengthAt, Bin, empty, moved, bad, list, tree, binAt, bini}
-use Rattle.set_rules.specs.Accepted.{BinPlace, Listed, Accepted}
+use Rattle.set_rules.specs.Accepted.{BinThere, Listed, Accepted}
 use Rattle.set_rules.specs.Accepting.{isHome}
 use Rattle.set_rules.specs.Whole.{Gives}
 use Rattle.set_rules.proofs.Fit.{small}
@@ -38,7 +38,7 @@ module _ (names : List ℕ) (len j : ℕ) where
       go true e c = Chosen.taken (eqb-true _ _ e) c
       go false e c = Chosen.passed (eqb-false _ _ e) c
 
-module _ {s : Set} (fit : Fit s) (acc : Accepted s) {k i : ℕ} (p : BinPlace s k i) (unmoved : binAt s k i ≢ moved) where
+module _ {s : Set} (fit : Fit s) (acc : Accepted s) {k i : ℕ} (p : BinThere s k i) (unmoved : binAt s k i ≢ moved) where
   -- A bin lists what next visits from its first slot.
   lists-strung : {b : Bin} {l : List ℕ} → BinLists s b l → Listed (slotsOf (s .names)) (s .cells) (firstIn (s .heads) b) l
   lists-strung of-none = Listed.ended refl

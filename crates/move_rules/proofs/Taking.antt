@@ -16,7 +16,7 @@ use Rattle.tree_rules.specs.Tree.{slots, times}
 use Rattle.tree_rules.proofs.Reaching.{hangs-stand, hangs-inside}
 use Rattle.set_rules.specs.Words.{Set, Fit, tablesOf, lengthAt, headersIn, rootAt, firstAt, countAt, Bin, empty, moved, bad, list, tree}
 use Rattle.set_rules.specs.Words.{binAt}
-use Rattle.set_rules.specs.Accepted.{BinPlace, HeldIn, listed, grown, EntryOf}
+use Rattle.set_rules.specs.Accepted.{BinThere, HeldIn, listed, grown, EntryOf}
 use Rattle.set_rules.specs.Accepted.{ParentMoved, EntriesHome, Headers, InOne, Accepted}
 use Rattle.set_rules.proofs.Fit.{small}
 use Rattle.set_rules.proofs.Gathering.{not-moved, holds-unique}
@@ -24,12 +24,12 @@ use Rattle.set_rules.proofs.Lists.{listed-inside}
 use Rattle.set_rules.proofs.Homes.{entry-only}
 use Rattle.set_rules.proofs.Naming.{ranges}
 use Rattle.move_rules.specs.Moving.{rewritten, placeOf, headerIn, headsFreed, binsMoved}
-use Rattle.move_rules.proofs.Framing.{place-over, place-back, SameHeader, Left, entry-over, entry-back, good-list-frame}
+use Rattle.move_rules.proofs.Framing.{there-over, there-back, SameHeader, Left, entry-over, entry-back, good-list-frame}
 use Rattle.move_rules.proofs.Framing.{BinLists, shaped-frame, lists-frame}
 use Rattle.move_rules.specs.Moved.{FreeHeader}
-use Rattle.move_rules.proofs.Places.{headed-long, headed-root, headed-first, headed-count, headed-else, headed-none, fit-over}
-use Rattle.move_rules.proofs.Places.{written-here}
-use Rattle.move_rules.proofs.Places.{written-else}
+use Rattle.move_rules.proofs.BinRow.{headed-long, headed-root, headed-first, headed-count, headed-else, headed-none, fit-over}
+use Rattle.move_rules.proofs.BinRow.{written-here}
+use Rattle.move_rules.proofs.BinRow.{written-else}
 use Rattle.move_rules.proofs.Laying.{parent-place}
 use Rattle.move_rules.proofs.Loose.{Loose}
 
@@ -71,7 +71,7 @@ hue-busy : (c : Colour) {v : ℕ} → v ≡ code c → v ≢ free
 hue-busy black e = omega arith
 hue-busy red e = omega arith
 
-module _ {s : Set} (fit : Fit s) (acc : Accepted s) {k i : ℕ} (p : BinPlace s k i) (lower : suc k < tablesOf s)
+module _ {s : Set} (fit : Fit s) (acc : Accepted s) {k i : ℕ} (p : BinThere s k i) (lower : suc k < tablesOf s)
     (unmoved : binAt s k i ≢ moved) (above : (j : ℕ) → k ≡ suc j → binAt s j (i % lengthAt s j) ≡ moved) where
   abbrev bins : List ℕ
   bins = binsMoved s k i
@@ -93,7 +93,7 @@ module _ {s : Set} (fit : Fit s) (acc : Accepted s) {k i : ℕ} (p : BinPlace s 
   unfolding binsMoved
   taken-fit = fit-over fit (length-set (s .bins) (placeOf s k i) _) (back-long (s .heads) (binAt s k i)) refl
 
-  there : (m j : ℕ) → BinPlace s m j → ((m ≡ k) × (j ≡ i) → ⊥) → binAt t m j ≡ binAt s m j
+  there : (m j : ℕ) → BinThere s m j → ((m ≡ k) × (j ≡ i) → ⊥) → binAt t m j ≡ binAt s m j
   unfolding binsMoved
   there m j q d = written-else fit p _ heads (s .cells) (back-long (s .heads) (binAt s k i)) m j q d
 
@@ -125,11 +125,11 @@ module _ {s : Set} (fit : Fit s) (acc : Accepted s) {k i : ℕ} (p : BinPlace s 
         count = back-else (s .heads) (binAt s k i) h (3 * h + 2) few d (omega arith) (omega arith);
       }
 
-  old-place : {m j : ℕ} → BinPlace t m j → BinPlace s m j
-  old-place q = place-back s bins heads (s .cells) q
+  old-place : {m j : ℕ} → BinThere t m j → BinThere s m j
+  old-place q = there-back s bins heads (s .cells) q
 
   -- A bin of the new set that is not Moved is another, with the word that it had.
-  elsewhere : {b : Bin} (m j : ℕ) → BinPlace s m j → b ≢ moved → binAt t m j ≡ b → ((m ≡ k) × (j ≡ i) → ⊥) × (binAt s m j ≡ b)
+  elsewhere : {b : Bin} (m j : ℕ) → BinThere s m j → b ≢ moved → binAt t m j ≡ b → ((m ≡ k) × (j ≡ i) → ⊥) × (binAt s m j ≡ b)
   elsewhere m j q d e =
       let n : (m ≡ k) × (j ≡ i) → ⊥ = λ z. d (sym e ∙ at-here m j z) in (n, sym (there m j q n) ∙ e)
 
@@ -140,7 +140,7 @@ module _ {s : Set} (fit : Fit s) (acc : Accepted s) {k i : ℕ} (p : BinPlace s 
   list-moved a e = let z : _≡_ {A = ℕ} 0 1 = cc in omega arith
 
   -- Every other bin is left alone: no two bins name one header.
-  kept : (m j : ℕ) → BinPlace s m j → ((m ≡ k) × (j ≡ i) → ⊥) → Left s bins heads (s .cells) (binAt s m j)
+  kept : (m j : ℕ) → BinThere s m j → ((m ≡ k) × (j ≡ i) → ⊥) → Left s bins heads (s .cells) (binAt s m j)
   kept m j q d =
       record {
         header = λ h e. other-header h (λ f. d (acc .heads .trees m j k i h q p e f));
@@ -148,11 +148,11 @@ module _ {s : Set} (fit : Fit s) (acc : Accepted s) {k i : ℕ} (p : BinPlace s 
       }
 
   over : (m j x : ℕ) → ((m ≡ k) × (j ≡ i) → ⊥) → EntryOf s m j x → EntryOf t m j x
-  over m j x d e = entry-over s bins heads (s .cells) (there m j (e .place) d) (kept m j (e .place) d) e
+  over m j x d e = entry-over s bins heads (s .cells) (there m j (e .there) d) (kept m j (e .there) d) e
 
   back : (m j x : ℕ) → EntryOf t m j x → ((m ≡ k) × (j ≡ i) → ⊥) × EntryOf s m j x
   back m j x e =
-      let q = old-place (e .place) in
+      let q = old-place (e .there) in
       let d : (m ≡ k) × (j ≡ i) → ⊥ = λ z. not-moved (e .holds) (at-here m j z) in
       (d, entry-back s bins heads (s .cells) (there m j q d) (kept m j q d) taken-fit (acc .lists) (acc .trees) e)
 
@@ -161,10 +161,10 @@ module _ {s : Set} (fit : Fit s) (acc : Accepted s) {k i : ℕ} (p : BinPlace s 
       which (suc m) j (λ z. absurd (d (this z)))
       (λ n. there (suc m) j r n ∙ acc .parent-moved m j r (λ e. d (still e)))
     where
-      r : BinPlace s (suc m) j
+      r : BinThere s (suc m) j
       r = old-place q
 
-      y : BinPlace s m (j % lengthAt s m)
+      y : BinThere s m (j % lengthAt s m)
       y = parent-place s taken-fit r
 
       still : binAt s m (j % lengthAt s m) ≡ moved → binAt t m (j % lengthAt s m) ≡ moved
@@ -192,13 +192,13 @@ module _ {s : Set} (fit : Fit s) (acc : Accepted s) {k i : ℕ} (p : BinPlace s 
         other-count = λ h w n. blank h (rw range at w) n .2;
       }
     where
-      blank : (h : ℕ) → h < headersIn s → ((m j : ℕ) → BinPlace t m j → binAt t m j ≢ tree h)
+      blank : (h : ℕ) → h < headersIn s → ((m j : ℕ) → BinThere t m j → binAt t m j ≢ tree h)
           → (rootAt t h ≡ null) × (firstAt t h ≡ null) × (countAt t h ≡ 0)
       blank h w n = go (tree-or-not (binAt s k i) h)
         where
-          unnamed : binAt s k i ≢ tree h → (m j : ℕ) → BinPlace s m j → binAt s m j ≢ tree h
+          unnamed : binAt s k i ≢ tree h → (m j : ℕ) → BinThere s m j → binAt s m j ≢ tree h
           unnamed d m j q e =
-              n m j (place-over s bins heads (s .cells) q) (there m j q (λ z. d (sym (was-here m j z) ∙ e)) ∙ e)
+              n m j (there-over s bins heads (s .cells) q) (there m j q (λ z. d (sym (was-here m j z) ∙ e)) ∙ e)
 
           go : Dec (binAt s k i ≡ tree h) → (rootAt t h ≡ null) × (firstAt t h ≡ null) × (countAt t h ≡ 0)
           go (yes e) = rw e (given-back (s .heads) h (omega (arith, fit .three)))
@@ -293,7 +293,7 @@ module _ {s : Set} (fit : Fit s) (acc : Accepted s) {k i : ℕ} (p : BinPlace s 
           }))
 
   -- The bins below are empty, and stay so.
-  pub taken-below : (j : ℕ) → BinPlace s (suc k) j → j % lengthAt s k ≡ i → binAt t (suc k) j ≡ empty
+  pub taken-below : (j : ℕ) → BinThere s (suc k) j → j % lengthAt s k ≡ i → binAt t (suc k) j ≡ empty
   taken-below j q e =
       there (suc k) j q (λ z. omega (arith, z .0)) ∙ acc .parent-moved k j q (λ f. unmoved (ap (λ (y : ℕ). binAt s k y) (sym e) ∙ f))
 
@@ -304,11 +304,11 @@ module _ {s : Set} (fit : Fit s) (acc : Accepted s) {k i : ℕ} (p : BinPlace s 
   pub taken-entries : (m j x : ℕ) → EntryOf t m j x ↔ (((m ≡ k) × (j ≡ i) → ⊥) × EntryOf s m j x)
   taken-entries m j x = (back m j x, λ z. over m j x (z .0) (z .1))
 
-  pub taken-there : (m j : ℕ) → BinPlace s m j → ((m ≡ k) × (j ≡ i) → ⊥) → binAt t m j ≡ binAt s m j
+  pub taken-there : (m j : ℕ) → BinThere s m j → ((m ≡ k) × (j ≡ i) → ⊥) → binAt t m j ≡ binAt s m j
   taken-there = there
 
   -- What another bin lists.
-  pub taken-lists : (m j : ℕ) → BinPlace s m j → ((m ≡ k) × (j ≡ i) → ⊥) → {v : List ℕ} → BinLists s (binAt s m j) v
+  pub taken-lists : (m j : ℕ) → BinThere s m j → ((m ≡ k) × (j ≡ i) → ⊥) → {v : List ℕ} → BinLists s (binAt s m j) v
       → BinLists t (binAt t m j) v
   taken-lists m j q d w = rw (there m j q d) (lists-frame s bins heads (s .cells) (kept m j q d .header) (λ x z f b. refl) w)
 
@@ -323,7 +323,7 @@ module _ {s : Set} (fit : Fit s) (acc : Accepted s) {k i : ℕ} (p : BinPlace s 
     λ z. record {
       inside = rw range at (z .0);
       unnamed = λ m j q e. which m j (λ y. y)
-          (λ d. absurd (headers .roots m j h (place-over s bins heads (s .cells) q) (there m j q d ∙ e) (z .1)));
+          (λ d. absurd (headers .roots m j h (there-over s bins heads (s .cells) q) (there m j q d ∙ e) (z .1)));
     },
   )
 

@@ -11,11 +11,11 @@ use Rattle.tree_rules.specs.Find.{slotsOf}
 use Rattle.tree_rules.specs.Tree.{slots, times}
 use Rattle.index_rules.specs.Sound.{Cleared}
 use Rattle.set_rules.specs.Words.{Set, Fit, Bin, binAt}
-use Rattle.set_rules.specs.Accepted.{slotted, BinPlace, HeldIn, listed, grown, EntryOf, InOne}
+use Rattle.set_rules.specs.Accepted.{slotted, BinThere, HeldIn, listed, grown, EntryOf, InOne}
 use Rattle.set_rules.proofs.Fit.{small}
 use Rattle.move_rules.specs.Moving.{rewritten}
 use Rattle.move_rules.proofs.Framing.{BinLists}
-use Rattle.move_rules.proofs.Framing.{Untouched, place-over, place-back, SameHeader, Left, entry-over, entry-back, good-list-frame}
+use Rattle.move_rules.proofs.Framing.{Untouched, there-over, there-back, SameHeader, Left, entry-over, entry-back, good-list-frame}
 use Rattle.move_rules.proofs.Framing.{shaped-frame, linked-frame, lists-own, lists-frame}
 use Rattle.move_rules.proofs.Loose.{Loose}
 
@@ -45,25 +45,25 @@ module _ (s : Set) (P : ℕ → Type 0) (l cells : List ℕ) where
     same : (h : ℕ) → SameHeader s (s .bins) (s .heads) cells h
     same h = record { root = refl; first = refl; count = refl }
 
-    kept : (m j : ℕ) → BinPlace s m j → Left s (s .bins) (s .heads) cells (binAt s m j)
+    kept : (m j : ℕ) → BinThere s m j → Left s (s .bins) (s .heads) cells (binAt s m j)
     kept m j p =
-        record { header = λ h e. same h; slots = λ {l = v} d x z. still m j x (record { place = p; held = v; holds = d; member = z }) }
+        record { header = λ h e. same h; slots = λ {l = v} d x z. still m j x (record { there = p; held = v; holds = d; member = z }) }
 
     over : (m j x : ℕ) → EntryOf s m j x → EntryOf t m j x
-    over m j x e = entry-over s (s .bins) (s .heads) cells refl (kept m j (e .place)) e
+    over m j x e = entry-over s (s .bins) (s .heads) cells refl (kept m j (e .there)) e
 
     back : (m j x : ℕ) → EntryOf t m j x → EntryOf s m j x
     back m j x e =
-        let p = place-back s (s .bins) (s .heads) cells (e .place) in
+        let p = there-back s (s .bins) (s .heads) cells (e .there) in
         entry-back s (s .bins) (s .heads) cells refl (kept m j p) (g .fit) (g .loose .lists) (g .loose .trees) e
 
-    old : {m j : ℕ} → BinPlace t m j → BinPlace s m j
-    old p = place-back s (s .bins) (s .heads) cells p
+    old : {m j : ℕ} → BinThere t m j → BinThere s m j
+    old p = there-back s (s .bins) (s .heads) cells p
 
-    new : {m j : ℕ} → BinPlace s m j → BinPlace t m j
-    new p = place-over s (s .bins) (s .heads) cells p
+    new : {m j : ℕ} → BinThere s m j → BinThere t m j
+    new p = there-over s (s .bins) (s .heads) cells p
 
-    held-still : (m j : ℕ) → BinPlace s m j → {c : Bin} {v : List ℕ} → binAt s m j ≡ c → HeldIn s c v → (x : ℕ) → 1 ≤ times x v
+    held-still : (m j : ℕ) → BinThere s m j → {c : Bin} {v : List ℕ} → binAt s m j ≡ c → HeldIn s c v → (x : ℕ) → 1 ≤ times x v
         → Untouched (s .cells) cells x
     held-still m j p {c} {v} e d x z = kept m j p .slots (subst (λ (y : Bin). HeldIn s y v) (sym e) d) x z
 
@@ -153,7 +153,7 @@ module _ (s : Set) (P : ℕ → Type 0) (l cells : List ℕ) where
     pub threaded-entries : (m j x : ℕ) → EntryOf t m j x ↔ EntryOf s m j x
     threaded-entries m j x = (back m j x, over m j x)
 
-    pub threaded-lists : (m j : ℕ) → BinPlace s m j → {v : List ℕ} → BinLists s (binAt s m j) v → BinLists t (binAt t m j) v
+    pub threaded-lists : (m j : ℕ) → BinThere s m j → {v : List ℕ} → BinLists s (binAt s m j) v → BinLists t (binAt t m j) v
     threaded-lists m j p w =
         lists-frame s (s .bins) (s .heads) cells (kept m j p .header)
         (λ x z. still m j x (lists-own s (small (g .fit)) (g .loose .chains) p refl w x z)) w

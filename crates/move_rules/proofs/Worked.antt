@@ -9,7 +9,7 @@ use Rattle.redblack.specs.Insertion.{raised, straightened, lifted, insertionTur
 use Rattle.redblack.specs.Rotate.{hung, recounted, turned, rotated}
 use Rattle.index_rules.specs.Sound.{isCleared, slotFine, slotsFine}
 use Rattle.set_rules.specs.Words.{binsBefore, fits, fitTables, doubling, doubled, binOf, bini}
-use Rattle.set_rules.specs.Accepting.{accepted, accepts, isHome, isListSlot, samePair, unlike, listSlotFine, listFine, wellPlaced, ownFine}
+use Rattle.set_rules.specs.Accepting.{accepted, accepts, isHome, isListSlot, samePair, unlike, listSlotFine, listFine, mayStand, ownFine}
 use Rattle.set_rules.specs.Accepting.{binAsks, belowFine, binFine, tableFine, isBlank, headersFine, allHeld}
 use Rattle.move_rules.specs.Passes.{homeCount, firstHome, halvesEnded, threaded, plainSlot, plained, backed, joined, joinedFrom}
 use Rattle.move_rules.specs.Moving.{halfCount, halfFirst, spareFrom, headerFor, lowHeader, highHeader, lacks, headedAt, headsFreed}
@@ -22,7 +22,7 @@ use Rattle.move_rules.specs.Worked.{rowNames, rowCells, blankHeads, rowS
 pub worked-moves : WorkedMoves
 unfolding rowNames rowCells blankHeads rowSet pairSet cell write nameOf sum tally linksIn climbed descended hooked inserted spotted raised
     straightened lifted insertionTurn insertionTurns balancedInsertion hung recounted turned rotated isCleared slotFine slotsFine binsBefore
-    fits fitTables doubling doubled binOf bini accepted accepts isHome isListSlot samePair unlike listSlotFine listFine wellPlaced ownFine
+    fits fitTables doubling doubled binOf bini accepted accepts isHome isListSlot samePair unlike listSlotFine listFine mayStand ownFine
     binAsks belowFine binFine tableFine isBlank headersFine allHeld homeCount firstHome halvesEnded threaded plainSlot plained backed joined
     joinedFrom halfCount halfFirst spareFrom headerFor lowHeader highHeader lacks headedAt headsFreed binsMoved cellsHalved listHead
     treeHead listLaid treeGrown treeHeads treeLaid halfLaid lowLaid bothLaid parentMoved movable movesBin moves moveTold binFinished

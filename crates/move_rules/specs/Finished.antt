@@ -6,7 +6,7 @@ use Prim.Native.Nat.{ℕ, suc, _+_, _<_}
 use lib.ListN.{length}
 use Rattle.slots.specs.Words.{place, cell}
 use Rattle.set_rules.specs.Words.{Set, Fit, tablesOf, lengthAt, moved, binAt}
-use Rattle.set_rules.specs.Accepted.{BinPlace, EntryOf, Accepted}
+use Rattle.set_rules.specs.Accepted.{BinThere, EntryOf, Accepted}
 use Rattle.set_rules.specs.Lookup.{lookups}
 use Rattle.set_rules.specs.Held.{EntryFrom}
 use Rattle.move_rules.specs.Moved.{SplitBin, BinMoved}
@@ -28,7 +28,7 @@ pub record MovedBefore (t : Set) (k i : ℕ) : Type 0 where
 
 -- "only the last table has entries"
 pub record OnlyLast (t : Set) : Type 0 where
-  pub moves : (k i : ℕ) → BinPlace t k i → suc k < tablesOf t → binAt t k i ≡ moved
+  pub moves : (k i : ℕ) → BinThere t k i → suc k < tablesOf t → binAt t k i ≡ moved
   pub entries : (k i x : ℕ) → EntryOf t k i x → suc k ≡ tablesOf t
 
 -- Bins moved one after another lead from the set s to this one: "how many entries were moved, one that goes down two tables counted twice",

@@ -11,7 +11,7 @@ use Rattle.redblack.specs.Links.{Links, read}
 use Rattle.redblack.specs.Hanging.{inserted, spotted}
 use Rattle.set_rules.specs.Words.{Set, Fit, tablesOf, lengthAt, headersIn, rootAt, firstAt, countAt, Bin, empty, moved, list, tree, binAt}
 use Rattle.set_rules.specs.Words.{bini}
-use Rattle.set_rules.specs.Accepted.{BinPlace, EntryOf, Accepted}
+use Rattle.set_rules.specs.Accepted.{BinThere, EntryOf, Accepted}
 use Rattle.set_rules.specs.Lookup.{lookups}
 use Rattle.set_rules.specs.Cursor.{Cursor, BadCursor, starts}
 use Rattle.set_rules.specs.Walk.{nexts}
@@ -41,7 +41,7 @@ pub data CannotMove (s : Set) (k i : ℕ) : Type 0 where
 -- "Free are those that no bin names, and the bin's own, which is given back": no bin names it, but for the one that is moved.
 pub record FreeHeader (s : Set) (k i h : ℕ) : Type 0 where
   pub inside : h < headersIn s
-  pub unnamed : (m j : ℕ) → BinPlace s m j → binAt s m j ≡ tree h → (m ≡ k) × (j ≡ i)
+  pub unnamed : (m j : ℕ) → BinThere s m j → binAt s m j ≡ tree h → (m ≡ k) × (j ≡ i)
 
 -- "where headers run out": a half of more than six wants one, and there is none, or there are two such halves and not two headers.
 pub data RunOut (s : Set) (k i : ℕ) (low high : List ℕ) : Type 0 where
@@ -111,9 +111,9 @@ pub record BinMoved (s : Set) (k i : ℕ) (low high : List ℕ) (t : Set) : Type
   -- "and nothing is made or dropped"
   pub from-bin : (x : ℕ) → EntryOf t (suc k) i x ⊎ EntryOf t (suc k) (i + lengthAt s k) x → EntryOf s k i x
   -- "Every other bin has its word and the entries that it had, in the order that it had"
-  pub other-words : (m j : ℕ) → BinPlace s m j → Elsewhere s k i m j → binAt t m j ≡ binAt s m j
-  pub other-entries : (m j : ℕ) → BinPlace s m j → Elsewhere s k i m j → (x : ℕ) → EntryOf t m j x ↔ EntryOf s m j x
-  pub other-order : (m j : ℕ) → BinPlace s m j → Elsewhere s k i m j → binAt s m j ≢ moved → (l : List ℕ) → Gives s m j l → Gives t m j l
+  pub other-words : (m j : ℕ) → BinThere s m j → Elsewhere s k i m j → binAt t m j ≡ binAt s m j
+  pub other-entries : (m j : ℕ) → BinThere s m j → Elsewhere s k i m j → (x : ℕ) → EntryOf t m j x ↔ EntryOf s m j x
+  pub other-order : (m j : ℕ) → BinThere s m j → Elsewhere s k i m j → binAt s m j ≢ moved → (l : List ℕ) → Gives s m j l → Gives t m j l
   -- "no word of another slot is written, and none of a header that is not free"
   pub other-slots : (x : ℕ) → (EntryOf s k i x → ⊥) → (f : ℕ) → f < 7 → cell (t .cells) x f ≡ cell (s .cells) x f
   pub other-headers : (h : ℕ) → (FreeHeader s k i h → ⊥)

@@ -24,7 +24,7 @@ use Rattle.index_rules.proofs.Fit.{both}
 use Rattle.index_rules.proofs.Rules.{and, left-of, all-but, all-fine, fine-all}
 use Rattle.set_rules.specs.Words.{Set, Fit, tablesOf, lengthAt, headersIn, rootAt, firstAt, countAt, Bin, empty, moved, bad, list}
 use Rattle.set_rules.specs.Words.{tree, binAt, bini}
-use Rattle.set_rules.specs.Accepted.{slotted, BinPlace, Listed, ended, onward, HeldIn, listed, grown, EntryOf, ParentMoved}
+use Rattle.set_rules.specs.Accepted.{slotted, BinThere, Listed, ended, onward, HeldIn, listed, grown, EntryOf, ParentMoved}
 use Rattle.set_rules.specs.Accepted.{EntriesHome}
 use Rattle.set_rules.specs.Accepted.{HeadsOnce, GoodList, GoodChain, InOne, Accepted}
 use Rattle.set_rules.specs.Accepting.{headersFine, tableFine, allHeld, accepted}
@@ -55,11 +55,11 @@ held-kind (as-tree g) = omega arith
 
 module _ {s : Set} (fit : Fit s) where
   module _ {l : List ℕ} (row : Row s (lengthAt s 0) l) where
-    sub-at : {k i : ℕ} → BinPlace s k i → Sub fit k i l
+    sub-at : {k i : ℕ} → BinThere s k i → Sub fit k i l
     sub-at p = all-bins fit row p
 
     -- What a bin holds, where it is a list or a tree.
-    held-at : {k i : ℕ} → BinPlace s k i → (b : Bin) → binAt s k i ≡ b → 2 ≤ kind b → (m : List ℕ) × Held s k i b m
+    held-at : {k i : ℕ} → BinThere s k i → (b : Bin) → binAt s k i ≡ b → 2 ≤ kind b → (m : List ℕ) × Held s k i b m
     held-at {k} {i} p b e d = go (sub-at p .good)
       where
         go : {left : ℕ} {may : Bool} {m : List ℕ} → Good s whole left k i may m → (m : List ℕ) × Held s k i b m
@@ -67,10 +67,10 @@ module _ {s : Set} (fit : Fit s) where
         go (moves q z g) = absurd (omega (arith, kinds e q))
         go (holding {l = a} q h g) = (a, rw (sym q ∙ e) at h)
 
-    none-bad : (k i : ℕ) → BinPlace s k i → binAt s k i ≢ bad
+    none-bad : (k i : ℕ) → BinThere s k i → binAt s k i ≢ bad
     none-bad k i p e = omega (arith, held-kind (held-at p bad e (omega arith) .1))
 
-    last-unmoved : (k i : ℕ) → BinPlace s k i → suc k ≡ tablesOf s → binAt s k i ≢ moved
+    last-unmoved : (k i : ℕ) → BinThere s k i → suc k ≡ tablesOf s → binAt s k i ≢ moved
     last-unmoved k i p t e = let r = sub-at p in go (r .good) (r .sum)
       where
         go : {left : ℕ} {may : Bool} {m : List ℕ} → Good s whole left k i may m → suc k + left ≡ tablesOf s → ⊥
@@ -109,7 +109,7 @@ module _ {s : Set} (fit : Fit s) where
         go (inr e) h = ap (λ (i : ℕ). binAt s (suc k) i) e ∙ h .1
 
     homes : EntriesHome s
-    homes k i x e = go (sub-at (e .place) .good) (e .holds)
+    homes k i x e = go (sub-at (e .there) .good) (e .holds)
       where
         go : {left : ℕ} {may : Bool} {m : List ℕ} → Good s whole left k i may m → HeldIn s (binAt s k i) (e .held)
             → bini (lengthAt s k) (nameOf (s .names) x hashPart) ≡ i
@@ -126,29 +126,29 @@ module _ {s : Set} (fit : Fit s) where
     tree-held : {k i h : ℕ} {m : List ℕ} → Held s k i (tree h) m → (t : Tree) × Grown s (lengthAt s k) i h t
     tree-held (as-tree {t = t} g) = (t, g)
 
-    grown-at : (k i h : ℕ) → BinPlace s k i → binAt s k i ≡ tree h → (t : Tree) × Grown s (lengthAt s k) i h t
+    grown-at : (k i h : ℕ) → BinThere s k i → binAt s k i ≡ tree h → (t : Tree) × Grown s (lengthAt s k) i h t
     grown-at k i h p e = tree-held (held-at p (tree h) e (omega arith) .1)
 
-    list-at : (k i a : ℕ) → BinPlace s k i → binAt s k i ≡ list a → GoodList s a
+    list-at : (k i a : ℕ) → BinThere s k i → binAt s k i ≡ list a → GoodList s a
     list-at k i a p e = list-held (held-at p (list a) e (omega arith) .1)
 
     -- The head of a list, and the root of a tree, is an entry of the bin.
-    list-entry : {k i a : ℕ} → BinPlace s k i → binAt s k i ≡ list a → EntryOf s k i a
+    list-entry : {k i a : ℕ} → BinThere s k i → binAt s k i ≡ list a → EntryOf s k i a
     list-entry {k} {i} {a} p e =
         let g = list-at k i a p e in
         let r = ranges (slotsOf (s .names)) (headersIn s) _ .lists a .0 e in
-        record { place = p; held = g .visits; holds = rw e (listed (g .ends)); member = first (g .ends) (omega (arith, r .3, small fit)) }
+        record { there = p; held = g .visits; holds = rw e (listed (g .ends)); member = first (g .ends) (omega (arith, r .3, small fit)) }
       where
         first : {a : ℕ} {m : List ℕ} → Listed (slotsOf (s .names)) (s .cells) a m → a ≢ null → 1 ≤ times a m
         first (ended z) d = absurd (d z)
         first (onward {i = a} {l = m} b t) d = omega (arith, times-head a m)
 
-    tree-entry : {k i h : ℕ} → BinPlace s k i → binAt s k i ≡ tree h → EntryOf s k i (rootAt s h)
+    tree-entry : {k i h : ℕ} → BinThere s k i → binAt s k i ≡ tree h → EntryOf s k i (rootAt s h)
     tree-entry {k} {i} {h} p e =
         let g = grown-at k i h p e in
         let r = g .1 .rooted in
         record {
-          place = p;
+          there = p;
           held = slots (g .0);
           holds = rw e (grown r);
           member = rw (r .from) (top-in (slotsOf (s .names)) (s .cells) (r .hangs) (λ z. g .1 .root (r .from ∙ z)));
@@ -175,7 +175,7 @@ module _ {s : Set} (fit : Fit s) where
 
     -- A chain of as many slots as the tree, each used and at home in the tree's bin, has the tree's slots: each is an entry of that bin,
     -- and there are no more of these.
-    chain-at : length l ≡ tally (slotsOf (s .names)) (used (s .cells)) → (k i h : ℕ) → BinPlace s k i → binAt s k i ≡ tree h
+    chain-at : length l ≡ tally (slotsOf (s .names)) (used (s .cells)) → (k i h : ℕ) → BinThere s k i → binAt s k i ≡ tree h
         → GoodChain s k i h
     chain-at e k i h p b = record { visits = v; linked = c .1; count = c .2; own = λ x. (to x, from x) }
       where
@@ -266,12 +266,12 @@ module _ {s : Set} (fit : Fit s) where
     Built p left k i may = (l : List ℕ) × Good s p left k i may l
 
     -- A bin's list or tree is good, by the clauses.
-    list-good : {k i a : ℕ} → BinPlace s k i → binAt s k i ≡ list a → (l : List ℕ) × Held s k i (list a) l
+    list-good : {k i a : ℕ} → BinThere s k i → binAt s k i ≡ list a → (l : List ℕ) × Held s k i (list a) l
     list-good {k} {i} {a} p e =
         let g = ok .lists k i a p e in (
           g .visits,
           as-list (g .ends) (g .apart) (g .plain)
-              (λ x m. ok .home k i x (record { place = p; held = g .visits; holds = rw e (listed (g .ends)); member = m })),
+              (λ x m. ok .home k i x (record { there = p; held = g .visits; holds = rw e (listed (g .ends)); member = m })),
         )
 
     -- An entry of a tree's bin is not free.
@@ -285,7 +285,7 @@ module _ {s : Set} (fit : Fit s) where
         go : {m : List ℕ} → HeldIn s (tree h) m → 1 ≤ times x m → cell (s .cells) x state ≢ free
         go (grown r) m = let d = hangs-stand (slotsOf (s .names)) (s .cells) (r .hangs) m in λ z. hued (d .hue) (sym (d .words .hued) ∙ z)
 
-    tree-good : {k i h : ℕ} → BinPlace s k i → binAt s k i ≡ tree h → (l : List ℕ) × Held s k i (tree h) l
+    tree-good : {k i h : ℕ} → BinThere s k i → binAt s k i ≡ tree h → (l : List ℕ) × Held s k i (tree h) l
     tree-good {k} {i} {h} p e =
         let g = ok .trees k i h p e in
         let c = ok .chains k i h p e in (
@@ -299,12 +299,12 @@ module _ {s : Set} (fit : Fit s) where
             even = g .level;
             count = g .size;
             chain = (c .visits, c .linked, c .count, λ x m. (let f = c .own x .0 m in (tree-used e f, ok .home k i x f)));
-            home = λ x m. ok .home k i x (record { place = p; held = slots (g .tree); holds = rw e (grown (g .rooted)); member = m });
+            home = λ x m. ok .home k i x (record { there = p; held = slots (g .tree); holds = rw e (grown (g .rooted)); member = m });
           }),
         )
 
     -- A bin, given what is below it.
-    build-bin : (left k i : ℕ) → BinPlace s k i → suc k + left ≡ tablesOf s
+    build-bin : (left k i : ℕ) → BinThere s k i → suc k + left ≡ tablesOf s
         → ((may : Bool) → (may ≡ false → binAt s k i ≢ moved) → Built beneath left k i may)
         → (may : Bool) → (may ≡ false → binAt s k i ≡ empty) → (b : Bin) → binAt s k i ≡ b → Built whole left k i may
     build-bin left k i p t below may quiet empty e = let r = below false (λ z m. omega (arith, kinds e m)) in (r .0, empties e (r .1))
@@ -329,14 +329,14 @@ module _ {s : Set} (fit : Fit s) where
         → Built beneath (suc left) k i may
     both-built f g = (f .0 ++ g .0, two (f .1) (g .1))
 
-    build-below : (left k i : ℕ) → BinPlace s k i → suc k + left ≡ tablesOf s → (may : Bool) → (may ≡ false → binAt s k i ≢ moved)
+    build-below : (left k i : ℕ) → BinThere s k i → suc k + left ≡ tablesOf s → (may : Bool) → (may ≡ false → binAt s k i ≢ moved)
         → Built beneath left k i may
     build-below zero k i p t may still = ([], final)
     build-below (suc left) k i p t may still =
         let n : suc k < tablesOf s = omega arith in
         let twice = fit .twice k n in
-        let near : BinPlace s (suc k) i = record { table = n; index = omega (arith, p .index) } in
-        let far : BinPlace s (suc k) (i + lengthAt s k) = record { table = n; index = omega (arith, p .index) } in
+        let near : BinThere s (suc k) i = record { table = n; index = omega (arith, p .index) } in
+        let far : BinThere s (suc k) (i + lengthAt s k) = record { table = n; index = omega (arith, p .index) } in
         let f =
         build-bin left (suc k) i near (omega arith) (build-below left (suc k) i near (omega arith)) may
         (λ z. ok .parent-moved k i near (rw (near-parent i (lengthAt s k) (p .index)) (still z))) (binAt s (suc k) i) refl
@@ -351,7 +351,7 @@ module _ {s : Set} (fit : Fit s) where
     build-row : (m : ℕ) → m ≤ lengthAt s 0 → (l : List ℕ) × Row s m l
     build-row zero b = ([], start)
     build-row (suc i) b =
-        let p : BinPlace s 0 i = record { table = omega (arith, fit .least); index = omega arith } in
+        let p : BinThere s 0 i = record { table = omega (arith, fit .least); index = omega arith } in
         let t : suc 0 + (tablesOf s - 1) ≡ tablesOf s = omega (arith, fit .least) in
         let f =
         build-bin (tablesOf s - 1) 0 i p t (build-below (tablesOf s - 1) 0 i p t) true (λ z. absurd (false≢true (sym z)))

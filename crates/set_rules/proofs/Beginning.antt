@@ -9,7 +9,7 @@ use lib.Seq.{ext-getD}
 use borrow.Author.Tests.{le-leb, lt-leb}
 use Rattle.set_rules.specs.Words.{Set, Bin}
 use Rattle.set_rules.specs.Cursor.{Cursor}
-use Rattle.set_rules.specs.Walk.{WalkPlace, walkPlace, kept, trimmed, standing}
+use Rattle.set_rules.specs.Walk.{WalkPoint, walkPoint, kept, trimmed, standing}
 use Rattle.set_rules.specs.Ways.{Begins, Comes, Reads}
 use Rattle.set_rules.proofs.Cursors.{trimmed-kept, trimmed-same}
 
@@ -31,17 +31,17 @@ module _ (c : Cursor) where
         past = trimmed-past (c .depth) (c .indexes);
       }
 
-  pub begins-is : {p : WalkPlace} → Begins c p → p ≡ standing c
+  pub begins-is : {p : WalkPoint} → Begins c p → p ≡ standing c
   unfolding kept
   begins-is {p} b =
       let e : p .indexes ≡ trimmed (c .depth) (c .indexes) =
       ext-getD 0 (p .indexes) (trimmed (c .depth) (c .indexes)) (b .eight) (λ j l. go j (omega (arith, b .eight)) (decLe j (c .depth))) in
-      (λ k. walkPlace (b .depth k) (e k))
+      (λ k. walkPoint (b .depth k) (e k))
     where
       go : (j : ℕ) → j < 8 → Dec (j ≤ c .depth) → getD (p .indexes) j 0 ≡ getD (trimmed (c .depth) (c .indexes)) j 0
       go j l (yes h) = b .kept j h ∙ sym (trimmed-kept (c .depth) (c .indexes) j l ∙ simp (le-leb _ _ h))
       go j l (no n) = b .past j (omega arith) ∙ sym (trimmed-past (c .depth) (c .indexes) j (omega arith))
 
-  -- The place that a step reads at, come to from there.
-  pub read-comes : {s : Set} {b : Bin} {p : WalkPlace} → Reads s c b p → Comes s (c .base) (standing c) p
+  -- The point that a step reads at, come to from there.
+  pub read-comes : {s : Set} {b : Bin} {p : WalkPoint} → Reads s c b p → Comes s (c .base) (standing c) p
   read-comes r = rw (begins-is (r .begins)) at (r .comes)

@@ -16,7 +16,7 @@ use Rattle.tree_rules.specs.Rules.{then}
 use Rattle.tree_rules.proofs.Reaching.{refuted, rooted-most}
 use Rattle.set_rules.specs.Words.{Set, Fit, tablesOf, lengthAt, rootAt, firstAt, countAt, Bin, empty, moved, bad, list, tree, binAt}
 use Rattle.set_rules.specs.Accepted.{Listed, Apart, ListSlot}
-use Rattle.set_rules.specs.Accepting.{listFine, treeFine, wellPlaced, ownFine, binAsks, belowFine, binFine, tableFine}
+use Rattle.set_rules.specs.Accepting.{listFine, treeFine, mayStand, ownFine, binAsks, belowFine, binFine, tableFine}
 use Rattle.set_rules.proofs.Fit.{small}
 use Rattle.set_rules.proofs.Lists.{Home, list-walked, walked-list}
 use Rattle.set_rules.proofs.Trees.{Grown, fine-grown, grown-fine}
@@ -67,7 +67,7 @@ module _ {s : Set} (fit : Fit s) where
 
   asks-found : (left k i : ℕ) → Belows left k i → (may : Bool) (v rest : ℕ) (b : Bin) → binAt s k i ≡ b
       → binAsks s left k i (belowFine left s k i) may v b ≡ some rest → Found whole left k i may v rest
-  unfolding binAsks wellPlaced ownFine
+  unfolding binAsks mayStand ownFine
   asks-found left k i again may v rest empty p e =
       let f = again false v rest e in record { slots = f .slots; good = empties p (f .good); spent = f .spent }
   asks-found left k i again true v rest moved p e = go (eqb left 0) refl e
@@ -151,14 +151,14 @@ module _ {s : Set} (fit : Fit s) where
 
   held-run : (left k i v : ℕ) (b : Bin) {l : List ℕ} → Held s k i b l → length l ≤ v
       → binAsks s left k i (belowFine left s k i) true v b ≡ belowFine left s k i false (v - length l)
-  unfolding binAsks wellPlaced ownFine
+  unfolding binAsks mayStand ownFine
   held-run left k i v (list a) (as-list e u p h) m = rw (walked-list s (small fit) (lengthAt s k) i v e u p h m)
   held-run left k i v (tree h) (as-tree {t = t} g) m =
       rw (grown-fine fit (lengthAt s k) i h v t g m (rooted-most (slotsOf (s .names)) (s .cells) (small fit) _ (g .rooted)))
 
   good-run : {p : Part} {left k i : ℕ} {may : Bool} {l : List ℕ} → Good s p left k i may l → (v : ℕ) → length l ≤ v
       → run p left k i may v ≡ some (v - length l)
-  unfolding binAsks belowFine wellPlaced ownFine
+  unfolding binAsks belowFine mayStand ownFine
   good-run (empties p g) v m = rw p (good-run g v m)
   good-run (moves {left = left} p d g) v m = rw (p, ne-eqb left 0 d) (good-run g v m)
   good-run (holding {left = left} {k} {i} {b} {l} {m = l′} p h g) v m =

@@ -14,7 +14,7 @@ use Rattle.tree_rules.proofs.Reaching.{hangs-stand, hangs-inside, rooted-unique
 use Rattle.index_rules.specs.Sound.{used}
 use Rattle.index_rules.proofs.Rules.{used-hued}
 use Rattle.set_rules.specs.Words.{Set, Fit, tablesOf, lengthAt, Bin, empty, moved, binAt, bini}
-use Rattle.set_rules.specs.Accepted.{BinPlace, HeldIn, listed, grown, EntryOf}
+use Rattle.set_rules.specs.Accepted.{BinThere, HeldIn, listed, grown, EntryOf}
 use Rattle.set_rules.proofs.Fit.{small, bini-up, near-parent, far-parent}
 use Rattle.set_rules.proofs.Lists.{Home, apart-once, listed-inside, listed-unique}
 use Rattle.set_rules.proofs.Forest.{Held, as-list, as-tree, Part, whole, beneath, Good, empties, moves, holding, final, two, Row}
@@ -132,7 +132,7 @@ module _ {s : Set} (fit : Fit s) where
       record {
         table = k;
         index = i;
-        entry = record { place = record { table = omega arith; index = b }; held = l; holds = rw p (held-holds h); member = y };
+        entry = record { there = record { table = omega arith; index = b }; held = l; holds = rw p (held-holds h); member = y };
         used-one = u .0;
         inside = u .1;
       }))
@@ -269,7 +269,7 @@ module _ {s : Set} (fit : Fit s) where
     pub all-members : (x : ℕ) → 1 ≤ times x l → Member fit x
     all-members x z = row-member row (omega arith) x z
 
-    pub all-bins : {k j : ℕ} → BinPlace s k j → Sub k j l
+    pub all-bins : {k j : ℕ} → BinThere s k j → Sub k j l
     all-bins {k} {j} p =
         let u = under-first k j (p .table) (p .index) in
         let r = row-at row (u .0) (u .1) in
@@ -277,7 +277,7 @@ module _ {s : Set} (fit : Fit s) where
 
     -- An entry stands among the slots.
     pub entry-in : {k j x : ℕ} → EntryOf s k j x → 1 ≤ times x l
-    entry-in {k} {j} {x} e = let r = all-bins (e .place) in omega (arith, r .part x, go (r .good) (e .holds))
+    entry-in {k} {j} {x} e = let r = all-bins (e .there) in omega (arith, r .part x, go (r .good) (e .holds))
       where
         go : {left : ℕ} {may : Bool} {m : List ℕ} → Good s whole left k j may m → HeldIn s (binAt s k j) (e .held) → 1 ≤ times x m
         go (empties p g) h = absurd (not-empty h p)

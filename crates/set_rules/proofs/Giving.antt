@@ -1,4 +1,4 @@
--- The steps of a walk give what the bins give, in the rules' order. At a place, what is still to come is what its bin gives, then what
+-- The steps of a walk give what the bins give, in the rules' order. At a point, what is still to come is what its bin gives, then what
 -- comes after it: the bin at that index plus the upper length, where there is one, and then up.
 use mathlib.Core.Path.{_≡_, refl, ap, sym, _∙_}
 use mathlib.Core.Logic.{_≢_}
@@ -17,7 +17,7 @@ use Rattle.set_rules.specs.Accepted.{Accepted, Listed}
 use Rattle.set_rules.proofs.Fit.{small, ends}
 use Rattle.set_rules.proofs.Naming.{ranges}
 use Rattle.set_rules.specs.Cursor.{Cursor, Step, lone, starts}
-use Rattle.set_rules.specs.Walk.{WalkPlace, walkPlace, deepest, advanced, kept, trimmed, wentOn, below, standing, Sought, at, ended}
+use Rattle.set_rules.specs.Walk.{WalkPoint, walkPoint, deepest, advanced, kept, trimmed, wentOn, below, standing, Sought, at, ended}
 use Rattle.set_rules.specs.Walk.{stepped}
 use Rattle.set_rules.specs.Walk.{stepsOn, nexts}
 use Rattle.set_rules.specs.Ways.{moved-to}
@@ -39,11 +39,11 @@ module _ (s : Set) (base : ℕ) where
         → Gives s (base + suc d) (getD x (suc d) 0 + lengthAt s (base + d)) l → Rest d x m → Rest (suc d) x (l ++ m)
     up : {d : ℕ} {x m : List ℕ} → lengthAt s (base + suc d) ≤ getD x (suc d) 0 + lengthAt s (base + d) → Rest d x m → Rest (suc d) x m
 
-  -- What is to come from a place on.
-  data From : WalkPlace → List ℕ → Type 0 where
-    here : {p : WalkPlace} {l m : List ℕ} → Here s base p → Gives s (base + p .depth) (deepest p) l → Rest (p .depth) (p .indexes) m
+  -- What is to come from a point on.
+  data From : WalkPoint → List ℕ → Type 0 where
+    here : {p : WalkPoint} {l m : List ℕ} → Here s base p → Gives s (base + p .depth) (deepest p) l → Rest (p .depth) (p .indexes) m
         → From p (l ++ m)
-    over : {p : WalkPlace} → p .depth ≡ 0 → deepest p ≡ lengthAt s base → From p []
+    over : {p : WalkPoint} → p .depth ≡ 0 → deepest p ≡ lengthAt s base → From p []
 
   -- It depends on the indexes down to the depth.
   rest-agree : {d : ℕ} {x m : List ℕ} (y : List ℕ) → ((j : ℕ) → j ≤ d → getD x j 0 ≡ getD y j 0) → Rest d x m → Rest d y m
@@ -56,13 +56,13 @@ module _ (s : Set) (base : ℕ) where
   rest-set {d} {x} v r = rest-agree (set x (suc d) v) (λ j k. sym (getD-set-other x (suc d) j v 0 (omega arith))) r
 
   module _ (twice : (k : ℕ) → suc k < tablesOf s → lengthAt s (suc k) ≡ 2 * lengthAt s k) where
-    -- The place after one has what comes after it.
+    -- The point after one has what comes after it.
     row-on : (x : List ℕ) {m : List ℕ} → length x ≡ 8 → Onward s base (suc (getD x 0 0)) m → From (advanced 0 (s .lengths) base x) m
     unfolding advanced
     row-on x e (Onward.end z) = over refl (getD-set-same x 0 (getD x 0 0 + 1) 0 (omega arith) ∙ omega (arith, z))
     row-on x e (Onward.bin {l = a} {m} w g r) =
         let z : getD (set x 0 (getD x 0 0 + 1)) 0 0 ≡ suc (getD x 0 0) = getD-set-same x 0 (getD x 0 0 + 1) 0 (omega arith) ∙ omega arith in
-        here {p = walkPlace 0 (set x 0 (getD x 0 0 + 1))} {l = a} {m = m} (rw (z, add-zero base) w) (rw (z, add-zero base) g)
+        here {p = walkPoint 0 (set x 0 (getD x 0 0 + 1))} {l = a} {m = m} (rw (z, add-zero base) w) (rw (z, add-zero base) g)
         (row {x = set x 0 (getD x 0 0 + 1)} {l = m} (rw z r))
 
     rest-on : (d : ℕ) {x m : List ℕ} → length x ≡ 8 → d < 8 → base + d < tablesOf s → Rest d x m → From (advanced d (s .lengths) base x) m
@@ -72,13 +72,13 @@ module _ (s : Set) (base : ℕ) where
         let z : getD y (suc d) 0 ≡ on (s .lengths) base d x = getD-set-same x (suc d) (on (s .lengths) base d x) 0 (omega arith) in
         let t = twice-at (s .lengths) base twice d b in
         rw (advanced-lt (s .lengths) base d x k)
-        (here {p = walkPlace (suc d) y} {l = a} {m = m} (rw z k) (rw z g)
+        (here {p = walkPoint (suc d) y} {l = a} {m = m} (rw z k) (rw z g)
         (up {d = d} {x = y} {m = m} (rw z (omega (arith, t))) (rest-set (on (s .lengths) base d x) r)))
     rest-on (suc d) e l b (up {x = x} k r) =
         rw (advanced-ge (s .lengths) base d x k) (rest-on d (length-set x (suc d) 0 ∙ e) (omega arith) (omega arith) (rest-set 0 r))
 
-    -- The place below a Moved bin has what the two bins there give, and what comes after the Moved one.
-    moved-on : (p : WalkPlace) {l m r : List ℕ} → Good s base p → Here s base p → base + suc (p .depth) < tablesOf s
+    -- The point below a Moved bin has what the two bins there give, and what comes after the Moved one.
+    moved-on : (p : WalkPoint) {l m r : List ℕ} → Good s base p → Here s base p → base + suc (p .depth) < tablesOf s
         → Gives s (suc (base + p .depth)) (deepest p) l
         → Gives s (suc (base + p .depth)) (deepest p + lengthAt s (base + p .depth)) m → Rest (p .depth) (p .indexes) r
         → From (below s base p) (l ++ (m ++ r))
@@ -92,23 +92,23 @@ module _ (s : Set) (base : ℕ) where
         (plus {d = d} {x = set x (suc d) (deepest p)} {l = m} {m = c} (rw z (omega (arith, t))) (rw (z, add-suc base d) g)
         (rest-set (deepest p) r))
 
--- What the loop comes to: the first slot still to come, with its list after it, and the place after its bin.
+-- What the loop comes to: the first slot still to come, with its list after it, and the point after its bin.
 module _ (s : Set) (fit : Fit s) (acc : Accepted s) (base : ℕ) where
   data Sees : List ℕ → Sought → Type 0 where
     none : Sees [] ended
-    some : {x : ℕ} {q : WalkPlace} {l m : List ℕ} → Listed (slotsOf (s .names)) (s .cells) (cell (s .cells) x next) l → Good s base q
+    some : {x : ℕ} {q : WalkPoint} {l m : List ℕ} → Listed (slotsOf (s .names)) (s .cells) (cell (s .cells) x next) l → Good s base q
         → From s base q m → Sees (x ∷ (l ++ m)) (at x q)
 
-  onward-on : (p : WalkPlace) {m : List ℕ} → Good s base p → Rest s base (p .depth) (p .indexes) m → From s base (wentOn s base p) m
+  onward-on : (p : WalkPoint) {m : List ℕ} → Good s base p → Rest s base (p .depth) (p .indexes) m → From s base (wentOn s base p) m
   onward-on p h r = rest-on s base (fit .twice) (p .depth) (h .eight) (omega (arith, h .deep, h .few)) (h .deep) r
 
-  sees-list : (p : WalkPlace) {a : ℕ} {l m : List ℕ} → Good s base p → Here s base p → Listed (slotsOf (s .names)) (s .cells) a l → a ≢ null
+  sees-list : (p : WalkPoint) {a : ℕ} {l m : List ℕ} → Good s base p → Here s base p → Listed (slotsOf (s .names)) (s .cells) a l → a ≢ null
       → Rest s base (p .depth) (p .indexes) m
       → Sees (l ++ m) (at a (wentOn s base p))
   sees-list p h w (Listed.ended e) d r = absurd (d e)
   sees-list p h w (Listed.onward b t) d r = some t (good-onward s base p h w) (onward-on p h r)
 
-  sees : (t : ℕ) (p : WalkPlace) {l : List ℕ} → Good s base p → From s base p l → leftAt s base p < t → Sees l (seeks s base p)
+  sees : (t : ℕ) (p : WalkPoint) {l : List ℕ} → Good s base p → From s base p l → leftAt s base p < t → Sees l (seeks s base p)
   sees zero p h f k = absurd (omega arith)
   sees (suc t) p h (over d e) k =
       let z : lengthAt s (base + p .depth) ≡ lengthAt s base =
@@ -133,19 +133,19 @@ module _ (s : Set) (fit : Fit s) (acc : Accepted s) (base : ℕ) where
       (sees t (below s base p) (good-below s base p h w n) (moved-on s base (fit .twice) p h w n f g r)
       (omega (arith, falls-below s base p h w n)))
 
-  -- A cursor at a place stands where the place is.
-  stands-from : (q : WalkPlace) {m : List ℕ} → Good s base q → From s base q m
-      → From s base (walkPlace (q .depth) (trimmed (q .depth) (q .indexes))) m
+  -- A cursor at a point stands where the point is.
+  stands-from : (q : WalkPoint) {m : List ℕ} → Good s base q → From s base q m
+      → From s base (walkPoint (q .depth) (trimmed (q .depth) (q .indexes))) m
   stands-from q h f = go f (λ j k. trimmed-same (q .depth) (q .indexes) j k (omega (arith, h .deep, h .few)))
     where
-      go : {q : WalkPlace} {m : List ℕ} → From s base q m
+      go : {q : WalkPoint} {m : List ℕ} → From s base q m
           → ((j : ℕ) → j ≤ q .depth → getD (trimmed (q .depth) (q .indexes)) j 0 ≡ getD (q .indexes) j 0)
-          → From s base (walkPlace (q .depth) (trimmed (q .depth) (q .indexes))) m
+          → From s base (walkPoint (q .depth) (trimmed (q .depth) (q .indexes))) m
       go (over {p = q} d e) z = over d (z (q .depth) (omega arith) ∙ e)
       go (here {p = q} {l} {m} w g r) z =
           let y : List ℕ = trimmed (q .depth) (q .indexes) in
           let i : getD y (q .depth) 0 ≡ deepest q = z (q .depth) (omega arith) in
-          here {p = walkPlace (q .depth) y} {l = l} {m = m} (rw i w) (rw i g) (rest-agree s base y (λ j k. sym (z j k)) r)
+          here {p = walkPoint (q .depth) y} {l = l} {m = m} (rw i w) (rw i g) (rest-agree s base y (λ j k. sym (z j k)) r)
 
 -- The steps from a cursor that start and next made.
 module _ (s : Set) (fit : Fit s) (acc : Accepted s) where

@@ -16,7 +16,7 @@ use Rattle.tree_rules.proofs.Counting.{times-head, times-rest, times-cases, len
 use Rattle.tree_rules.proofs.Reaching.{rooted-most, rooted-unique}
 use Rattle.index_rules.proofs.Seeking.{seeks}
 use Rattle.set_rules.specs.Words.{Set, tablesOf, lengthAt, rootAt, countAt, Fit, Bin, list, tree, bini}
-use Rattle.set_rules.specs.Accepted.{Accepted, BinPlace, Listed, HeldIn, Unlike, Apart}
+use Rattle.set_rules.specs.Accepted.{Accepted, BinThere, Listed, HeldIn, Unlike, Apart}
 use Rattle.set_rules.proofs.Fit.{small, ends, bini-less}
 use Rattle.set_rules.proofs.Lists.{apart-once, listed-inside, listed-unique}
 use Rattle.tree_rules.proofs.Claims.{looks-squared, claims as shape-claims}
@@ -106,14 +106,14 @@ module _ (s : Set) (hash key : ℕ) where
 
 -- On an accepted set.
 module _ (s : Set) (fit : Fit s) (acc : Accepted s) (hash key : ℕ) where
-  home-place : (k : ℕ) → k < tablesOf s → BinPlace s k (bini (lengthAt s k) hash)
-  home-place k l = record { table = l; index = bini-less fit k l hash }
+  home-there : (k : ℕ) → k < tablesOf s → BinThere s k (bini (lengthAt s k) hash)
+  home-there k l = record { table = l; index = bini-less fit k l hash }
 
   list-held : (k p : ℕ) → k < tablesOf s → homeBin s k hash ≡ list p
       → (l : List ℕ) × Listed (slotsOf (s .names)) (s .cells) p l
       × Finds (s .names) hash key l (soughtInList (s .names) (s .cells) (slotsOf (s .names)) p hash key .answer)
   list-held k p b e =
-      let g = acc .lists k (bini (lengthAt s k) hash) p (home-place k b) e in
+      let g = acc .lists k (bini (lengthAt s k) hash) p (home-there k b) e in
       let few = small fit in
       let m = length-most (slotsOf (s .names)) (g .visits) (listed-inside s few (g .ends)) (apart-once s few (g .apart)) in
       (g .visits, g .ends, list-finds s hash key few (g .ends) (g .apart) (slotsOf (s .names)) m)
@@ -123,7 +123,7 @@ module _ (s : Set) (fit : Fit s) (acc : Accepted s) (hash key : ℕ) where
       × Finds (s .names) hash key (slots t) (found (s .names) (s .cells) (rootAt s h) hash key .answer)
   unfolding found
   tree-held k h b e =
-      let g = acc .trees k (bini (lengthAt s k) hash) h (home-place k b) e in
+      let g = acc .trees k (bini (lengthAt s k) hash) h (home-there k b) e in
       let few = small fit in
       let a =
       seeks (s .names) (s .cells) few hash key (g .rooted .hangs) (g .rising) (slotsOf (s .names))
@@ -153,7 +153,7 @@ module _ (s : Set) (fit : Fit s) (acc : Accepted s) (hash key : ℕ) where
         record {
           table = k;
           comes = c;
-          entry = record { place = home-place k b; held = g .0; holds = rw e (HeldIn.listed (g .1)); member = m .0 };
+          entry = record { there = home-there k b; held = g .0; holds = rw e (HeldIn.listed (g .1)); member = m .0 };
           has = m .1;
         }
     hit-reached {slot} (Hit.in-tree {k} {h = a} c e h) =
@@ -163,15 +163,15 @@ module _ (s : Set) (fit : Fit s) (acc : Accepted s) (hash key : ℕ) where
         record {
           table = k;
           comes = c;
-          entry = record { place = home-place k b; held = slots (g .0); holds = rw e (HeldIn.grown (g .1)); member = m .0 };
+          entry = record { there = home-there k b; held = slots (g .0); holds = rw e (HeldIn.grown (g .1)); member = m .0 };
           has = m .1;
         }
 
     not-astray : Astray s t hash key → ⊥
-    not-astray (Astray.bad-bin {k} c e) = acc .none-bad k (bini (lengthAt s k) hash) (home-place k (comes-in s t hash key there c)) e
+    not-astray (Astray.bad-bin {k} c e) = acc .none-bad k (bini (lengthAt s k) hash) (home-there k (comes-in s t hash key there c)) e
     not-astray (Astray.moved-last {k} c e l) =
         let b = comes-in s t hash key there c in
-        acc .last-unmoved k (bini (lengthAt s k) hash) (home-place k b) (omega arith) e
+        acc .last-unmoved k (bini (lengthAt s k) hash) (home-there k b) (omega arith) e
     not-astray (Astray.in-list {k} {p} c e h) =
         finds-never (s .names) hash key (list-held k p (comes-in s t hash key there c) e .2) 9 (omega arith)
         (lost-nine (s .names) (s .cells) p hash key h)
@@ -208,7 +208,7 @@ module _ (s : Set) (fit : Fit s) (acc : Accepted s) (hash key : ℕ) where
     tree-limit : {k h : ℕ} → Reaches s t hash k → homeBin s k hash ≡ tree h
         → 2 ^ length (lookups s t hash key .looks) ≤ (countAt s h + 1) * (countAt s h + 1)
     tree-limit {k} {h} c e =
-        let g = acc .trees k (bini (lengthAt s k) hash) h (home-place k (comes-in s t hash key there c)) e in
+        let g = acc .trees k (bini (lengthAt s k) hash) h (home-there k (comes-in s t hash key there c)) e in
         rw (known-loop s t hash key fit there ∙ at-bin s t hash key there c e, ← g .size)
         (looks-squared (s .names) (s .cells) (rootAt s h) hash key (g .rooted) (g .coloured) (g .level))
 

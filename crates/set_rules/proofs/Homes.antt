@@ -47,7 +47,7 @@ module _ {s : Set} (fit : Fit s) (parents : ParentMoved s) where
         let hash = nameOf (s .names) x hashPart in
         let p = homes k i x e in
         let q = homes l j x f in
-        let m = above-moved hash l k b (f .place .table) (rw q (not-empty (f .holds))) in
+        let m = above-moved hash l k b (f .there .table) (rw q (not-empty (f .holds))) in
         not-moved (e .holds) (rw p at m)
 
     pub entry-only : {k i l j x : ℕ} → EntryOf s k i x → EntryOf s l j x → (k ≡ l) × (i ≡ j)
@@ -75,5 +75,5 @@ module _ {s : Set} (fit : Fit s) (parents : ParentMoved s) where
         go (no z) (yes c) =
             let m = above-moved hash k l (omega arith) b (rw e (not-empty h)) in absurd (not-moved (f .holds) (rw lies at m))
         go (no z) (no c) =
-            let m = above-moved hash l k (omega arith) (f .place .table) (rw lies (not-empty (f .holds))) in
+            let m = above-moved hash l k (omega arith) (f .there .table) (rw lies (not-empty (f .holds))) in
             absurd (not-moved h (rw e at m))

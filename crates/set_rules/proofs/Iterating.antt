@@ -15,7 +15,7 @@ use borrow.Author.Tests.{le-leb, lt-leb, lt-ltb, le-ltb, eq-eqb, ne-eqb}
 use Rattle.slots.specs.Words.{null, next, cell}
 use Rattle.set_rules.specs.Words.{Set, tablesOf, lengthAt, firstAt, Fit, Bin, empty, moved, bad, list, tree}
 use Rattle.set_rules.specs.Cursor.{Cursor, BadCursor}
-use Rattle.set_rules.specs.Walk.{WalkPlace, walkPlace, deepest, binHere, advanced, wentOn, below, Sought, at, ended, lost, trimmed}
+use Rattle.set_rules.specs.Walk.{WalkPoint, walkPoint, deepest, binHere, advanced, wentOn, below, Sought, at, ended, lost, trimmed}
 use Rattle.set_rules.specs.Walk.{standing}
 use Rattle.set_rules.specs.Walk.{stepped, stepsOn, turnsIn, nexts}
 use Rattle.set_rules.specs.NodeIter.{Iter, iter, over, pushed, recovered, proceeds, Yield, yields, ends, stuck, matched, looped}
@@ -29,7 +29,7 @@ use Rattle.set_rules.proofs.Gates.{next-walked, next-stands}
 use Rattle.tree_rules.specs.Find.{slotsOf}
 
 module _ (s : Set) (base : ℕ) where
-  abbrev state : WalkPlace → Iter
+  abbrev state : WalkPoint → Iter
   state p = stateAt s base (p .depth) (p .indexes)
 
   frames-agree : (d : ℕ) (x y : List ℕ) → ((j : ℕ) → j < d → getD x j 0 ≡ getD y j 0) → frames s base d x ≡ frames s base d y
@@ -62,7 +62,7 @@ module _ (s : Set) (base : ℕ) where
       let l : lengthAt s (base + 0) ≤ getD x 0 0 + lengthAt s base = omega arith in
       rw (le-leb (lengthAt s (base + 0)) (getD x 0 0 + lengthAt s base) l, getD-set-same x 0 (getD x 0 0 + 1) 0 (omega arith), add-one)
 
-  -- What follows a bin that was read is the place after it.
+  -- What follows a bin that was read is the point after it.
   recovers : (d : ℕ) (x : List ℕ) → length x ≡ 8 → d < 8 → back d x ≡ state (advanced d (s .lengths) base x)
   unfolding recovered frames
   recovers zero x e l = back-first x e
@@ -84,7 +84,7 @@ module _ (s : Set) (base : ℕ) where
           rw (advanced-ge (s .lengths) base d x k, le-ltb (on (s .lengths) base d x) (lengthAt s (base + suc d)) k)
           (sym same ∙ again y (length-set x (suc d) 0 ∙ e))
 
-  module _ (p : WalkPlace) (h : Good s base p) where
+  module _ (p : WalkPoint) (h : Good s base p) where
     proceeding : proceeds s (lengthAt s base) (state p) ≡ state (wentOn s base p)
     proceeding = recovers (p .depth) (p .indexes) (h .eight) (omega (arith, h .deep, h .few))
 
@@ -115,18 +115,18 @@ module _ (s : Set) (base : ℕ) where
 
   -- What the loop comes to is what the source's comes to.
   data Meets : Sought → Yield → Type 0 where
-    given-both : {x : ℕ} {q : WalkPlace} → Good s base q → Meets (at x q) (yields x (state q))
+    given-both : {x : ℕ} {q : WalkPoint} → Good s base q → Meets (at x q) (yields x (state q))
     over-both : Meets ended ends
     lost-both : Meets lost stuck
 
-  module _ (t : ℕ) (p : WalkPlace) (h : Good s base p) where
+  module _ (t : ℕ) (p : WalkPoint) (h : Good s base p) where
     turn-over : (p .depth ≡ 0) × (lengthAt s (base + p .depth) ≤ deepest p)
         → Meets (seeks s base p) (looped (suc t) s (lengthAt s base) (state p))
     unfolding looped
     turn-over e = rw (at-end s base p (e .1), is-over p h e) over-both
 
     module _ (w : Here s base p)
-        (again : (q : WalkPlace) → Good s base q → leftAt s base q < t → Meets (seeks s base q) (looped t s (lengthAt s base) (state q)))
+        (again : (q : WalkPoint) → Good s base q → leftAt s base q < t → Meets (seeks s base q) (looped t s (lengthAt s base) (state q)))
         (k : leftAt s base p < suc t) where
       abbrev turned-to : Bin → Yield
       turned-to b = matched s (lengthAt s base) (state p) b (λ it. looped t s (lengthAt s base) it)
@@ -161,12 +161,12 @@ module _ (s : Set) (base : ℕ) where
       unfolding looped
       turn-on = rw (goes-on p h w) (by-bin (binHere s base p) refl)
 
-  meets : (t : ℕ) (p : WalkPlace) → Good s base p → leftAt s base p < t → Meets (seeks s base p) (looped t s (lengthAt s base) (state p))
+  meets : (t : ℕ) (p : WalkPoint) → Good s base p → leftAt s base p < t → Meets (seeks s base p) (looped t s (lengthAt s base) (state p))
   meets zero p h k = absurd (omega arith)
   meets (suc t) p h k = go (within-or-end (s .lengths) base p h) (λ q g l. meets t q g l)
     where
       go : (Here s base p) ⊎ ((p .depth ≡ 0) × (lengthAt s (base + p .depth) ≤ deepest p))
-          → ((q : WalkPlace) → Good s base q → leftAt s base q < t → Meets (seeks s base q) (looped t s (lengthAt s base) (state q)))
+          → ((q : WalkPoint) → Good s base q → leftAt s base q < t → Meets (seeks s base q) (looped t s (lengthAt s base) (state q)))
           → Meets (seeks s base p) (looped (suc t) s (lengthAt s base) (state p))
       go (inl w) again = turn-on t p h w again k
       go (inr e) again = turn-over t p h e

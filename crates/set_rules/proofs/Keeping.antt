@@ -12,7 +12,7 @@ use Rattle.tree_rules.specs.Chain.{Chain}
 use Rattle.tree_rules.proofs.Counting.{times-append}
 use Rattle.tree_rules.proofs.Chaining.{chain-once}
 use Rattle.set_rules.specs.Words.{Set, Fit, tablesOf, lengthAt, firstAt, Bin, empty, moved, bad, list, tree, binAt, bini}
-use Rattle.set_rules.specs.Accepted.{Accepted, BinPlace, Listed, HeldIn, EntryOf, GoodChain}
+use Rattle.set_rules.specs.Accepted.{Accepted, BinThere, Listed, HeldIn, EntryOf, GoodChain}
 use Rattle.set_rules.proofs.Fit.{small, bini-up, bini-less, near-parent, far-parent, halves}
 use Rattle.set_rules.proofs.Lists.{apart-once, listed-unique}
 use Rattle.set_rules.proofs.Gathering.{not-empty, not-moved, holds-unique}
@@ -46,7 +46,7 @@ pub data KeepsFrom (s : Set) (t : ℕ) : ℕ → List ℕ → Type 0 where
 
 module _ (s : Set) (fit : Fit s) (acc : Accepted s) where
   -- A bin's list or tree holds a slot once.
-  held-once : {k i : ℕ} {l : List ℕ} → BinPlace s k i → HeldIn s (binAt s k i) l → (x : ℕ) → times x l ≤ 1
+  held-once : {k i : ℕ} {l : List ℕ} → BinThere s k i → HeldIn s (binAt s k i) l → (x : ℕ) → times x l ≤ 1
   held-once {k} {i} p h = go (binAt s k i) refl h
     where
       go : (b : Bin) → binAt s k i ≡ b → {l : List ℕ} → HeldIn s b l → (x : ℕ) → times x l ≤ 1
@@ -57,11 +57,11 @@ module _ (s : Set) (fit : Fit s) (acc : Accepted s) where
   entry-held : {k i x : ℕ} {l : List ℕ} → HeldIn s (binAt s k i) l → EntryOf s k i x → 1 ≤ times x l
   entry-held h f = rw (holds-unique fit (f .holds) h) at (f .member)
 
-  near-place : {k i : ℕ} → BinPlace s k i → suc k < tablesOf s → BinPlace s (suc k) i
-  near-place {k} p n = record { table = n; index = omega (arith, p .index, fit .twice k n) }
+  near-there : {k i : ℕ} → BinThere s k i → suc k < tablesOf s → BinThere s (suc k) i
+  near-there {k} p n = record { table = n; index = omega (arith, p .index, fit .twice k n) }
 
-  far-place : {k i : ℕ} → BinPlace s k i → suc k < tablesOf s → BinPlace s (suc k) (i + lengthAt s k)
-  far-place {k} p n = record { table = n; index = omega (arith, p .index, fit .twice k n) }
+  far-there : {k i : ℕ} → BinThere s k i → suc k < tablesOf s → BinThere s (suc k) (i + lengthAt s k)
+  far-there {k} p n = record { table = n; index = omega (arith, p .index, fit .twice k n) }
 
   module _ (x : ℕ) where
     abbrev hash : ℕ
@@ -70,36 +70,36 @@ module _ (s : Set) (fit : Fit s) (acc : Accepted s) where
     abbrev home : ℕ → ℕ
     home k = bini (lengthAt s k) hash
 
-    keeps-home : {k i : ℕ} {l : List ℕ} → Keeps s k i l → BinPlace s k i → 1 ≤ times x l → home k ≡ i
+    keeps-home : {k i : ℕ} {l : List ℕ} → Keeps s k i l → BinThere s k i → 1 ≤ times x l → home k ≡ i
     unfolding times
     keeps-home (Keeps.nothing e) p h = absurd (omega arith)
-    keeps-home {k} {i} {l} (Keeps.its g) p h = acc .home k i x (record { place = p; held = l; holds = g; member = h })
+    keeps-home {k} {i} {l} (Keeps.its g) p h = acc .home k i x (record { there = p; held = l; holds = g; member = h })
     keeps-home {k} {i} (Keeps.parts {l = l} {m} e n f g) p h =
         let u = bini-up fit k n hash in
         member-cases x l m h
-        (λ a. sym u ∙ ap (λ (y : ℕ). y % lengthAt s k) (keeps-home f (near-place p n) a) ∙ near-parent i (lengthAt s k) (p .index))
-        (λ b. sym u ∙ ap (λ (y : ℕ). y % lengthAt s k) (keeps-home g (far-place p n) b) ∙ far-parent i (lengthAt s k) (p .index))
+        (λ a. sym u ∙ ap (λ (y : ℕ). y % lengthAt s k) (keeps-home f (near-there p n) a) ∙ near-parent i (lengthAt s k) (p .index))
+        (λ b. sym u ∙ ap (λ (y : ℕ). y % lengthAt s k) (keeps-home g (far-there p n) b) ∙ far-parent i (lengthAt s k) (p .index))
 
     -- An entry of table k or a later one.
     abbrev Later : ℕ → Type 0
     Later k = (l : ℕ) × (j : ℕ) × (k ≤ l) × EntryOf s l j x
 
-    keeps-entry : {k i : ℕ} {l : List ℕ} → Keeps s k i l → BinPlace s k i → 1 ≤ times x l → Later k
+    keeps-entry : {k i : ℕ} {l : List ℕ} → Keeps s k i l → BinThere s k i → 1 ≤ times x l → Later k
     unfolding times
     keeps-entry (Keeps.nothing e) p h = absurd (omega arith)
-    keeps-entry {k} {i} {l} (Keeps.its g) p h = (k, i, omega arith, record { place = p; held = l; holds = g; member = h })
+    keeps-entry {k} {i} {l} (Keeps.its g) p h = (k, i, omega arith, record { there = p; held = l; holds = g; member = h })
     keeps-entry {k} {i} (Keeps.parts {l = l} {m} e n f g) p h =
         member-cases x l m h
-        (λ a. (let r = keeps-entry f (near-place p n) a in (r .0, r .1, omega (arith, r .2), r .3)))
-        (λ b. (let r = keeps-entry g (far-place p n) b in (r .0, r .1, omega (arith, r .2), r .3)))
+        (λ a. (let r = keeps-entry f (near-there p n) a in (r .0, r .1, omega (arith, r .2), r .3)))
+        (λ b. (let r = keeps-entry g (far-there p n) b in (r .0, r .1, omega (arith, r .2), r .3)))
 
-    keeps-once : {k i : ℕ} {l : List ℕ} → Keeps s k i l → BinPlace s k i → times x l ≤ 1
+    keeps-once : {k i : ℕ} {l : List ℕ} → Keeps s k i l → BinThere s k i → times x l ≤ 1
     unfolding times
     keeps-once (Keeps.nothing e) p = omega arith
     keeps-once (Keeps.its g) p = held-once p g x
     keeps-once {k} {i} (Keeps.parts {l = l} {m} e n f g) p =
-        go (decLe 1 (times x l)) (decLe 1 (times x m)) (keeps-home f (near-place p n)) (keeps-home g (far-place p n))
-        (keeps-once f (near-place p n)) (keeps-once g (far-place p n))
+        go (decLe 1 (times x l)) (decLe 1 (times x m)) (keeps-home f (near-there p n)) (keeps-home g (far-there p n))
+        (keeps-once f (near-there p n)) (keeps-once g (far-there p n))
       where
         go : Dec (1 ≤ times x l) → Dec (1 ≤ times x m) → (1 ≤ times x l → home (suc k) ≡ i)
             → (1 ≤ times x m → home (suc k) ≡ i + lengthAt s k)
@@ -114,7 +114,7 @@ module _ (s : Set) (fit : Fit s) (acc : Accepted s) where
 
     -- Above an entry the bin that its hash names is Moved.
     above : {k l j : ℕ} → k < l → EntryOf s l j x → binAt s k (home k) ≡ moved
-    above {k} {l} {j} b f = above-moved fit (acc .parent-moved) hash l k b (f .place .table) (rw (acc .home l j x f) (not-empty (f .holds)))
+    above {k} {l} {j} b f = above-moved fit (acc .parent-moved) hash l k b (f .there .table) (rw (acc .home l j x f) (not-empty (f .holds)))
 
     settle : {k i : ℕ} → home k ≡ i → Later k → EntryOf s k i x ⊎ ((binAt s k i ≡ moved) × Later (suc k))
     settle {k} {i} e (l, j, b, f) = go (ℕ-discrete l k)
@@ -123,7 +123,7 @@ module _ (s : Set) (fit : Fit s) (acc : Accepted s) where
         go (yes z) = inl (at-home e (rw z at f))
         go (no d) = inr (rw e at (above {k = k} (omega arith) f), (l, j, omega arith, f))
 
-    entry-keeps : {k i : ℕ} {l : List ℕ} → Keeps s k i l → BinPlace s k i → home k ≡ i → Later k → 1 ≤ times x l
+    entry-keeps : {k i : ℕ} {l : List ℕ} → Keeps s k i l → BinThere s k i → home k ≡ i → Later k → 1 ≤ times x l
     entry-keeps {k} {i} (Keeps.nothing e) p h r = go (settle h r)
       where
         go : {A : Type 0} → EntryOf s k i x ⊎ ((binAt s k i ≡ moved) × Later (suc k)) → A
@@ -136,7 +136,7 @@ module _ (s : Set) (fit : Fit s) (acc : Accepted s) where
         go (inr m) = absurd (not-moved g (m .0))
     entry-keeps {k} {i} (Keeps.parts {l = l} {m} e n f g) p h r =
         go (settle h r) (halves (home (suc k)) (lengthAt s k) (omega (arith, bini-less fit (suc k) n hash, fit .twice k n)))
-        (λ z w. entry-keeps f (near-place p n) z w) (λ z w. entry-keeps g (far-place p n) z w)
+        (λ z w. entry-keeps f (near-there p n) z w) (λ z w. entry-keeps g (far-there p n) z w)
       where
         u : home (suc k) % lengthAt s k ≡ i
         u = bini-up fit k n hash ∙ h
@@ -186,7 +186,7 @@ module _ (s : Set) (fit : Fit s) (acc : Accepted s) where
         go (no d) again = omega (arith, again (omega arith), times-append x l m)
 
   -- What a bin gives is there.
-  gives-bin : (k i : ℕ) → BinPlace s k i → (binAt s k i ≡ moved → (l : List ℕ) × Gives s k i l) → (b : Bin) → binAt s k i ≡ b
+  gives-bin : (k i : ℕ) → BinThere s k i → (binAt s k i ≡ moved → (l : List ℕ) × Gives s k i l) → (b : Bin) → binAt s k i ≡ b
       → (l : List ℕ) × Gives s k i l
   gives-bin k i p below empty e = ([], Gives.of-none e)
   gives-bin k i p below moved e = below e
@@ -199,13 +199,13 @@ module _ (s : Set) (fit : Fit s) (acc : Accepted s) where
       → (l : List ℕ) × Gives s k i l
   both-given e n f g = (f .0 ++ g .0, Gives.of-moved e n (f .1) (g .1))
 
-  gives-all : (left k i : ℕ) → BinPlace s k i → suc k + left ≡ tablesOf s → (l : List ℕ) × Gives s k i l
+  gives-all : (left k i : ℕ) → BinThere s k i → suc k + left ≡ tablesOf s → (l : List ℕ) × Gives s k i l
   gives-all zero k i p t = gives-bin k i p (λ e. absurd (acc .last-unmoved k i p (omega arith) e)) (binAt s k i) refl
   gives-all (suc left) k i p t =
       let n : suc k < tablesOf s = omega arith in
       gives-bin k i p
-      (λ e. both-given e n (gives-all left (suc k) i (near-place p n) (omega arith))
-      (gives-all left (suc k) (i + lengthAt s k) (far-place p n) (omega arith)))
+      (λ e. both-given e n (gives-all left (suc k) i (near-there p n) (omega arith))
+      (gives-all left (suc k) (i + lengthAt s k) (far-there p n) (omega arith)))
       (binAt s k i) refl
 
   onward-all : (t : ℕ) → t < tablesOf s → (r i : ℕ) → i + r ≡ lengthAt s t → (l : List ℕ) × Onward s t i l
@@ -217,14 +217,14 @@ module _ (s : Set) (fit : Fit s) (acc : Accepted s) where
       (f .0 ++ g .0, Onward.bin w (f .1) (g .1))
 
   -- What a bin gives is what it leads to: a chain visits exactly its tree's slots.
-  same-times : {k i h : ℕ} {l m : List ℕ} → GoodChain s k i h → Listed (slotsOf (s .names)) (s .cells) (firstAt s h) l → BinPlace s k i
+  same-times : {k i h : ℕ} {l m : List ℕ} → GoodChain s k i h → Listed (slotsOf (s .names)) (s .cells) (firstAt s h) l → BinThere s k i
       → HeldIn s (binAt s k i) m
       → (x : ℕ) → times x l ≡ times x m
   same-times {k} {i} {h} {l} {m} c g p o x =
       let z = listed-unique s (small fit) (chain-listed (c .linked)) g in
       let n : times x l ≤ 1 = rw z at (chain-once (slotsOf (s .names)) (s .cells) (small fit) (firstAt s h) (c .linked) x) in
       go (decLe 1 (times x l)) (decLe 1 (times x m)) n (held-once p o x) (λ a. entry-held o (c .own x .0 (rw (sym z) at a)))
-      (λ b. rw z at (c .own x .1 (record { place = p; held = m; holds = o; member = b })))
+      (λ b. rw z at (c .own x .1 (record { there = p; held = m; holds = o; member = b })))
     where
       go : Dec (1 ≤ times x l) → Dec (1 ≤ times x m) → times x l ≤ 1 → times x m ≤ 1 → (1 ≤ times x l → 1 ≤ times x m)
           → (1 ≤ times x m → 1 ≤ times x l)
@@ -236,7 +236,7 @@ module _ (s : Set) (fit : Fit s) (acc : Accepted s) where
   abbrev Likened : ℕ → ℕ → List ℕ → Type 0
   Likened k i l = (m : List ℕ) × Keeps s k i m × ((x : ℕ) → times x l ≡ times x m)
 
-  likened : {k i : ℕ} {l : List ℕ} → Gives s k i l → BinPlace s k i → Likened k i l
+  likened : {k i : ℕ} {l : List ℕ} → Gives s k i l → BinThere s k i → Likened k i l
   likened (Gives.of-none e) p = ([], Keeps.nothing e, λ x. refl)
   likened {k} {i} {l} (Gives.of-list e g) p = let h : HeldIn s (binAt s k i) l = rw e (HeldIn.listed g) in (l, Keeps.its h, λ x. refl)
   likened {k} {i} (Gives.of-tree {h = h} e g) p =
@@ -244,8 +244,8 @@ module _ (s : Set) (fit : Fit s) (acc : Accepted s) where
       let o : HeldIn s (binAt s k i) (slots (t .tree)) = rw e (HeldIn.grown (t .rooted)) in
       (slots (t .tree), Keeps.its o, same-times (acc .chains k i h p e) g p o)
   likened (Gives.of-moved {l = l} {m} e n f g) p =
-      let u = likened f (near-place p n) in
-      let v = likened g (far-place p n) in
+      let u = likened f (near-there p n) in
+      let v = likened g (far-there p n) in
       (u .0 ++ v .0, Keeps.parts e n (u .1) (v .1), λ x. omega (arith, times-append x l m, times-append x (u .0) (v .0), u .2 x, v .2 x))
 
   likened-from : {t i : ℕ} {l : List ℕ} → t < tablesOf s → Onward s t i l

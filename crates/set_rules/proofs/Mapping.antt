@@ -43,7 +43,7 @@ module _ (s : Set) (fit : Fit s) (acc : Accepted s) where
       let home : bini (lengthAt s k) hash ≡ f .index = ap (λ (y : ℕ). bini (lengthAt s k) y) (sym z) ∙ acc .home k (f .index) x e in
       record {
         table = k;
-        comes = comes-to hash t k (f .later) (e .place .table) (rw home (not-empty (e .holds)));
+        comes = comes-to hash t k (f .later) (e .there .table) (rw home (not-empty (e .holds)));
         entry = rw home e;
         has = h;
       }

@@ -20,7 +20,7 @@ use Rattle.index_rules.proofs.Fit.{both}
 use Rattle.set_rules.specs.Words.{Set, Fit, tablesOf, headersIn, binsBefore, rootAt, firstAt, countAt, Bin, empty, moved, bad, list}
 use Rattle.set_rules.specs.Words.{tree}
 use Rattle.set_rules.specs.Words.{binOf, binAt, wordBin}
-use Rattle.set_rules.specs.Accepted.{BinPlace, HeadsOnce}
+use Rattle.set_rules.specs.Accepted.{BinThere, HeadsOnce}
 use Rattle.set_rules.specs.Accepting.{isBlank, filled, namesHeader, naming, headersFine}
 use Rattle.set_rules.specs.Judged.{Ranges}
 use Rattle.tree_rules.specs.Find.{slotsOf}
@@ -134,10 +134,10 @@ begins-more l (suc t) k b = go (ℕ-discrete k t) (λ d. begins-more l t k (omeg
     go (yes e) rest = rw e (omega arith)
     go (no d) rest = omega (arith, rest d)
 
-pub begins-place : (l : List ℕ) (t p : ℕ) → p < binsBefore l t → (k : ℕ) × (i : ℕ) × (k < t) × (i < getD l k 0) × (binsBefore l k + i ≡ p)
+pub begins-there : (l : List ℕ) (t p : ℕ) → p < binsBefore l t → (k : ℕ) × (i : ℕ) × (k < t) × (i < getD l k 0) × (binsBefore l k + i ≡ p)
 unfolding binsBefore
-begins-place l zero p b = absurd (omega arith)
-begins-place l (suc t) p b = go (decLe (binsBefore l t) p) (λ c. begins-place l t p c)
+begins-there l zero p b = absurd (omega arith)
+begins-there l (suc t) p b = go (decLe (binsBefore l t) p) (λ c. begins-there l t p c)
   where
     go : Dec (binsBefore l t ≤ p) → (p < binsBefore l t → (k : ℕ) × (i : ℕ) × (k < t) × (i < getD l k 0) × (binsBefore l k + i ≡ p))
         → (k : ℕ) × (i : ℕ) × (k < suc t) × (i < getD l k 0) × (binsBefore l k + i ≡ p)
@@ -258,21 +258,21 @@ rooted-filled s h d = rw (ne-eqb _ _ d)
 
 -- Where no two bins name one header and each named header has a root, the counts agree exactly if the other headers are null with count 0.
 module _ {s : Set} (fit : Fit s) (heads : HeadsOnce s)
-    (roots : (k i h : ℕ) → BinPlace s k i → binAt s k i ≡ tree h → rootAt s h ≢ null) where
+    (roots : (k i h : ℕ) → BinThere s k i → binAt s k i ≡ tree h → rootAt s h ≢ null) where
   abbrev Bins : ℕ → Type 0
-  Bins h = (k : ℕ) × (i : ℕ) × BinPlace s k i × (binAt s k i ≡ tree h)
+  Bins h = (k : ℕ) × (i : ℕ) × BinThere s k i × (binAt s k i ≡ tree h)
 
   -- A word of the row is a bin's, and a bin's word stands in the row.
-  word-place : (p h : ℕ) → p < length (s .bins) → wordBin s p ≡ tree h
-      → (k : ℕ) × (i : ℕ) × BinPlace s k i × (binAt s k i ≡ tree h) × (binsBefore (s .lengths) k + i ≡ p)
-  word-place p h b e =
-      let q = begins-place (s .lengths) (tablesOf s) p (omega (arith, fit .all)) in
+  word-there : (p h : ℕ) → p < length (s .bins) → wordBin s p ≡ tree h
+      → (k : ℕ) × (i : ℕ) × BinThere s k i × (binAt s k i ≡ tree h) × (binsBefore (s .lengths) k + i ≡ p)
+  word-there p h b e =
+      let q = begins-there (s .lengths) (tablesOf s) p (omega (arith, fit .all)) in
       (q .0, q .1, record { table = q .2; index = q .3 }, ap (wordBin s) (q .4) ∙ e, q .4)
 
   once : Once s
   once p q h b c e f =
-      let u = word-place p h b e in
-      let v = word-place q h c f in
+      let u = word-there p h b e in
+      let v = word-there q h c f in
       let r = heads .trees (u .0) (u .1) (v .0) (v .1) h (u .2) (v .2) (u .3) (v .3) in
       cc (r .0, r .1, u .4, v .4)
 
@@ -282,10 +282,10 @@ module _ {s : Set} (fit : Fit s) (heads : HeadsOnce s)
   named-bin : (h : ℕ) → 1 ≤ times h all → Bins h
   named-bin h m =
       let r = named-word s (length (s .bins)) h m in
-      let u = word-place (r .0) h (r .1) (r .2) in
+      let u = word-there (r .0) h (r .1) (r .2) in
       (u .0, u .1, u .2, u .3)
 
-  bin-named : (k i h : ℕ) → BinPlace s k i → binAt s k i ≡ tree h → 1 ≤ times h all
+  bin-named : (k i h : ℕ) → BinThere s k i → binAt s k i ≡ tree h → 1 ≤ times h all
   bin-named k i h p e =
       let l = begins-more (s .lengths) (tablesOf s) k (p .table) in
       word-named s (length (s .bins)) h (binsBefore (s .lengths) k + i) (omega (arith, p .index, fit .all)) e
@@ -299,7 +299,7 @@ module _ {s : Set} (fit : Fit s) (heads : HeadsOnce s)
   abbrev Counted : Type 0
   Counted = headersFine (slotsOf (s .names)) (headersIn s) (s .heads) (s .bins) ≡ true
 
-  pub headers-blank : Counted → (h : ℕ) → h < headersIn s → ((k i : ℕ) → BinPlace s k i → binAt s k i ≢ tree h) → Blank s h
+  pub headers-blank : Counted → (h : ℕ) → h < headersIn s → ((k i : ℕ) → BinThere s k i → binAt s k i ≢ tree h) → Blank s h
   unfolding headersFine
   headers-blank e h b none = is-blank s h (go (decLe 1 (times h all)))
     where
@@ -312,7 +312,7 @@ module _ {s : Set} (fit : Fit s) (heads : HeadsOnce s)
       go (yes m) = let r = named-bin h m in absurd (none (r .0) (r .1) (r .2) (r .3))
       go (no d) = omega (arith, same)
 
-  pub blank-headers : ((h : ℕ) → h < headersIn s → ((k i : ℕ) → BinPlace s k i → binAt s k i ≢ tree h) → Blank s h) → Counted
+  pub blank-headers : ((h : ℕ) → h < headersIn s → ((k i : ℕ) → BinThere s k i → binAt s k i ≢ tree h) → Blank s h) → Counted
   unfolding headersFine
   blank-headers blank = eq-eqb _ _ (sym (exactly-length (headersIn s) all inside (filled (s .heads)) same) ∙ named-length s _)
     where

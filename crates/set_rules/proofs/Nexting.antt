@@ -13,7 +13,7 @@ use Rattle.slots.proofs.Laws.{cell-null, nothing-given}
 use Rattle.set_rules.specs.Words.{Set, tablesOf, lengthAt, Fit}
 use Rattle.set_rules.proofs.Fit.{ends}
 use Rattle.set_rules.specs.Cursor.{Cursor, Step, indexAt, lone, BadCursor}
-use Rattle.set_rules.specs.Walk.{WalkPlace, walkPlace, deepest, advanced, kept, trimmed, InTables, standing, done, nexts}
+use Rattle.set_rules.specs.Walk.{WalkPoint, walkPoint, deepest, advanced, kept, trimmed, InTables, standing, done, nexts}
 use Rattle.set_rules.specs.Ways.{After, Comes, Strays, Steps}
 use Rattle.set_rules.specs.Walked.{Nexts}
 use Rattle.set_rules.proofs.Turns.{on, advanced-lt, advanced-ge}
@@ -26,14 +26,14 @@ told : {a b : Step} → a ≡ b → a .answer .number ≡ b .answer .number
 told e = ap (λ (r : Step). r .answer .number) e
 
 -- The indexes past the depth are 0.
-Zeroed : WalkPlace → Type 0
+Zeroed : WalkPoint → Type 0
 Zeroed p = (j : ℕ) → p .depth < j → getD (p .indexes) j 0 ≡ 0
 
-zeroed-trimmed : (d : ℕ) (x : List ℕ) → Zeroed (walkPlace d (trimmed d x))
+zeroed-trimmed : (d : ℕ) (x : List ℕ) → Zeroed (walkPoint d (trimmed d x))
 unfolding Zeroed
 zeroed-trimmed d x = trimmed-past d x
 
-zeroed-advanced : (lengths : List ℕ) (base d : ℕ) (x : List ℕ) → length x ≡ 8 → d < 8 → Zeroed (walkPlace d x)
+zeroed-advanced : (lengths : List ℕ) (base d : ℕ) (x : List ℕ) → length x ≡ 8 → d < 8 → Zeroed (walkPoint d x)
     → Zeroed (advanced d lengths base x)
 unfolding Zeroed advanced
 zeroed-advanced lengths base zero x e l z = λ j k. getD-set-other x 0 j (getD x 0 0 + 1) 0 (omega arith) ∙ z j k
@@ -55,13 +55,13 @@ zeroed-advanced lengths base (suc d) x e l z =
     go (yes k) again = rw (advanced-lt lengths base d x k) (λ j m. getD-set-other x (suc d) j (on lengths base d x) 0 (omega arith) ∙ z j m)
     go (no n) again = rw (advanced-ge lengths base d x (omega arith)) again
 
-module _ (s : Set) (base : ℕ) (from : WalkPlace) (good : InTables (s .lengths) base from) (zero-from : Zeroed from) where
-  zeroed-after : {p q : WalkPlace} → InTables (s .lengths) base p → Zeroed p → After s base p q → Zeroed q
+module _ (s : Set) (base : ℕ) (from : WalkPoint) (good : InTables (s .lengths) base from) (zero-from : Zeroed from) where
+  zeroed-after : {p q : WalkPoint} → InTables (s .lengths) base p → Zeroed p → After s base p q → Zeroed q
   zeroed-after {p} h z a =
       rw (onward-after s base a)
       at (zeroed-advanced (s .lengths) base (p .depth) (p .indexes) (h .eight) (omega (arith, h .deep, h .few)) z)
 
-  zeroed-comes : {p : WalkPlace} → Comes s base from p → Zeroed p
+  zeroed-comes : {p : WalkPoint} → Comes s base from p → Zeroed p
   unfolding Zeroed
   zeroed-comes (Comes.start) = zero-from
   zeroed-comes (Comes.past {p} c w e a) = zeroed-after (comes-good s base from good c) (zeroed-comes c) a

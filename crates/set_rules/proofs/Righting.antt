@@ -14,7 +14,7 @@ use Rattle.set_rules.specs.Words.{Set, headersIn, firstAt, Fit, Bin, bin
 use Rattle.set_rules.proofs.Fit.{length-least}
 use Rattle.set_rules.proofs.Naming.{ranges}
 use Rattle.set_rules.specs.Cursor.{Cursor, Step, BadCursor}
-use Rattle.set_rules.specs.Walk.{WalkPlace, walkPlace, deepest, advanced, InTables, standing, nexts}
+use Rattle.set_rules.specs.Walk.{WalkPoint, walkPoint, deepest, advanced, InTables, standing, nexts}
 use Rattle.set_rules.specs.Ways.{After, Comes, Reads, Steps, moved-to}
 use Rattle.set_rules.specs.Held.{Made}
 use Rattle.set_rules.proofs.Turns.{on, twice-at, advanced-lt, advanced-ge}
@@ -26,23 +26,23 @@ use Rattle.set_rules.proofs.Gates.{start-made, next-walked}
 use Rattle.tree_rules.specs.Find.{slotsOf}
 
 -- Each level is right under the one above.
-abbrev Levels : List ℕ → ℕ → WalkPlace → Type 0
+abbrev Levels : List ℕ → ℕ → WalkPoint → Type 0
 Levels lengths base p =
     (j : ℕ) → j < p .depth
     → Under (getD lengths (base + j) 0) (getD lengths (base + suc j) 0) (getD (p .indexes) j 0) (getD (p .indexes) (suc j) 0)
 
 module _ (lengths : List ℕ) (base : ℕ) (twice : (k : ℕ) → suc k < length lengths → getD lengths (suc k) 0 ≡ 2 * getD lengths k 0) where
   -- A write at level e leaves the levels above it.
-  levels-set : (d e v : ℕ) (x : List ℕ) → d < e → Levels lengths base (walkPlace d x) → Levels lengths base (walkPlace d (set x e v))
+  levels-set : (d e v : ℕ) (x : List ℕ) → d < e → Levels lengths base (walkPoint d x) → Levels lengths base (walkPoint d (set x e v))
   levels-set d e v x l h j k =
       let a = getD-set-other x e j v 0 (omega arith) in
       let b = getD-set-other x e (suc j) v 0 (omega arith) in
       rw (a, b) (h j k)
 
   -- One level more.
-  levels-more : (d v : ℕ) (x : List ℕ) → length x ≡ 8 → suc d < 8 → Levels lengths base (walkPlace d x)
+  levels-more : (d v : ℕ) (x : List ℕ) → length x ≡ 8 → suc d < 8 → Levels lengths base (walkPoint d x)
       → Under (getD lengths (base + d) 0) (getD lengths (base + suc d) 0) (getD x d 0) v
-      → Levels lengths base (walkPlace (suc d) (set x (suc d) v))
+      → Levels lengths base (walkPoint (suc d) (set x (suc d) v))
   levels-more d v x e l h u j k = go (ℕ-discrete j d)
     where
       go : Dec (j ≡ d)
@@ -54,10 +54,10 @@ module _ (lengths : List ℕ) (base : ℕ) (twice : (k : ℕ) → suc k < length
           rw (f, a, b) u
       go (no n) = levels-set d (suc d) v x (omega arith) h j (omega arith)
 
-  above : (d : ℕ) (x : List ℕ) → Levels lengths base (walkPlace (suc d) x) → Levels lengths base (walkPlace d x)
+  above : (d : ℕ) (x : List ℕ) → Levels lengths base (walkPoint (suc d) x) → Levels lengths base (walkPoint d x)
   above d x h = λ j k. h j (omega arith)
 
-  levels-advanced : (d : ℕ) (x : List ℕ) → length x ≡ 8 → d < 8 → base + d < length lengths → Levels lengths base (walkPlace d x)
+  levels-advanced : (d : ℕ) (x : List ℕ) → length x ≡ 8 → d < 8 → base + d < length lengths → Levels lengths base (walkPoint d x)
       → Levels lengths base (advanced d lengths base x)
   unfolding advanced
   levels-advanced zero x e l b h = λ j k. absurd (omega arith)
@@ -81,7 +81,7 @@ module _ (lengths : List ℕ) (base : ℕ) (twice : (k : ℕ) → suc k < length
       go (no n) again = rw (advanced-ge lengths base d x (omega arith)) again
 
 -- A place with right levels makes a right cursor.
-stands-right : (lengths : List ℕ) (n base : ℕ) (p : WalkPlace) (last : ℕ) → InTables lengths base p → Levels lengths base p
+stands-right : (lengths : List ℕ) (n base : ℕ) (p : WalkPoint) (last : ℕ) → InTables lengths base p → Levels lengths base p
     → (last ≡ null) ⊎ (last < n)
     → Right lengths n base (p .depth) (p .indexes) last
 stands-right lengths n base p last h l k =
@@ -119,14 +119,14 @@ module _ (s : Set) (fit : Fit s) where
         rw (trimmed-same (c .depth) (c .indexes) j (omega arith) short, trimmed-same (c .depth) (c .indexes) (suc j) (omega arith) short)
         (right .level j l)
 
-    levels-after : {p q : WalkPlace} → InTables (s .lengths) (c .base) p → Levels (s .lengths) (c .base) p → After s (c .base) p q
+    levels-after : {p q : WalkPoint} → InTables (s .lengths) (c .base) p → Levels (s .lengths) (c .base) p → After s (c .base) p q
         → Levels (s .lengths) (c .base) q
     levels-after {p} h l a =
         rw (onward-after s (c .base) a) at
         (levels-advanced (s .lengths) (c .base) (fit .twice) (p .depth) (p .indexes) (h .eight)
         (omega (arith, h .deep, h .few)) (h .deep) l)
 
-    levels-comes : {p : WalkPlace} → Comes s (c .base) (standing c) p → Levels (s .lengths) (c .base) p
+    levels-comes : {p : WalkPoint} → Comes s (c .base) (standing c) p → Levels (s .lengths) (c .base) p
     levels-comes (Comes.start) = levels-start
     levels-comes (Comes.past k w e a) = levels-after (comes-good s (c .base) (standing c) stands k) (levels-comes k) a
     levels-comes (Comes.down {p} k w e l) =
@@ -135,7 +135,7 @@ module _ (s : Set) (fit : Fit s) where
         (levels-comes k)
         (omega (arith, w, twice-at (s .lengths) (c .base) (fit .twice) (p .depth) l), inl refl)
 
-    right-after : {b : Bin} {p q : WalkPlace} (x : ℕ) → Reads s c b p → After s (c .base) p q → x < slotsOf (s .names)
+    right-after : {b : Bin} {p q : WalkPoint} (x : ℕ) → Reads s c b p → After s (c .base) p q → x < slotsOf (s .names)
         → RightAt (moved-to c q x)
     right-after {b} {p} {q} x r a l =
         let k = comes-good s (c .base) (standing c) stands (read-comes c r) in

@@ -9,34 +9,34 @@ use lib.Dec.{leb}
 use borrow.Author.Tests.{le-leb, lt-leb, lt-ltb, le-ltb}
 use Rattle.slots.specs.Words.{pick}
 use Rattle.set_rules.specs.Words.{Set, tablesOf, lengthAt, firstAt, Bin, empty, moved, bad, list, tree}
-use Rattle.set_rules.specs.Walk.{WalkPlace, deepest, binHere, below, wentOn, InTables, Sought, ended, lost, taken, entered, sought}
+use Rattle.set_rules.specs.Walk.{WalkPoint, deepest, binHere, below, wentOn, InTables, Sought, ended, lost, taken, entered, sought}
 use Rattle.set_rules.specs.Walk.{turnsIn}
 use Rattle.set_rules.proofs.Turns.{left, left-advanced, left-within, left-down, twice-at, under-some}
 use Rattle.set_rules.proofs.Standing.{Within, within-or-end, stands-advanced, stands-down, left-some, left-all}
 use Rattle.tree_rules.specs.Find.{slotsOf}
 
 module _ (s : Set) (base : ℕ) where
-  abbrev pub Good : WalkPlace → Type 0
+  abbrev pub Good : WalkPoint → Type 0
   Good p = InTables (s .lengths) base p
 
-  abbrev pub Here : WalkPlace → Type 0
+  abbrev pub Here : WalkPoint → Type 0
   Here p = Within (s .lengths) base p
 
-  abbrev pub leftAt : WalkPlace → ℕ
+  abbrev pub leftAt : WalkPoint → ℕ
   leftAt p = left (s .lengths) base (p .depth) (p .indexes)
 
-  pub sought-end : (t : ℕ) (p : WalkPlace) → lengthAt s (base + p .depth) ≤ deepest p → sought t s base p ≡ ended
+  pub sought-end : (t : ℕ) (p : WalkPoint) → lengthAt s (base + p .depth) ≤ deepest p → sought t s base p ≡ ended
   unfolding sought
   sought-end zero p h = refl
   sought-end (suc t) p h = simp (le-leb _ _ h)
 
-  sought-turn : (t : ℕ) (p : WalkPlace) → Here p → {b : Bin} → binHere s base p ≡ b
+  sought-turn : (t : ℕ) (p : WalkPoint) → Here p → {b : Bin} → binHere s base p ≡ b
       → sought (suc t) s base p ≡ entered s base p b (λ q. sought t s base q)
   unfolding sought
   sought-turn t p h e = rw (lt-leb _ _ h, e)
 
   -- What is left falls.
-  pub falls-onward : (p : WalkPlace) → Good p → Here p → leftAt (wentOn s base p) < leftAt p
+  pub falls-onward : (p : WalkPoint) → Good p → Here p → leftAt (wentOn s base p) < leftAt p
   falls-onward p h w =
       let d = p .depth in
       let x = p .indexes in
@@ -45,17 +45,17 @@ module _ (s : Set) (base : ℕ) where
       let u = under-some (tablesOf s - (base + d)) (omega (arith, h .deep)) in
       omega (arith, a, b, u)
 
-  pub falls-below : (p : WalkPlace) → Good p → Here p → base + suc (p .depth) < tablesOf s → leftAt (below s base p) < leftAt p
+  pub falls-below : (p : WalkPoint) → Good p → Here p → base + suc (p .depth) < tablesOf s → leftAt (below s base p) < leftAt p
   falls-below p h w l = left-down (s .lengths) base (h .twice) (p .depth) _ (p .indexes) w l
 
-  pub good-onward : (p : WalkPlace) → Good p → Here p → Good (wentOn s base p)
+  pub good-onward : (p : WalkPoint) → Good p → Here p → Good (wentOn s base p)
   good-onward p h w = stands-advanced (s .lengths) base (p .depth) (p .indexes) h w
 
-  pub good-below : (p : WalkPlace) → Good p → Here p → base + suc (p .depth) < tablesOf s → Good (below s base p)
+  pub good-below : (p : WalkPoint) → Good p → Here p → base + suc (p .depth) < tablesOf s → Good (below s base p)
   good-below p h w l = stands-down (s .lengths) base p _ h w l (omega (arith, twice-at (s .lengths) base (h .twice) (p .depth) l))
 
-  -- A turn's outcome depends on what follows the places that it may go to.
-  same-turn : (p : WalkPlace) (b : Bin) (f g : WalkPlace → Sought) → f (wentOn s base p) ≡ g (wentOn s base p)
+  -- A turn's outcome depends on what follows the points that it may go to.
+  same-turn : (p : WalkPoint) (b : Bin) (f g : WalkPoint → Sought) → f (wentOn s base p) ≡ g (wentOn s base p)
       → (base + suc (p .depth) < tablesOf s → f (below s base p) ≡ g (below s base p))
       → entered s base p b f ≡ entered s base p b g
   same-turn p empty f g a b = a
@@ -68,20 +68,20 @@ module _ (s : Set) (base : ℕ) where
       go (yes l) = simp (lt-ltb _ _ l) (b (omega arith))
       go (no l) = simp (le-ltb (base + p .depth + 1) (tablesOf s) (omega arith))
 
-  none-left : (p : WalkPlace) → Good p → leftAt p ≤ 0 → (t : ℕ) → sought t s base p ≡ ended
+  none-left : (p : WalkPoint) → Good p → leftAt p ≤ 0 → (t : ℕ) → sought t s base p ≡ ended
   none-left p h l t = go (within-or-end (s .lengths) base p h)
     where
       go : (Here p) ⊎ ((p .depth ≡ 0) × (lengthAt s (base + p .depth) ≤ deepest p)) → sought t s base p ≡ ended
       go (inl w) = absurd (omega (arith, left-some (s .lengths) base p h w))
       go (inr e) = sought-end t p (e .1)
 
-  pub enough : (t u : ℕ) (p : WalkPlace) → Good p → leftAt p ≤ t → leftAt p ≤ u → sought t s base p ≡ sought u s base p
+  pub enough : (t u : ℕ) (p : WalkPoint) → Good p → leftAt p ≤ t → leftAt p ≤ u → sought t s base p ≡ sought u s base p
   enough zero u p h a b = none-left p h a 0 ∙ sym (none-left p h a u)
   enough (suc t) zero p h a b = none-left p h b (suc t) ∙ sym (none-left p h b 0)
   enough (suc t) (suc u) p h a b = go (within-or-end (s .lengths) base p h) (λ q k c d. enough t u q k c d)
     where
       go : (Here p) ⊎ ((p .depth ≡ 0) × (lengthAt s (base + p .depth) ≤ deepest p))
-          → ((q : WalkPlace) → Good q → leftAt q ≤ t → leftAt q ≤ u → sought t s base q ≡ sought u s base q)
+          → ((q : WalkPoint) → Good q → leftAt q ≤ t → leftAt q ≤ u → sought t s base q ≡ sought u s base q)
           → sought (suc t) s base p ≡ sought (suc u) s base p
       go (inr e) again = sought-end (suc t) p (e .1) ∙ sym (sought-end (suc u) p (e .1))
       go (inl w) again =
@@ -92,15 +92,15 @@ module _ (s : Set) (base : ℕ) where
           (λ l. again (below s base p) (good-below p h w l) (omega (arith, falls-below p h w l)) (omega (arith, falls-below p h w l)))
           ∙ sym (sought-turn u p w refl)
 
-  -- The loop with all its turns: what it comes to from a place, by the bin there.
-  abbrev pub seeks : WalkPlace → Sought
+  -- The loop with all its turns: what it comes to from a point, by the bin there.
+  abbrev pub seeks : WalkPoint → Sought
   seeks p = sought (turnsIn s base) s base p
 
-  some-turns : (p : WalkPlace) → Good p → Here p → (t : ℕ) × (turnsIn s base ≡ suc t)
+  some-turns : (p : WalkPoint) → Good p → Here p → (t : ℕ) × (turnsIn s base ≡ suc t)
   some-turns p h w =
       (turnsIn s base - 1, omega (arith, left-some (s .lengths) base p h w, left-all (s .lengths) base p h))
 
-  module _ (p : WalkPlace) (h : Good p) (w : Here p) where
+  module _ (p : WalkPoint) (h : Good p) (w : Here p) where
     at-turn : {b : Bin} → binHere s base p ≡ b → seeks p ≡ entered s base p b seeks
     at-turn {b} e =
         let m = some-turns p h w in
@@ -133,21 +133,21 @@ module _ (s : Set) (base : ℕ) where
     pub at-tree : {k : ℕ} → binHere s base p ≡ tree k → firstAt s k < slotsOf (s .names) → seeks p ≡ taken s base p (firstAt s k)
     at-tree {k} e l = at-turn e ∙ simp (lt-ltb (firstAt s k) (slotsOf (s .names)) l)
 
-  pub at-end : (p : WalkPlace) → lengthAt s (base + p .depth) ≤ deepest p → seeks p ≡ ended
+  pub at-end : (p : WalkPoint) → lengthAt s (base + p .depth) ≤ deepest p → seeks p ≡ ended
   at-end p h = sought-end (turnsIn s base) p h
 
 -- The loop over the bins reads no cell.
 abbrev pub bare : Set → Set
 bare s = record { lengths = s .lengths; bins = s .bins; heads = s .heads; names = s .names; cells = [] }
 
-bare-turn : (s : Set) (base : ℕ) (p : WalkPlace) (b : Bin) (f : WalkPlace → Sought) → entered (bare s) base p b f ≡ entered s base p b f
+bare-turn : (s : Set) (base : ℕ) (p : WalkPoint) (b : Bin) (f : WalkPoint → Sought) → entered (bare s) base p b f ≡ entered s base p b f
 bare-turn s base p empty f = refl
 bare-turn s base p moved f = refl
 bare-turn s base p bad f = refl
 bare-turn s base p (list x) f = refl
 bare-turn s base p (tree h) f = refl
 
-pub no-cells : (s : Set) (base t : ℕ) (p : WalkPlace) → sought t (bare s) base p ≡ sought t s base p
+pub no-cells : (s : Set) (base t : ℕ) (p : WalkPoint) → sought t (bare s) base p ≡ sought t s base p
 unfolding sought
 no-cells s base zero p = refl
 no-cells s base (suc t) p =

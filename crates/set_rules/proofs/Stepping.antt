@@ -1,4 +1,4 @@
--- A step of the walk is what the rules say of it: the loop from a place that it comes to ends as the whole loop does, and what it comes to
+-- A step of the walk is what the rules say of it: the loop from a point that it comes to ends as the whole loop does, and what it comes to
 -- there is told by the bin.
 use mathlib.Core.Path.{_≡_, refl, ap, _∙_}
 use mathlib.Core.Logic.{_≢_, _⊎_, inl, inr}
@@ -13,7 +13,7 @@ use Rattle.slots.specs.Words.{null, next, cell}
 use Rattle.set_rules.specs.Words.{Set, tablesOf, lengthAt, firstAt, Fit, Bin, empty, moved, bad, list, tree}
 use Rattle.set_rules.proofs.Fit.{small}
 use Rattle.set_rules.specs.Cursor.{Cursor, Step}
-use Rattle.set_rules.specs.Walk.{WalkPlace, walkPlace, deepest, binHere, below, advanced, wentOn, InTables, Sought, at, ended, lost}
+use Rattle.set_rules.specs.Walk.{WalkPoint, walkPoint, deepest, binHere, below, advanced, wentOn, InTables, Sought, at, ended, lost}
 use Rattle.set_rules.specs.Walk.{standing}
 use Rattle.set_rules.specs.Walk.{stepped, stepsOn}
 use Rattle.set_rules.specs.Ways.{Begins, After, Comes, Reads, Strays, Steps}
@@ -25,36 +25,36 @@ use Rattle.set_rules.proofs.Seeking.{falls-onward, falls-below, good-on
 use Rattle.tree_rules.specs.Find.{slotsOf}
 
 module _ (s : Set) (base : ℕ) where
-  pub after-onward : (d : ℕ) (x : List ℕ) → After s base (walkPlace d x) (advanced d (s .lengths) base x)
+  pub after-onward : (d : ℕ) (x : List ℕ) → After s base (walkPoint d x) (advanced d (s .lengths) base x)
   unfolding advanced
   after-onward zero x = After.next-bin
   after-onward (suc d) x = go (decLt (on (s .lengths) base d x) (lengthAt s (base + suc d))) (after-onward d (set x (suc d) 0))
     where
       go : Dec (on (s .lengths) base d x < lengthAt s (base + suc d))
-          → After s base (walkPlace d (set x (suc d) 0)) (advanced d (s .lengths) base (set x (suc d) 0))
-          → After s base (walkPlace (suc d) x) (advanced (suc d) (s .lengths) base x)
+          → After s base (walkPoint d (set x (suc d) 0)) (advanced d (s .lengths) base (set x (suc d) 0))
+          → After s base (walkPoint (suc d) x) (advanced (suc d) (s .lengths) base x)
       go (yes l) again = rw (advanced-lt (s .lengths) base d x l) (After.plus l)
       go (no n) again =
           let l : lengthAt s (base + suc d) ≤ getD x (suc d) 0 + lengthAt s (base + d) = omega arith in
           rw (advanced-ge (s .lengths) base d x l) (After.up l again)
 
-  pub onward-after : {p q : WalkPlace} → After s base p q → wentOn s base p ≡ q
+  pub onward-after : {p q : WalkPoint} → After s base p q → wentOn s base p ≡ q
   unfolding advanced
   onward-after (After.next-bin) = refl
   onward-after (After.plus {d} {x} l) = advanced-lt (s .lengths) base d x l
   onward-after (After.up {d} {x} l a) = advanced-ge (s .lengths) base d x l ∙ onward-after a
 
-  module _ (from : WalkPlace) (good : InTables (s .lengths) base from) where
+  module _ (from : WalkPoint) (good : InTables (s .lengths) base from) where
     -- Where the loop comes to, a step may stand, and the loop from there ends as the whole does.
-    pub comes-good : {p : WalkPlace} → Comes s base from p → InTables (s .lengths) base p
+    pub comes-good : {p : WalkPoint} → Comes s base from p → InTables (s .lengths) base p
     comes-good (Comes.start) = good
     comes-good (Comes.past {p} c w e a) = rw (onward-after a) at (good-onward s base p (comes-good c) w)
     comes-good (Comes.down {p} c w e l) = good-below s base p (comes-good c) w l
 
-    pub comes-same : {p : WalkPlace} → Comes s base from p → seeks s base from ≡ seeks s base p
+    pub comes-same : {p : WalkPoint} → Comes s base from p → seeks s base from ≡ seeks s base p
     comes-same (Comes.start) = refl
     comes-same (Comes.past {p} {q} c w e a) =
-        comes-same c ∙ at-empty s base p (comes-good c) w e ∙ ap (λ (r : WalkPlace). seeks s base r) (onward-after a)
+        comes-same c ∙ at-empty s base p (comes-good c) w e ∙ ap (λ (r : WalkPoint). seeks s base r) (onward-after a)
     comes-same (Comes.down {p} c w e l) = comes-same c ∙ at-moved s base p (comes-good c) w e l
 
 -- What a step from a cursor comes to.
@@ -67,21 +67,21 @@ module _ (s : Set) (fit : Fit s) (c : Cursor) (good : InTables (s .lengths) (c .
 
   -- What is said of the loop's end.
   data Ends : Sought → Type 0 where
-    list-end : {p q : WalkPlace} {x : ℕ} → Reads s c (list x) p → After s (c .base) p q → Ends (at x q)
-    tree-end : {p q : WalkPlace} {h : ℕ} → Reads s c (tree h) p → firstAt s h < slotsOf (s .names) → After s (c .base) p q
+    list-end : {p q : WalkPoint} {x : ℕ} → Reads s c (list x) p → After s (c .base) p q → Ends (at x q)
+    tree-end : {p q : WalkPoint} {h : ℕ} → Reads s c (tree h) p → firstAt s h < slotsOf (s .names) → After s (c .base) p q
         → Ends (at (firstAt s h) q)
-    base-end : {p : WalkPlace} → Comes s (c .base) (standing c) p → p .depth ≡ 0 → deepest p ≡ lengthAt s (c .base) → Ends ended
+    base-end : {p : WalkPoint} → Comes s (c .base) (standing c) p → p .depth ≡ 0 → deepest p ≡ lengthAt s (c .base) → Ends ended
     stray-end : Strays s c → Ends lost
 
   module _ (none : cell (s .cells) (c .last) next ≡ null) where
-    at-base : (p : WalkPlace) → Comes s (c .base) (standing c) p → (p .depth ≡ 0) × (deepest p ≡ lengthAt s (c .base))
+    at-base : (p : WalkPoint) → Comes s (c .base) (standing c) p → (p .depth ≡ 0) × (deepest p ≡ lengthAt s (c .base))
         → Ends (seeks s (c .base) p)
     at-base p k e =
         let z : lengthAt s (c .base + p .depth) ≡ lengthAt s (c .base) =
         ap (λ (j : ℕ). lengthAt s (c .base + j)) (e .0) ∙ ap (λ (j : ℕ). lengthAt s j) (add-zero (c .base)) in
         rw (at-end s (c .base) p (omega (arith, z, e .1))) (base-end k (e .0) (e .1))
 
-    ends-from : (t : ℕ) (p : WalkPlace) → Comes s (c .base) (standing c) p → leftAt s (c .base) p ≤ t → Ends (seeks s (c .base) p)
+    ends-from : (t : ℕ) (p : WalkPoint) → Comes s (c .base) (standing c) p → leftAt s (c .base) p ≤ t → Ends (seeks s (c .base) p)
     ends-from zero p k l = go (comes-good s (c .base) (standing c) good k .last)
       where
         go : (deepest p < lengthAt s (c .base + p .depth)) ⊎ ((p .depth ≡ 0) × (deepest p ≡ lengthAt s (c .base)))
@@ -94,7 +94,7 @@ module _ (s : Set) (fit : Fit s) (c : Cursor) (good : InTables (s .lengths) (c .
         h = comes-good s (c .base) (standing c) good k
 
         read : deepest p < lengthAt s (c .base + p .depth) → (b : Bin) → binHere s (c .base) p ≡ b
-            → ((q : WalkPlace) → Comes s (c .base) (standing c) q → leftAt s (c .base) q ≤ t → Ends (seeks s (c .base) q))
+            → ((q : WalkPoint) → Comes s (c .base) (standing c) q → leftAt s (c .base) q ≤ t → Ends (seeks s (c .base) q))
             → Ends (seeks s (c .base) p)
         read w empty e again =
             rw (at-empty s (c .base) p h w e)
@@ -129,7 +129,7 @@ module _ (s : Set) (fit : Fit s) (c : Cursor) (good : InTables (s .lengths) (c .
             turn (no n) (no d) = rw (at-stray s (c .base) p h w e (omega arith)) (stray-end (Strays.stray-first r d (omega arith)))
 
         go : (deepest p < lengthAt s (c .base + p .depth)) ⊎ ((p .depth ≡ 0) × (deepest p ≡ lengthAt s (c .base)))
-            → ((q : WalkPlace) → Comes s (c .base) (standing c) q → leftAt s (c .base) q ≤ t → Ends (seeks s (c .base) q))
+            → ((q : WalkPoint) → Comes s (c .base) (standing c) q → leftAt s (c .base) q ≤ t → Ends (seeks s (c .base) q))
             → Ends (seeks s (c .base) p)
         go (inr e) again = at-base p k e
         go (inl w) again = read w (binHere s (c .base) p) refl again
@@ -172,10 +172,10 @@ module _ (s : Set) (fit : Fit s) (c : Cursor) (good : InTables (s .lengths) (c .
   link-walked {x} e n l = rw (e, ne-eqb x null n, lt-ltb x (slotsOf (s .names)) l)
 
   -- A bin read is what the loop comes to.
-  reads-good : {b : Bin} {p : WalkPlace} → Reads s c b p → InTables (s .lengths) (c .base) p
+  reads-good : {b : Bin} {p : WalkPoint} → Reads s c b p → InTables (s .lengths) (c .base) p
   reads-good r = comes-good s (c .base) (standing c) good (read-comes c r)
 
-  reads-same : {b : Bin} {p : WalkPlace} → Reads s c b p → sound ≡ seeks s (c .base) p
+  reads-same : {b : Bin} {p : WalkPoint} → Reads s c b p → sound ≡ seeks s (c .base) p
   reads-same r = comes-same s (c .base) (standing c) good (read-comes c r)
 
   strays-lost : Strays s c → stepsOn s c ≡ stepped s c lost

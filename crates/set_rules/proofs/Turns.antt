@@ -10,9 +10,9 @@ use lib.Seq.{getD-set-same, getD-set-other}
 use lib.Dec.{ltb}
 use borrow.Author.Tests.{lt-ltb, le-ltb}
 use Rattle.slots.specs.Words.{pick}
-use Rattle.set_rules.specs.Walk.{WalkPlace, walkPlace, further, advanced, under}
+use Rattle.set_rules.specs.Walk.{WalkPoint, walkPoint, further, advanced, under}
 
--- The bins that come after the one at depth d, and those from the place on.
+-- The bins that come after the one at depth d, and those from the point on.
 unfoldable pub later : List ℕ → ℕ → ℕ → List ℕ → ℕ
 later lengths base zero x = (getD lengths base 0 - (getD x 0 0 + 1)) * under (length lengths - base)
 later lengths base (suc d) x =
@@ -44,7 +44,7 @@ module _ (lengths : List ℕ) (base : ℕ) where
     abbrev pub on : ℕ
     on = further lengths base d x
 
-    pub advanced-lt : on < getD lengths (base + suc d) 0 → advanced (suc d) lengths base x ≡ walkPlace (suc d) (set x (suc d) on)
+    pub advanced-lt : on < getD lengths (base + suc d) 0 → advanced (suc d) lengths base x ≡ walkPoint (suc d) (set x (suc d) on)
     unfolding advanced
     advanced-lt h = simp (lt-ltb _ _ h)
 
@@ -65,7 +65,7 @@ module _ (lengths : List ℕ) (base : ℕ) where
   unfolding left
   left-suc d x = refl
 
-  abbrev pub leftOf : WalkPlace → ℕ
+  abbrev pub leftOf : WalkPoint → ℕ
   leftOf p = left lengths base (p .depth) (p .indexes)
 
   left-first : (x : List ℕ) → length x ≡ 8 → leftOf (advanced 0 lengths base x) ≡ later lengths base 0 x
@@ -73,7 +73,7 @@ module _ (lengths : List ℕ) (base : ℕ) where
   left-first x e = rw (getD-set-same x 0 (getD x 0 0 + 1) 0 (omega arith))
 
   module _ (twice : (k : ℕ) → suc k < length lengths → getD lengths (suc k) 0 ≡ 2 * getD lengths k 0) where
-    -- The place after one has the bins that come after it.
+    -- The point after one has the bins that come after it.
     pub left-advanced : (d : ℕ) (x : List ℕ) → length x ≡ 8 → d < 8 → base + d < length lengths
         → leftOf (advanced d lengths base x) ≡ later lengths base d x
     left-advanced zero x e l h = left-first x e
@@ -99,7 +99,7 @@ module _ (lengths : List ℕ) (base : ℕ) where
   unfolding left
   left-top x = mul-le-mul-right (under (length lengths - base)) (omega arith)
 
-  -- A place whose bin is there has that bin, those below it, and those that come after.
+  -- A point whose bin is there has that bin, those below it, and those that come after.
   pub left-within : (d : ℕ) (x : List ℕ) → getD x d 0 < getD lengths (base + d) 0
       → left lengths base d x ≡ under (length lengths - (base + d)) + later lengths base d x
   unfolding left later
@@ -134,7 +134,7 @@ module _ (lengths : List ℕ) (base : ℕ) where
         let y : List ℕ = set x (suc d) v in
         omega (arith, left-suc d y, later-most d y, later-set d (suc d) v x (omega arith), under-two d h, left-within d x w)
 
-    -- No place has more bins left than there are.
+    -- No point has more bins left than there are.
     pub left-most : (d : ℕ) (x : List ℕ) → base + d < length lengths → ((j : ℕ) → j ≤ d → getD x j 0 < getD lengths (base + j) 0)
         → under (length lengths - (base + d)) + later lengths base d x ≤ getD lengths base 0 * under (length lengths - base)
     left-most zero x h w =

@@ -43,7 +43,7 @@ module _ (s : Set) (fit : Fit s) (acc : Accepted s) where
     where
       go : (b : Bin) → binAt s k i ≡ b → {m : List ℕ} → HeldIn s b m → 1 ≤ times x m → used (s .cells) x ≡ 1
       go (list a) e (HeldIn.listed h) m =
-          let g = acc .lists k i a (f .place) e in
+          let g = acc .lists k i a (f .there) e in
           used-hued (s .cells) x black (g .plain x (rw (listed-unique s (small fit) h (g .ends)) at m) .states)
       go (tree a) e (HeldIn.grown r) m =
           let d = hangs-stand (slotsOf (s .names)) (s .cells) (r .hangs) m in used-hued (s .cells) x (d .hue) (d .words .hued)

@@ -21,7 +21,7 @@ abbrev pub slotted : Set → Live
 slotted s = record { names = s .names; cells = s .cells; head = []; sizes = [] }
 
 -- There is a bin i of table k.
-pub record BinPlace (s : Set) (k i : ℕ) : Type 0 where
+pub record BinThere (s : Set) (k i : ℕ) : Type 0 where
   pub table : k < tablesOf s
   pub index : i < lengthAt s k
 
@@ -37,14 +37,14 @@ pub data HeldIn (s : Set) : Bin → List ℕ → Type 0 where
 
 -- Slot x is an entry of bin i of table k.
 pub record EntryOf (s : Set) (k i x : ℕ) : Type 0 where
-  pub place : BinPlace s k i
+  pub there : BinThere s k i
   pub held : List ℕ
   pub holds : HeldIn s (binAt s k i) held
   pub member : 1 ≤ times x held
 
 -- "no bin word is bad"
 abbrev pub NoneBad : Set → Type 0
-NoneBad s = (k i : ℕ) → BinPlace s k i → binAt s k i ≢ bad
+NoneBad s = (k i : ℕ) → BinThere s k i → binAt s k i ≢ bad
 
 -- "states are 0, 1 or 2 and links null or name a slot"
 pub record SlotWords (s : Set) : Type 0 where
@@ -53,11 +53,11 @@ pub record SlotWords (s : Set) : Type 0 where
 
 -- "the last table has no Moved"
 abbrev pub LastUnmoved : Set → Type 0
-LastUnmoved s = (k i : ℕ) → BinPlace s k i → suc k ≡ tablesOf s → binAt s k i ≢ moved
+LastUnmoved s = (k i : ℕ) → BinThere s k i → suc k ≡ tablesOf s → binAt s k i ≢ moved
 
 -- "a bin whose parent bin (index modulo the shorter length) is not Moved is empty"
 abbrev pub ParentMoved : Set → Type 0
-ParentMoved s = (k i : ℕ) → BinPlace s (suc k) i → binAt s k (i % lengthAt s k) ≢ moved → binAt s (suc k) i ≡ empty
+ParentMoved s = (k i : ℕ) → BinThere s (suc k) i → binAt s k (i % lengthAt s k) ≢ moved → binAt s (suc k) i ≡ empty
 
 -- "every entry lies in the bin its hash names"
 abbrev pub EntriesHome : Set → Type 0
@@ -65,8 +65,8 @@ EntriesHome s = (k i x : ℕ) → EntryOf s k i x → bini (lengthAt s k) (nameO
 
 -- "no head is used by two bins": neither a list's nor a tree's.
 pub record HeadsOnce (s : Set) : Type 0 where
-  pub lists : (k i l j a : ℕ) → BinPlace s k i → BinPlace s l j → binAt s k i ≡ list a → binAt s l j ≡ list a → (k ≡ l) × (i ≡ j)
-  pub trees : (k i l j h : ℕ) → BinPlace s k i → BinPlace s l j → binAt s k i ≡ tree h → binAt s l j ≡ tree h → (k ≡ l) × (i ≡ j)
+  pub lists : (k i l j a : ℕ) → BinThere s k i → BinThere s l j → binAt s k i ≡ list a → binAt s l j ≡ list a → (k ≡ l) × (i ≡ j)
+  pub trees : (k i l j h : ℕ) → BinThere s k i → BinThere s l j → binAt s k i ≡ tree h → binAt s l j ≡ tree h → (k ≡ l) × (i ≡ j)
 
 -- "repeat no pair": each slot's pair is not that of any slot after it.
 pub data Unlike (names : List ℕ) (x : ℕ) : List ℕ → Type 0 where
@@ -93,19 +93,19 @@ pub record GoodList (s : Set) (a : ℕ) : Type 0 where
   pub plain : (x : ℕ) → 1 ≤ times x visits → ListSlot (s .cells) x
 
 abbrev pub GoodLists : Set → Type 0
-GoodLists s = (k i a : ℕ) → BinPlace s k i → binAt s k i ≡ list a → GoodList s a
+GoodLists s = (k i a : ℕ) → BinThere s k i → binAt s k i ≡ list a → GoodList s a
 
 -- "a header that a bin names has a root and a first, other headers are null with count 0"
 pub record Headers (s : Set) : Type 0 where
-  pub roots : (k i h : ℕ) → BinPlace s k i → binAt s k i ≡ tree h → rootAt s h ≢ null
-  pub firsts : (k i h : ℕ) → BinPlace s k i → binAt s k i ≡ tree h → firstAt s h ≢ null
-  pub other-root : (h : ℕ) → h < headersIn s → ((k i : ℕ) → BinPlace s k i → binAt s k i ≢ tree h) → rootAt s h ≡ null
-  pub other-first : (h : ℕ) → h < headersIn s → ((k i : ℕ) → BinPlace s k i → binAt s k i ≢ tree h) → firstAt s h ≡ null
-  pub other-count : (h : ℕ) → h < headersIn s → ((k i : ℕ) → BinPlace s k i → binAt s k i ≢ tree h) → countAt s h ≡ 0
+  pub roots : (k i h : ℕ) → BinThere s k i → binAt s k i ≡ tree h → rootAt s h ≢ null
+  pub firsts : (k i h : ℕ) → BinThere s k i → binAt s k i ≡ tree h → firstAt s h ≢ null
+  pub other-root : (h : ℕ) → h < headersIn s → ((k i : ℕ) → BinThere s k i → binAt s k i ≢ tree h) → rootAt s h ≡ null
+  pub other-first : (h : ℕ) → h < headersIn s → ((k i : ℕ) → BinThere s k i → binAt s k i ≢ tree h) → firstAt s h ≡ null
+  pub other-count : (h : ℕ) → h < headersIn s → ((k i : ℕ) → BinThere s k i → binAt s k i ≢ tree h) → countAt s h ≡ 0
 
 -- "each tree obeys T3 to T6 over its own slots, whose number is the header's count"
 abbrev pub GoodTrees : Set → Type 0
-GoodTrees s = (k i h : ℕ) → BinPlace s k i → binAt s k i ≡ tree h → Shaped (s .names) (s .cells) (rootAt s h) (countAt s h)
+GoodTrees s = (k i h : ℕ) → BinThere s k i → binAt s k i ≡ tree h → Shaped (s .names) (s .cells) (rootAt s h) (countAt s h)
 
 -- "its chain has as many slots as the tree, prev the reverse of next"; as E3 mends it, "a tree's chain visits exactly that tree's slots".
 pub record GoodChain (s : Set) (k i h : ℕ) : Type 0 where
@@ -115,7 +115,7 @@ pub record GoodChain (s : Set) (k i h : ℕ) : Type 0 where
   pub own : (x : ℕ) → (1 ≤ times x visits) ↔ EntryOf s k i x
 
 abbrev pub GoodChains : Set → Type 0
-GoodChains s = (k i h : ℕ) → BinPlace s k i → binAt s k i ≡ tree h → GoodChain s k i h
+GoodChains s = (k i h : ℕ) → BinThere s k i → binAt s k i ≡ tree h → GoodChain s k i h
 
 -- Slot x is an entry of one bin and of no other.
 pub record InOne (s : Set) (x : ℕ) : Type 0 where

@@ -85,12 +85,12 @@ treeFine names cells len i root first count v =
     then (obeyed names cells root v) (λ rest. pick (treeGood names cells len i root first count (v - rest)) (some rest) none)
 
 -- A bin may stand where it does: it is not bad, it is empty unless it `may` hold something, and a Moved one has tables after its own.
-unfoldable pub wellPlaced : Bin → Bool → ℕ → Bool
-wellPlaced empty may left = true
-wellPlaced moved may left = pick (eqb left 0) false may
-wellPlaced (list a) may left = may
-wellPlaced (tree h) may left = may
-wellPlaced bad may left = false
+unfoldable pub mayStand : Bin → Bool → ℕ → Bool
+mayStand empty may left = true
+mayStand moved may left = pick (eqb left 0) false may
+mayStand (list a) may left = may
+mayStand (tree h) may left = may
+mayStand bad may left = false
 
 -- The list or tree of a bin, with v visits left.
 unfoldable pub ownFine : Set → ℕ → ℕ → Bin → ℕ → Value
@@ -109,7 +109,7 @@ isMoved bad = false
 
 -- A bin, where so many tables come after its own, with the check of the two bins below it: these may hold something where it is Moved.
 unfoldable pub binAsks : Set → ℕ → ℕ → ℕ → (Bool → ℕ → Value) → Bool → ℕ → Bin → Value
-binAsks s left k i below may v b = pick (wellPlaced b may left) (then (ownFine s (lengthAt s k) i b v) (below (isMoved b))) none
+binAsks s left k i below may v b = pick (mayStand b may left) (then (ownFine s (lengthAt s k) i b v) (below (isMoved b))) none
 
 -- The check of the two bins below bin i of table k, and of a bin: they ask each other, the tables left falling.
 unfoldable pub belowFine : ℕ → Set → ℕ → ℕ → Bool → ℕ → Value

@@ -12,18 +12,18 @@ use Rattle.set_rules.specs.Cursor.{Cursor, lone, Step, fineCursor}
 use Rattle.tree_rules.specs.Find.{slotsOf}
 
 -- Where a step stands: a depth, and the index at each level down to it. The deepest names the bin to be read.
-pub record WalkPlace : Type 0 where
+pub record WalkPoint : Type 0 where
   pub depth : ℕ
   pub indexes : List ℕ
 
-abbrev pub walkPlace : ℕ → List ℕ → WalkPlace
-walkPlace d x = record { depth = d; indexes = x }
+abbrev pub walkPoint : ℕ → List ℕ → WalkPoint
+walkPoint d x = record { depth = d; indexes = x }
 
-abbrev pub deepest : WalkPlace → ℕ
+abbrev pub deepest : WalkPoint → ℕ
 deepest p = getD (p .indexes) (p .depth) 0
 
--- The bin at a place: of table base + depth.
-abbrev pub binHere : Set → ℕ → WalkPlace → Bin
+-- The bin at a point: of table base + depth.
+abbrev pub binHere : Set → ℕ → WalkPoint → Bin
 binHere s base p = binAt s (base + p .depth) (deepest p)
 
 -- "past the depth unread, handed back as 0"
@@ -34,8 +34,8 @@ abbrev pub trimmed : ℕ → List ℕ → List ℕ
 trimmed d x = kept d x 0 ∷ kept d x 1 ∷ kept d x 2 ∷ kept d x 3 ∷ kept d x 4 ∷ kept d x 5 ∷ kept d x 6 ∷ kept d x 7 ∷ []
 
 -- "A Moved bin descends to the same index below"
-abbrev pub below : Set → ℕ → WalkPlace → WalkPlace
-below s base p = walkPlace (suc (p .depth)) (set (p .indexes) (suc (p .depth)) (deepest p))
+abbrev pub below : Set → ℕ → WalkPoint → WalkPoint
+below s base p = walkPoint (suc (p .depth)) (set (p .indexes) (suc (p .depth)) (deepest p))
 
 -- "that index plus the upper length", at level d + 1.
 abbrev pub further : List ℕ → ℕ → ℕ → List ℕ → ℕ
@@ -43,15 +43,15 @@ further lengths base d x = getD x (suc d) 0 + getD lengths (base + d) 0
 
 -- "after it comes that index plus the upper length, while below the lower length; then up": the source's recover_state, from depth d.
 -- In the base table comes the next bin.
-unfoldable pub advanced : ℕ → List ℕ → ℕ → List ℕ → WalkPlace
-advanced zero lengths base x = walkPlace 0 (set x 0 (getD x 0 0 + 1))
+unfoldable pub advanced : ℕ → List ℕ → ℕ → List ℕ → WalkPoint
+advanced zero lengths base x = walkPoint 0 (set x 0 (getD x 0 0 + 1))
 advanced (suc d) lengths base x =
-    pick (ltb (further lengths base d x) (getD lengths (base + suc d) 0)) (walkPlace (suc d) (set x (suc d) (further lengths base d x)))
+    pick (ltb (further lengths base d x) (getD lengths (base + suc d) 0)) (walkPoint (suc d) (set x (suc d) (further lengths base d x)))
     (advanced d lengths base (set x (suc d) 0))
 
--- A place that a step may stand at: its table is there, and each index is below its table's length,
+-- A point that a step may stand at: its table is there, and each index is below its table's length,
 -- or at depth 0 the base index is the end.
-pub record InTables (lengths : List ℕ) (base : ℕ) (p : WalkPlace) : Type 0 where
+pub record InTables (lengths : List ℕ) (base : ℕ) (p : WalkPoint) : Type 0 where
   pub eight : length (p .indexes) ≡ 8
   pub few : length lengths ≤ 8
   pub twice : (k : ℕ) → suc k < length lengths → getD lengths (suc k) 0 ≡ 2 * getD lengths k 0
@@ -59,21 +59,21 @@ pub record InTables (lengths : List ℕ) (base : ℕ) (p : WalkPlace) : Type 0 w
   pub within : (j : ℕ) → j < p .depth → getD (p .indexes) j 0 < getD lengths (base + j) 0
   pub last : (deepest p < getD lengths (base + p .depth) 0) ⊎ ((p .depth ≡ 0) × (deepest p ≡ getD lengths base 0))
 
--- The place after p.
-abbrev pub wentOn : Set → ℕ → WalkPlace → WalkPlace
+-- The point after p.
+abbrev pub wentOn : Set → ℕ → WalkPoint → WalkPoint
 wentOn s base p = advanced (p .depth) (s .lengths) base (p .indexes)
 
--- What the loop over the bins comes to: an entry, and the place after it; the end; or it is lost.
+-- What the loop over the bins comes to: an entry, and the point after it; the end; or it is lost.
 pub data Sought : Type 0 where
-  at : ℕ → WalkPlace → Sought
+  at : ℕ → WalkPoint → Sought
   ended lost : Sought
 
--- An entry is given with the place after its bin.
-abbrev pub taken : Set → ℕ → WalkPlace → ℕ → Sought
+-- An entry is given with the point after its bin.
+abbrev pub taken : Set → ℕ → WalkPoint → ℕ → Sought
 taken s base p x = at x (wentOn s base p)
 
--- One turn of it: the bin at the place p. A tree is walked from first, which is to be a slot.
-abbrev pub entered : Set → ℕ → WalkPlace → Bin → (WalkPlace → Sought) → Sought
+-- One turn of it: the bin at the point p. A tree is walked from first, which is to be a slot.
+abbrev pub entered : Set → ℕ → WalkPoint → Bin → (WalkPoint → Sought) → Sought
 entered s base p empty rest = rest (wentOn s base p)
 entered s base p moved rest = pick (ltb (base + p .depth + 1) (tablesOf s)) (rest (below s base p)) lost
 entered s base p bad rest = lost
@@ -81,7 +81,7 @@ entered s base p (list x) rest = taken s base p x
 entered s base p (tree h) rest = pick (ltb (firstAt s h) (slotsOf (s .names))) (taken s base p (firstAt s h)) lost
 
 -- The loop, with so many turns left.
-unfoldable pub sought : ℕ → Set → ℕ → WalkPlace → Sought
+unfoldable pub sought : ℕ → Set → ℕ → WalkPoint → Sought
 sought zero s base p = ended
 sought (suc turns) s base p =
     pick (leb (lengthAt s (base + p .depth)) (deepest p)) ended
@@ -106,8 +106,8 @@ stepped s c ended = record { answer = nothing; cursor = done s (c .base) }
 stepped s c lost = record { answer = refused 9; cursor = c }
 
 -- Where the loop starts.
-abbrev pub standing : Cursor → WalkPlace
-standing c = walkPlace (c .depth) (trimmed (c .depth) (c .indexes))
+abbrev pub standing : Cursor → WalkPoint
+standing c = walkPoint (c .depth) (trimmed (c .depth) (c .indexes))
 
 -- A step from a cursor that is not bad: "the last slot's next, if any, comes first".
 unfoldable pub stepsOn : Set → Cursor → Step

@@ -7,7 +7,7 @@ pub mod Sparing
 pub mod Judging
 pub mod Looking
 pub mod OneLookup
-pub mod Placing
+pub mod Cursors
 pub mod Walking
 pub mod Stepping
 pub mod Claims

@@ -17,7 +17,7 @@ use Rattle.index_rules.proofs.Fit.{both}
 use Rattle.set_rules.specs.Words.{Set, fits, tablesOf, lengthAt, headersIn, binsBefore, Bin, empty, moved, bad, list, tree, binOf, binAt}
 use Rattle.set_rules.specs.Accepting.{isHome, isListSlot, samePair, unlike, listSlotFine, listFine, isOwn, chainOwn, treeHome, isBlank}
 use Rattle.set_rules.specs.Accepting.{filled, namesHeader}
-use Rattle.set_rules.specs.Accepting.{treeFine, wellPlaced, ownFine, isMoved, binAsks, binFine, belowFine, tableFine}
+use Rattle.set_rules.specs.Accepting.{treeFine, mayStand, ownFine, isMoved, binAsks, binFine, belowFine, tableFine}
 use Rattle.set_rules.proofs.Fit.{fits-fit, length-bound}
 use Rattle.set_rules.proofs.Forest.{row-found}
 use Rattle.sets.specs.Room.{Room}
@@ -253,10 +253,10 @@ module _ (s : Set) where
       → b ≡ binAt s k i
   bin-read r e = rw (← r .begins) e
 
-  module _ (left k i : ℕ) (may : Bool) (v : ℕ) {b : Bin} (e : b ≡ binAt s k i) {stands : Bool} (f : stands ≡ wellPlaced b may left) where
-    pub bin-misplaced : stands ≡ false → none ≡ binFine left s k i may v
+  module _ (left k i : ℕ) (may : Bool) (v : ℕ) {b : Bin} (e : b ≡ binAt s k i) {stands : Bool} (f : stands ≡ mayStand b may left) where
+    pub bin-astray : stands ≡ false → none ≡ binFine left s k i may v
     unfolding binFine binAsks
-    bin-misplaced g = rw (← e, ← f, g)
+    bin-astray g = rw (← e, ← f, g)
 
     module _ (g : stands ≡ true) {len : ℕ} (l : len ≡ lengthAt s k) where
       pub bin-wrong : none ≡ ownFine (record { lengths = []; bins = []; heads = s .heads; names = s .names; cells = s .cells }) len i b v

@@ -3,7 +3,7 @@ use mathlib.Core.List.{List}
 use Prim.Native.Nat.{ℕ}
 use Rattle.slots.specs.Answers.{Answer, given, nothing, refused}
 use Rattle.set_rules.specs.Cursor.{Cursor, Step}
-use Rattle.set_rules.specs.Walk.{walkPlace, Sought, at, ended, lost}
+use Rattle.set_rules.specs.Walk.{walkPoint, Sought, at, ended, lost}
 use Rattle.sets.specs.declared.walk.Cursor.{Cursor as CursorCode}
 use Rattle.sets.specs.declared.walk.Sought.{Sought as SoughtCode}
 use Rattle.sets.specs.declared.walk.Sought.the-variants.{At as FoundAt, Ended, Lost as LostCode}
@@ -16,7 +16,7 @@ use Rattle.sets.specs.declared.walk.Step.{Step as StepCode}
 
 -- What the loop over the bins comes to, with the indexes that it leaves.
 abbrev pub soughtOf : SoughtCode → List ℕ → Sought
-soughtOf (FoundAt slot depth) x = at slot (walkPlace depth x)
+soughtOf (FoundAt slot depth) x = at slot (walkPoint depth x)
 soughtOf Ended x = ended
 soughtOf LostCode x = lost
 

@@ -13,13 +13,13 @@ ghost use mathlib.Core.Path.{_≡_};
 ghost use mathlib.Core.List.{[]};
 ghost use Rattle.set_rules.specs.Words.{lentSet};
 ghost use Rattle.set_rules.specs.Accepting.{ownFine, binFine, belowFine};
-ghost use Rattle.set_rules.specs.Accepting.{wellPlaced as mayStand, isMoved as opens};
+ghost use Rattle.set_rules.specs.Accepting.{mayStand, isMoved as opens};
 ghost use Rattle.tree.specs.Rules.{restOf};
 ghost use Rattle.sets.specs.Bins.{binAs};
 ghost use Rattle.sets.specs.Room.{Room};
 
 // A bin may stand where it does: it is not bad, it is empty unless it may hold something, and a Moved one has tables after its own.
-fn placed(bin: Bin, may: bool, left: u32) -> bool
+fn may_stand(bin: Bin, may: bool, left: u32) -> bool
     ensures { λ r. ⌜ r ≡ mayStand (binAs bin) may left ⌝ }
 {
     match bin {
@@ -91,7 +91,7 @@ pub(crate) fn bin_fine(
         (now (cells .entry))) k i may visits ⌝ }
 {
     let bin = bin_from(bins, names.len() / 2, heads.len() / 3, from, i);
-    let stands = placed(bin, may, left);
+    let stands = may_stand(bin, may, left);
     if !stands {
         return Rest::Wrong;
     }

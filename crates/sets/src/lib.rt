@@ -12,5 +12,5 @@ mod trees;
 // lookup: the slot that has a pair.
 pub mod lookup;
 // The walk: a cursor that start makes and next moves on.
-mod place;
+mod cursor;
 pub mod walk;

@@ -2,13 +2,13 @@
 use crate::bin::Bin;
 use crate::bin::bin_from;
 use crate::bin::header;
+use crate::cursor::advance;
+use crate::cursor::fine;
+use crate::cursor::index_at;
+use crate::cursor::set_index;
+use crate::cursor::trim;
 use crate::fit::fit_set;
 use crate::fit::length_at;
-use crate::place::advance;
-use crate::place::fine;
-use crate::place::index_at;
-use crate::place::set_index;
-use crate::place::trim;
 use slots::FIRST;
 use slots::NEXT;
 use slots::NULL;
@@ -22,18 +22,18 @@ ghost use Rattle.slots.specs.Coded.{answerOf};
 ghost use mathlib.Core.List.{[]};
 ghost use Rattle.set_rules.specs.Words.{Set, lentSet};
 ghost use Rattle.set_rules.specs.Cursor.{starts};
-ghost use Rattle.set_rules.specs.Walk.{walkPlace, InTables, turnsIn, sought, standing, stepsOn, nexts};
+ghost use Rattle.set_rules.specs.Walk.{walkPoint, InTables, turnsIn, sought, standing, stepsOn, nexts};
 ghost use Rattle.sets.specs.Cursors.{soughtOf, startedOf, givenOf, stepOf, startOf};
 ghost use Rattle.sets.specs.Cursors.{cursorOf};
 
-// What the loop over the bins comes to: an entry, and the depth of the place after it; the end; or it is lost.
+// What the loop over the bins comes to: an entry, and the depth of the point after it; the end; or it is lost.
 enum Sought {
     At(u32, u32),
     Ended,
     Lost,
 }
 
-// The source's loop over the bins, from the place at this depth with these indexes, which become those of the place after the entry.
+// The source's loop over the bins, from the point at this depth with these indexes, which become those of the point after the entry.
 fn seek(
     lengths: &[u32],
     bins: &[u32],
@@ -43,10 +43,10 @@ fn seek(
     depth: u32,
     indexes: &mut [u32; 8],
 ) -> Sought
-    requires { ⌜ InTables (now lengths) base (walkPlace depth (now indexes)) ⌝ }
+    requires { ⌜ InTables (now lengths) base (walkPoint depth (now indexes)) ⌝ }
     ensures { λ r. ⌜ soughtOf r (now (indexes .exit))
         ≡ (let s : Set = lentSet (now (lengths .entry)) (now (bins .entry)) (now (heads .entry)) (now (names .entry)) [] in sought
-        (turnsIn s base) s base (walkPlace depth (now (indexes .entry)))) ⌝ }
+        (turnsIn s base) s base (walkPoint depth (now (indexes .entry)))) ⌝ }
 {
     let n = names.len() / 2;
     let h = heads.len() / 3;

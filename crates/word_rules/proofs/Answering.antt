@@ -23,7 +23,7 @@ use Rattle.set_rules.proofs.Gates.{lookups-claims}
 use Rattle.set_rules.proofs.Naming.{ranges}
 use Rattle.set_rules.specs.Lookup.{listLook, soughtInList, homeBin, asked, forwarded, lookups}
 use Rattle.set_rules.specs.Cursor.{Cursor, Step, fineCursor}
-use Rattle.set_rules.specs.Walk.{WalkPlace, deepest, binHere, Sought, entered, sought, turnsIn, stepped, standing, stepsOn, nexts}
+use Rattle.set_rules.specs.Walk.{WalkPoint, deepest, binHere, Sought, entered, sought, turnsIn, stepped, standing, stepsOn, nexts}
 use Rattle.word_rules.specs.Words.{searchWord}
 use Rattle.word_rules.specs.Told as T
 use Rattle.word_rules.specs.Told.{Valued, gives, LooksTold}
@@ -122,14 +122,14 @@ module _ (s : Set) (c : Cursor) where
   abbrev Gives : Sought → Type 0
   Gives g = Plain (slotsOf (s .names)) (stepped s c g .answer)
 
-  sought-plain : (turns base : ℕ) (p : WalkPlace) → Gives (sought turns s base p)
+  sought-plain : (turns base : ℕ) (p : WalkPoint) → Gives (sought turns s base p)
   unfolding sought
   sought-plain zero base p = none
   sought-plain (suc turns) base p =
       picked Gives (leb (lengthAt s (base + p .depth)) (deepest p)) (λ e. none)
       (λ e. go (binHere s base p) refl (λ q. sought-plain turns base q))
     where
-      go : (b : Bin) → binHere s base p ≡ b → ((q : WalkPlace) → Gives (sought turns s base q))
+      go : (b : Bin) → binHere s base p ≡ b → ((q : WalkPoint) → Gives (sought turns s base q))
           → Gives (entered s base p b (λ q. sought turns s base q))
       go empty e again = again _
       go moved e again = picked Gives (ltb (base + p .depth + 1) (tablesOf s)) (λ f. again _) (λ f. nine)

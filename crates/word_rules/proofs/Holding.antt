@@ -17,7 +17,7 @@ use Rattle.tree_rules.specs.Find.{slotsOf}
 use Rattle.set_rules.specs.Words.{Set, Fit, tablesOf, lengthAt, firstAt, Bin, empty, moved, bad, list, tree, fits}
 use Rattle.set_rules.specs.Accepted.{Accepted}
 use Rattle.set_rules.specs.Cursor.{Cursor, Step, starts, fineCursor}
-use Rattle.set_rules.specs.Walk.{WalkPlace, deepest, binHere, further, advanced, Sought, entered, sought, turnsIn, stepped, standing}
+use Rattle.set_rules.specs.Walk.{WalkPoint, deepest, binHere, further, advanced, Sought, entered, sought, turnsIn, stepped, standing}
 use Rattle.set_rules.specs.Walk.{stepsOn, nexts}
 use Rattle.set_rules.specs.Whole.{Listing}
 use Rattle.set_rules.proofs.Claims.{claims}
@@ -96,7 +96,7 @@ advanced-long : (d : ℕ) (lengths : List ℕ) (base : ℕ) (x : List ℕ) → l
 unfolding advanced
 advanced-long zero lengths base x = length-set x 0 (getD x 0 0 + 1)
 advanced-long (suc d) lengths base x =
-    picked (λ (p : WalkPlace). length (p .indexes) ≡ length x) (ltb (further lengths base d x) (getD lengths (base + suc d) 0))
+    picked (λ (p : WalkPoint). length (p .indexes) ≡ length x) (ltb (further lengths base d x) (getD lengths (base + suc d) 0))
     (λ e. length-set x (suc d) (further lengths base d x))
     (λ e. advanced-long d lengths base (set x (suc d) 0) ∙ length-set x (suc d) 0)
 
@@ -104,7 +104,7 @@ module _ (s : Set) (c : Cursor) (eight : length (c .indexes) ≡ 8) where
   abbrev KeepsEight : Sought → Type 0
   KeepsEight g = length (stepped s c g .cursor .indexes) ≡ 8
 
-  sought-keeps : (turns base : ℕ) (p : WalkPlace) → length (p .indexes) ≡ 8 → KeepsEight (sought turns s base p)
+  sought-keeps : (turns base : ℕ) (p : WalkPoint) → length (p .indexes) ≡ 8 → KeepsEight (sought turns s base p)
   unfolding sought
   sought-keeps zero base p h = refl
   sought-keeps (suc turns) base p h =
@@ -114,7 +114,7 @@ module _ (s : Set) (c : Cursor) (eight : length (c .indexes) ≡ 8) where
       on : length (advanced (p .depth) (s .lengths) base (p .indexes) .indexes) ≡ 8
       on = advanced-long (p .depth) (s .lengths) base (p .indexes) ∙ h
 
-      go : (b : Bin) → ((q : WalkPlace) → length (q .indexes) ≡ 8 → KeepsEight (sought turns s base q))
+      go : (b : Bin) → ((q : WalkPoint) → length (q .indexes) ≡ 8 → KeepsEight (sought turns s base q))
           → KeepsEight (entered s base p b (λ q. sought turns s base q))
       go empty again = again _ on
       go moved again =

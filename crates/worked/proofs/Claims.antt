@@ -36,7 +36,7 @@ use Rattle.index_rules.specs.Present.{wherePresent}
 use Rattle.index_rules.specs.Remove.{unchained, wiped, shrunk, removalOf, afterRemove, removes}
 use Rattle.set_rules.specs.Words.{binsBefore, doubling, doubled, fitTables, binOf, bini}
 use Rattle.set_rules.specs.Words.{fits as setFits}
-use Rattle.set_rules.specs.Accepting.{isHome, isListSlot, samePair, unlike, listSlotFine, listFine, wellPlaced as mayStand, ownFine}
+use Rattle.set_rules.specs.Accepting.{isHome, isListSlot, samePair, unlike, listSlotFine, listFine, mayStand, ownFine}
 use Rattle.set_rules.specs.Accepting.{binAsks, belowFine, binFine, tableFine, isBlank, headersFine, allHeld, accepted, accepts}
 use Rattle.set_rules.specs.Cursor.{starts, levelFine, levelsFine, baseFine, fine}
 use Rattle.set_rules.specs.Walk.{kept, advanced, sought, under, stepsOn, nexts}

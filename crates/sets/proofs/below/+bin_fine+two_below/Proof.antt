@@ -6,7 +6,7 @@ use borrow.Author.Needs.{needs}
 use borrow.Author.Tests.{not-false, not-true}
 use Rattle.tree.specs.Rules.{restOf}
 use Rattle.set_rules.specs.Words.{Set}
-use Rattle.sets.proofs.Steps.{room-from, room-near, room-far, bin-read, bin-misplaced, bin-wrong, bin-on}
+use Rattle.sets.proofs.Steps.{room-from, room-near, room-far, bin-read, bin-astray, bin-wrong, bin-on}
 use Rattle.sets.proofs.Steps.{below-none, below-wrong, below-both}
 use Prim.Native.Nat.{ℕ, _<_, _+_, _*_}
 use borrow.Fn.Kinds.{In}
@@ -20,7 +20,7 @@ use Rattle.sets.proofs.below.+bin_fine+two_below.Lts-two_below as two-b
 use Rattle.sets.proofs.bin.bin_from.Reads as bin-from-reads
 use Rattle.sets.proofs.below.is_moved.Reads as is-moved-reads
 use Rattle.sets.proofs.below.own_fine.Reads as own-fine-reads
-use Rattle.sets.proofs.below.placed.Reads as placed-reads
+use Rattle.sets.proofs.below.may_stand.Reads as may-stand-reads
 use Rattle.sets.proofs.fit.length_at.Reads as length-at-reads
 use Rattle.sets.proofs.below.+bin_fine+two_below.{statement}
 use Rattle.sets.proofs.below.+bin_fine+two_below.Tie.{close}
@@ -49,8 +49,8 @@ abbrev bin-fine-calls : ℕ → bin-fine-lts.Claims
 bin-fine-calls t = (
   bin-from-reads.Asked,
   bin-from-reads.Learnt,
-  placed-reads.Asked,
-  placed-reads.Learnt,
+  may-stand-reads.Asked,
+  may-stand-reads.Learnt,
   length-at-reads.Asked,
   length-at-reads.Learnt,
   own-fine-reads.Asked,
@@ -74,9 +74,9 @@ bin-fine-returns t c =
       names = now (c3 .args .names);
       cells = now (c3 .args .cells);
     } in
-    bin-misplaced s (c3 .args .left) (c3 .args .k) (c3 .args .i) (c3 .args .may) (c3 .args .visits)
-    (bin-read s (c3 .pre .1) (c2 .bin-from .ensures)) (c1 .placed .ensures)
-    (not-true (c1 .placed .result) (c .if1 .taken))
+    bin-astray s (c3 .args .left) (c3 .args .k) (c3 .args .i) (c3 .args .may) (c3 .args .visits)
+    (bin-read s (c3 .pre .1) (c2 .bin-from .ensures)) (c1 .may-stand .ensures)
+    (not-true (c1 .may-stand .result) (c .if1 .taken))
 
 bin-fine-returns-2 : (t : ℕ) → bin-fine-lts.Need-returns-2 (bin-fine-calls t) (bin-fine-at t) bin-fine.Post
 bin-fine-returns-2 t c =
@@ -96,8 +96,8 @@ bin-fine-returns-2 t c =
       cells = now (c7 .args .cells);
     } in
     bin-wrong s (c7 .args .left) (c7 .args .k) (c7 .args .i) (c7 .args .may) (c7 .args .visits)
-    (bin-read s (c7 .pre .1) (c6 .bin-from .ensures)) (c5 .placed .ensures)
-    (not-false (c5 .placed .result) (c4 .if1 .left)) (c3 .length-at .ensures)
+    (bin-read s (c7 .pre .1) (c6 .bin-from .ensures)) (c5 .may-stand .ensures)
+    (not-false (c5 .may-stand .result) (c4 .if1 .left)) (c3 .length-at .ensures)
     (sym (ap restOf (c .enum-told .given .1)) ∙ c2 .own-fine .ensures)
 
 bin-fine-two-below-requires : (t : ℕ) → bin-fine-lts.Need-two-below-requires (bin-fine-calls t) (bin-fine-at t) bin-fine.Post
@@ -134,8 +134,8 @@ bin-fine-returns-3 t c =
       cells = now (c10 .args .cells);
     } in
     bin-on s (c10 .args .left) (c10 .args .k) (c10 .args .i) (c10 .args .may) (c10 .args .visits)
-    (bin-read s (c10 .pre .1) (c9 .bin-from .ensures)) (c8 .placed .ensures)
-    (not-false (c8 .placed .result) (c7 .if1 .left)) (c6 .length-at .ensures) (sym (ap restOf (c3 .own .given .1)) ∙ c5 .own-fine .ensures)
+    (bin-read s (c10 .pre .1) (c9 .bin-from .ensures)) (c8 .may-stand .ensures)
+    (not-false (c8 .may-stand .result) (c7 .if1 .left)) (c6 .length-at .ensures) (sym (ap restOf (c3 .own .given .1)) ∙ c5 .own-fine .ensures)
     (c1 .is-moved .ensures) (c .two-below .ensures)
 
 abbrev two-below-calls : ℕ → two-below-lts.Claims

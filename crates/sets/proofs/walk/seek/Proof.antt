@@ -10,7 +10,7 @@ use native.Mathlib.Omega.{arith}
 use lib.ListN.{length}
 use Rattle.set_rules.specs.Words.{Set}
 use Rattle.sets.specs.Bins.{binAs}
-use Rattle.set_rules.specs.Walk.{walkPlace}
+use Rattle.set_rules.specs.Walk.{walkPoint}
 use Rattle.set_rules.proofs.Turns.{left}
 use Rattle.sets.proofs.Walking.{Going, stops, not-shorter, base-more, passes, passes-less, descends, descends-less, no-table}
 use Rattle.sets.proofs.Walking.{bad-word, from-list, from-tree, no-first}
@@ -20,7 +20,7 @@ use Rattle.sets.proofs.walk.seek.Tie as tie
 abbrev Inv-loop : tie.InvT-loop
 Inv-loop lengths bins heads names base depth indexes₀ n h first d₀ indexes d =
     let s : Set = record { lengths = lengths; bins = bins; heads = heads; names = names; cells = [] } in
-    Going s base (walkPlace depth indexes₀) (walkPlace d indexes) × (n ≡ length names / 2) × (h ≡ length heads / 3)
+    Going s base (walkPoint depth indexes₀) (walkPoint d indexes) × (n ≡ length names / 2) × (h ≡ length heads / 3)
 
 abbrev μ-loop : tie.MeasureT-loop
 μ-loop lengths bins heads names base depth indexes₀ n h first d₀ indexes d = left lengths base d indexes
@@ -45,7 +45,7 @@ sub-from c =
     let at-loop = at-index .before .before in
     let a = at-loop .before .before .before .before .before .before .args in
     let s : Set = record { lengths = now (a .lengths); bins = now (a .bins); heads = now (a .heads); names = now (a .names); cells = [] } in
-    not-shorter s (a .base) (at-loop .loop .d) (at-loop .loop .indexes) (walkPlace (a .depth) (now (a .indexes))) (at-loop .loop .inv .0)
+    not-shorter s (a .base) (at-loop .loop .d) (at-loop .loop .indexes) (walkPoint (a .depth) (now (a .indexes))) (at-loop .loop .inv .0)
     (at-index .index-at .ensures) (at-length .length-at2 .ensures) (at-loop .before .length-at .ensures)
 
 advance-requires : tie.Need-advance-requires Inv-loop μ-loop
@@ -61,7 +61,7 @@ advance-requires c κs =
     let s : Set = record { lengths = now (a .lengths); bins = now (a .bins); heads = now (a .heads); names = now (a .names); cells = [] } in
     let g = at-loop .loop .inv .0 .good in
     let more =
-    base-more s (a .base) (at-loop .loop .d) (at-loop .loop .indexes) (walkPlace (a .depth) (now (a .indexes))) (at-loop .loop .inv .0)
+    base-more s (a .base) (at-loop .loop .d) (at-loop .loop .indexes) (walkPoint (a .depth) (now (a .indexes))) (at-loop .loop .inv .0)
     (at-index .index-at .ensures) (at-length .length-at2 .ensures) (at-here .if1 .left)
     (at-loop .before .length-at .ensures) (at-bin .bin-from .ensures) in
     let most = at-loop .before .before .before .before .before .shared-slice-known .given (a .base) in
@@ -83,7 +83,7 @@ loop-less c =
     (a .base)
     (at-loop .loop .d)
     (at-loop .loop .indexes)
-    (walkPlace (a .depth) (now (a .indexes)))
+    (walkPoint (a .depth) (now (a .indexes)))
     (at-loop .loop .inv .0)
     (at-index .index-at .ensures)
     (at-length .length-at2 .ensures)
@@ -109,7 +109,7 @@ loop-again c =
           (a .base)
           (at-loop .loop .d)
           (at-loop .loop .indexes)
-          (walkPlace (a .depth) (now (a .indexes)))
+          (walkPoint (a .depth) (now (a .indexes)))
           (at-loop .loop .inv .0)
           (at-index .index-at .ensures)
           (at-length .length-at2 .ensures)
@@ -139,7 +139,7 @@ loop-less-2 c =
     (a .base)
     (at-loop .loop .d)
     (at-loop .loop .indexes)
-    (walkPlace (a .depth) (now (a .indexes)))
+    (walkPoint (a .depth) (now (a .indexes)))
     (at-loop .loop .inv .0)
     (at-index .index-at .ensures)
     (at-length .length-at2 .ensures)
@@ -167,7 +167,7 @@ loop-again-2 c =
           (a .base)
           (at-loop .loop .d)
           (at-loop .loop .indexes)
-          (walkPlace (a .depth) (now (a .indexes)))
+          (walkPoint (a .depth) (now (a .indexes)))
           (at-loop .loop .inv .0)
           (at-index .index-at .ensures)
           (at-length .length-at2 .ensures)
@@ -195,7 +195,7 @@ advance-requires-2 c κs =
     let s : Set = record { lengths = now (a .lengths); bins = now (a .bins); heads = now (a .heads); names = now (a .names); cells = [] } in
     let g = at-loop .loop .inv .0 .good in
     let more =
-    base-more s (a .base) (at-loop .loop .d) (at-loop .loop .indexes) (walkPlace (a .depth) (now (a .indexes))) (at-loop .loop .inv .0)
+    base-more s (a .base) (at-loop .loop .d) (at-loop .loop .indexes) (walkPoint (a .depth) (now (a .indexes))) (at-loop .loop .inv .0)
     (at-index .index-at .ensures) (at-length .length-at2 .ensures) (at-here .if1 .left)
     (at-loop .before .length-at .ensures) (at-bin .bin-from .ensures) in
     let most = at-loop .before .before .before .before .before .shared-slice-known .given (a .base) in
@@ -217,7 +217,7 @@ advance-requires-3 c κs =
     let s : Set = record { lengths = now (a .lengths); bins = now (a .bins); heads = now (a .heads); names = now (a .names); cells = [] } in
     let g = at-loop .loop .inv .0 .good in
     let more =
-    base-more s (a .base) (at-loop .loop .d) (at-loop .loop .indexes) (walkPlace (a .depth) (now (a .indexes))) (at-loop .loop .inv .0)
+    base-more s (a .base) (at-loop .loop .d) (at-loop .loop .indexes) (walkPoint (a .depth) (now (a .indexes))) (at-loop .loop .inv .0)
     (at-index .index-at .ensures) (at-length .length-at2 .ensures) (at-here .if1 .left)
     (at-loop .before .length-at .ensures) (at-bin .bin-from .ensures) in
     let most = at-loop .before .before .before .before .before .shared-slice-known .given (a .base) in
@@ -235,7 +235,7 @@ returns c =
     (a .base)
     (at-loop .loop .d)
     (at-loop .loop .indexes)
-    (walkPlace (a .depth) (now (a .indexes)))
+    (walkPoint (a .depth) (now (a .indexes)))
     (at-loop .loop .inv .0)
     (at-index .index-at .ensures)
     (at-length .length-at2 .ensures)
@@ -257,7 +257,7 @@ returns-2 c =
     (a .base)
     (at-loop .loop .d)
     (at-loop .loop .indexes)
-    (walkPlace (a .depth) (now (a .indexes)))
+    (walkPoint (a .depth) (now (a .indexes)))
     (at-loop .loop .inv .0)
     (at-index .index-at .ensures)
     (at-length .length-at2 .ensures)
@@ -284,7 +284,7 @@ returns-3 c =
     (a .base)
     (at-loop .loop .d)
     (at-loop .loop .indexes)
-    (walkPlace (a .depth) (now (a .indexes)))
+    (walkPoint (a .depth) (now (a .indexes)))
     (at-loop .loop .inv .0)
     (at-index .index-at .ensures)
     (at-length .length-at2 .ensures)
@@ -312,7 +312,7 @@ returns-4 c =
     (a .base)
     (at-loop .loop .d)
     (at-loop .loop .indexes)
-    (walkPlace (a .depth) (now (a .indexes)))
+    (walkPoint (a .depth) (now (a .indexes)))
     (at-loop .loop .inv .0)
     (at-index .index-at .ensures)
     (at-length .length-at2 .ensures)
@@ -342,7 +342,7 @@ returns-5 c =
     (a .base)
     (at-loop .loop .d)
     (at-loop .loop .indexes)
-    (walkPlace (a .depth) (now (a .indexes)))
+    (walkPoint (a .depth) (now (a .indexes)))
     (at-loop .loop .inv .0)
     (at-index .index-at .ensures)
     (at-length .length-at2 .ensures)
@@ -369,7 +369,7 @@ returns-6 c =
     (a .base)
     (at-loop .loop .d)
     (at-loop .loop .indexes)
-    (walkPlace (a .depth) (now (a .indexes)))
+    (walkPoint (a .depth) (now (a .indexes)))
     (at-loop .loop .inv .0)
     (at-index .index-at .ensures)
     (at-length .length-at2 .ensures)

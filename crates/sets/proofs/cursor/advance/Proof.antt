@@ -1,4 +1,4 @@
--- The loop's invariant: the place after this one is that after the first, and the base index is the first's.
+-- The loop's invariant: the point after this one is that after the first, and the base index is the first's.
 use borrow.Author.Needs.{needs}
 use mathlib.Core.Path.{_≡_}
 use denote.Ref.{now}
@@ -6,9 +6,9 @@ use Prim.Native.Nat.{_+_, _≤_, _<_, _^_}
 use native.Mathlib.Omega.{arith}
 use lib.ListN.{getD}
 use Rattle.set_rules.specs.Walk.{advanced}
-use Rattle.sets.proofs.Placing.{advanced-none, advanced-plus, advanced-up, base-stays}
-use Rattle.sets.proofs.place.advance.Statement.{statement}
-use Rattle.sets.proofs.place.advance.Tie as tie
+use Rattle.sets.proofs.Cursors.{advanced-none, advanced-plus, advanced-up, base-stays}
+use Rattle.sets.proofs.cursor.advance.Statement.{statement}
+use Rattle.sets.proofs.cursor.advance.Tie as tie
 
 abbrev Inv-loop : tie.InvT-loop
 Inv-loop lengths base depth indexes₀ d₀ indexes d =

@@ -10,8 +10,8 @@ use Rattle.slots.specs.Words.{_and_}
 use Rattle.slots.proofs.Laws.{and-next, and-held}
 use Rattle.tree_rules.specs.Check.{inRange}
 use Rattle.set_rules.specs.Cursor.{baseFine, fine}
-use Rattle.sets.proofs.place.fine.Statement.{statement}
-use Rattle.sets.proofs.place.fine.Tie as tie
+use Rattle.sets.proofs.cursor.fine.Statement.{statement}
+use Rattle.sets.proofs.cursor.fine.Tie as tie
 
 levels-fine-requires : tie.Need-levels-fine-requires
 levels-fine-requires c κs =

@@ -11,7 +11,7 @@ use lib.Dec.{ltb}
 use borrow.Author.Tests.{lt-ltb, le-ltb}
 use Rattle.slots.specs.Words.{pick}
 use Rattle.set_rules.specs.Cursor.{levelFine, levelsFine}
-use Rattle.set_rules.specs.Walk.{WalkPlace, walkPlace, advanced}
+use Rattle.set_rules.specs.Walk.{WalkPoint, walkPoint, advanced}
 
 -- One level.
 pub levels-none : (d : ℕ) (lengths : List ℕ) (base : ℕ) (x : List ℕ) → d ≤ 0 → true ≡ levelsFine d lengths base x
@@ -45,10 +45,10 @@ module _ (lengths : List ℕ) (base : ℕ) (x : List ℕ) (d : ℕ) {r : Bool} (
     pub level-right : t ≡ true → levelsFine (d - 1) lengths base x ≡ r
     level-right w = rw w at turn
 
--- The places after one.
+-- The points after one.
 module _ (lengths : List ℕ) (base : ℕ) (x : List ℕ) where
-  pub advanced-none : (d : ℕ) {p : WalkPlace} → advanced d lengths base x ≡ p → d ≤ 0 → {first : ℕ} → first ≡ getD x 0 0 → {y : List ℕ}
-      → y ≡ set x 0 (first + 1) → walkPlace 0 y ≡ p
+  pub advanced-none : (d : ℕ) {p : WalkPoint} → advanced d lengths base x ≡ p → d ≤ 0 → {first : ℕ} → first ≡ getD x 0 0 → {y : List ℕ}
+      → y ≡ set x 0 (first + 1) → walkPoint 0 y ≡ p
   unfolding advanced
   advanced-none zero i h e f = rw (f, e) i
   advanced-none (suc d) i h e f = absurd (omega arith)
@@ -56,21 +56,21 @@ module _ (lengths : List ℕ) (base : ℕ) (x : List ℕ) where
   advanced-some : (d : ℕ) → 0 < d
       → advanced d lengths base x
       ≡ pick (ltb (getD x d 0 + getD lengths (base + (d - 1)) 0) (getD lengths (base + d) 0))
-      (walkPlace d (set x d (getD x d 0 + getD lengths (base + (d - 1)) 0)))
+      (walkPoint d (set x d (getD x d 0 + getD lengths (base + (d - 1)) 0)))
       (advanced (d - 1) lengths base (set x d 0))
   unfolding advanced
   advanced-some zero h = absurd (omega arith)
   advanced-some (suc d) h = rw sub-one
 
-  module _ (d : ℕ) {p : WalkPlace} (inv : advanced d lengths base x ≡ p) (more : 0 < d) {lower upper i : ℕ}
+  module _ (d : ℕ) {p : WalkPoint} (inv : advanced d lengths base x ≡ p) (more : 0 < d) {lower upper i : ℕ}
       (a : lower ≡ getD lengths (base + d) 0)
       (b : upper ≡ getD lengths (base + (d - 1)) 0)
       (c : i ≡ getD x d 0)
     where
-      turned : pick (ltb (i + upper) lower) (walkPlace d (set x d (i + upper))) (advanced (d - 1) lengths base (set x d 0)) ≡ p
+      turned : pick (ltb (i + upper) lower) (walkPoint d (set x d (i + upper))) (advanced (d - 1) lengths base (set x d 0)) ≡ p
       turned = rw (a, b, c) (sym (advanced-some d more) ∙ inv)
 
-      pub advanced-plus : i + upper < lower → {y : List ℕ} → y ≡ set x d (i + upper) → walkPlace d y ≡ p
+      pub advanced-plus : i + upper < lower → {y : List ℕ} → y ≡ set x d (i + upper) → walkPoint d y ≡ p
       advanced-plus l e = rw e (rw (lt-ltb _ _ l) at turned)
 
       pub advanced-up : lower ≤ i + upper → {y : List ℕ} → y ≡ set x d 0 → advanced (d - 1) lengths base y ≡ p

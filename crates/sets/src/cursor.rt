@@ -1,4 +1,4 @@
-// Where a walk stands: whether a cursor's numbers are fine, and which place comes after one.
+// Where a walk stands: whether a cursor's numbers are fine, and which point comes after one.
 use crate::fit::length_at;
 use tree::check::in_range;
 ghost use mathlib.Core.Path.{_≡_};
@@ -6,7 +6,7 @@ ghost use Prim.Native.Nat.{_+_, _-_, _<_, _≤_, _^_};
 ghost use lib.ListN.{length, getD, set};
 ghost use Rattle.set_rules.specs.Cursor.{levelFine, levelsFine, baseFine};
 ghost use Rattle.set_rules.specs.Cursor.{fine as allFine};
-ghost use Rattle.set_rules.specs.Walk.{walkPlace, kept, trimmed, advanced};
+ghost use Rattle.set_rules.specs.Walk.{walkPoint, kept, trimmed, advanced};
 
 // The index at level j.
 pub(crate) fn index_at(indexes: &[u32; 8], j: u32) -> u32
@@ -108,7 +108,7 @@ pub(crate) fn trim(indexes: &[u32; 8], depth: u32) -> [u32; 8]
 // The source's recover_state: that index plus the upper length, while below the lower length; then up. It gives the depth.
 pub(crate) fn advance(lengths: &[u32], base: u32, depth: u32, indexes: &mut [u32; 8]) -> u32
     requires { ⌜ (depth < 8) × (base + depth < 2 ^ 32) × (getD (now indexes) 0 0 + 1 < 2 ^ 32) ⌝ }
-    ensures { λ r. ⌜ walkPlace r (now (indexes .exit)) ≡ advanced depth (now (lengths .entry)) base (now (indexes .entry)) ⌝ }
+    ensures { λ r. ⌜ walkPoint r (now (indexes .exit)) ≡ advanced depth (now (lengths .entry)) base (now (indexes .entry)) ⌝ }
 {
     let mut d = depth;
     while 0 < d {

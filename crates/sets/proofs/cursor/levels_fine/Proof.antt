@@ -5,9 +5,9 @@ use denote.Ref.{now}
 use Prim.Native.Nat.{_≤_}
 use borrow.Author.Tests.{not-true, not-false}
 use Rattle.set_rules.specs.Cursor.{levelsFine}
-use Rattle.sets.proofs.Placing.{levels-none, level-wrong, level-right}
-use Rattle.sets.proofs.place.levels_fine.Statement.{statement}
-use Rattle.sets.proofs.place.levels_fine.Tie as tie
+use Rattle.sets.proofs.Cursors.{levels-none, level-wrong, level-right}
+use Rattle.sets.proofs.cursor.levels_fine.Statement.{statement}
+use Rattle.sets.proofs.cursor.levels_fine.Tie as tie
 
 abbrev Inv-loop : tie.InvT-loop
 Inv-loop lengths base depth indexes d₀ d = (levelsFine d lengths base indexes ≡ levelsFine depth lengths base indexes) × (d ≤ depth)

@@ -10,7 +10,7 @@ use lib.Seq.{getD-set-same, getD-set-other, set-out}
 use Rattle.slots.specs.Words.{null}
 use Rattle.tree_rules.specs.Find.{slotsOf}
 use Rattle.set_rules.specs.Words.{Set, Fit, tablesOf, headersIn, binsBefore, binOf, binAt}
-use Rattle.set_rules.specs.Accepted.{BinPlace}
+use Rattle.set_rules.specs.Accepted.{BinThere}
 use Rattle.move_rules.specs.Moving.{placeOf, headedAt, rewritten}
 
 -- The bins of a later table come after those of an earlier.
@@ -24,7 +24,7 @@ later l (suc t) k b = go (ℕ-discrete k t) (λ d. later l t k (omega arith))
     go (no d) rest = omega (arith, rest d)
 
 module _ (s : Set) where
-  pub place-only : {k i l j : ℕ} → BinPlace s k i → BinPlace s l j → placeOf s k i ≡ placeOf s l j → (k ≡ l) × (i ≡ j)
+  pub place-only : {k i l j : ℕ} → BinThere s k i → BinThere s l j → placeOf s k i ≡ placeOf s l j → (k ≡ l) × (i ≡ j)
   place-only {k} {i} {l} {j} p q e = go (ℕ-discrete k l) (decLe k l)
     where
       go : Dec (k ≡ l) → Dec (k ≤ l) → (k ≡ l) × (i ≡ j)
@@ -32,7 +32,7 @@ module _ (s : Set) where
       go (no z) (yes c) = absurd (omega (arith, p .index, later (s .lengths) l k (omega arith)))
       go (no z) (no c) = absurd (omega (arith, q .index, later (s .lengths) k l (omega arith)))
 
-  pub place-inside : Fit s → {k i : ℕ} → BinPlace s k i → placeOf s k i < length (s .bins)
+  pub place-inside : Fit s → {k i : ℕ} → BinThere s k i → placeOf s k i < length (s .bins)
   place-inside fit {k} {i} p = omega (arith, p .index, fit .all, later (s .lengths) (tablesOf s) k (p .table))
 
 -- The header that was written, and the others.
@@ -101,7 +101,7 @@ module _ {s : Set} (fit : Fit s) where
       }
 
   -- The word of bin i of table k is written, and no other bin's.
-  module _ {k i : ℕ} (p : BinPlace s k i) (w : ℕ) (heads cells : List ℕ) (long : length heads ≡ length (s .heads)) where
+  module _ {k i : ℕ} (p : BinThere s k i) (w : ℕ) (heads cells : List ℕ) (long : length heads ≡ length (s .heads)) where
     abbrev t : Set
     t = rewritten s (set (s .bins) (placeOf s k i) w) heads cells
 
@@ -111,5 +111,5 @@ module _ {s : Set} (fit : Fit s) where
     pub written-here : binAt t k i ≡ binOf (slotsOf (s .names)) (headersIn s) w
     written-here = rw (written-range, getD-set-same (s .bins) (placeOf s k i) w 0 (place-inside s fit p))
 
-    pub written-else : (m j : ℕ) → BinPlace s m j → ((m ≡ k) × (j ≡ i) → ⊥) → binAt t m j ≡ binAt s m j
+    pub written-else : (m j : ℕ) → BinThere s m j → ((m ≡ k) × (j ≡ i) → ⊥) → binAt t m j ≡ binAt s m j
     written-else m j q d = rw (written-range, getD-set-other (s .bins) (placeOf s k i) (placeOf s m j) w 0 (λ e. d (place-only s q p e)))

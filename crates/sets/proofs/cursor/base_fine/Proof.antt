@@ -1,8 +1,8 @@
 -- Each way out closes by the tests that led there.
 use borrow.Author.Tests.{eq-eqb, ne-eqb, lt-ltb, le-ltb}
 use Rattle.set_rules.specs.Cursor.{baseFine}
-use Rattle.sets.proofs.place.base_fine.Statement.{statement}
-use Rattle.sets.proofs.place.base_fine.Tie as tie
+use Rattle.sets.proofs.cursor.base_fine.Statement.{statement}
+use Rattle.sets.proofs.cursor.base_fine.Tie as tie
 
 returns : tie.Need-returns
 unfolding baseFine

@@ -1,7 +1,7 @@
 -- The eight reads are those of the model.
 use borrow.Author.Needs.{needs}
-use Rattle.sets.proofs.place.trim.Statement.{statement}
-use Rattle.sets.proofs.place.trim.Tie as tie
+use Rattle.sets.proofs.cursor.trim.Statement.{statement}
+use Rattle.sets.proofs.cursor.trim.Tie as tie
 
 returns : tie.Need-returns
 returns c =

@@ -2,8 +2,8 @@
 use borrow.Author.Tests.{le-leb, lt-leb}
 use Rattle.set_rules.specs.Walk.{kept}
 use borrow.Author.Needs.{needs}
-use Rattle.sets.proofs.place.keep.Statement.{statement}
-use Rattle.sets.proofs.place.keep.Tie as tie
+use Rattle.sets.proofs.cursor.keep.Statement.{statement}
+use Rattle.sets.proofs.cursor.keep.Tie as tie
 
 returns : tie.Need-returns
 unfolding kept

@@ -2,8 +2,8 @@
 use borrow.Author.Tests.{eq-eqb, ne-eqb, lt-ltb, le-ltb}
 use Rattle.set_rules.specs.Cursor.{levelFine}
 use borrow.Author.Needs.{needs}
-use Rattle.sets.proofs.place.level_fine.Statement.{statement}
-use Rattle.sets.proofs.place.level_fine.Tie as tie
+use Rattle.sets.proofs.cursor.level_fine.Statement.{statement}
+use Rattle.sets.proofs.cursor.level_fine.Tie as tie
 
 returns : tie.Need-returns
 unfolding levelFine
