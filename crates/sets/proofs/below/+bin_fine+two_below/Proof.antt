@@ -135,7 +135,8 @@ bin-fine-returns-3 t c =
     } in
     bin-on s (c10 .args .left) (c10 .args .k) (c10 .args .i) (c10 .args .may) (c10 .args .visits)
     (bin-read s (c10 .pre .1) (c9 .bin-from .ensures)) (c8 .may-stand .ensures)
-    (not-false (c8 .may-stand .result) (c7 .if1 .left)) (c6 .length-at .ensures) (sym (ap restOf (c3 .own .given .1)) ∙ c5 .own-fine .ensures)
+    (not-false (c8 .may-stand .result) (c7 .if1 .left)) (c6 .length-at .ensures)
+    (sym (ap restOf (c3 .own .given .1)) ∙ c5 .own-fine .ensures)
     (c1 .is-moved .ensures) (c .two-below .ensures)
 
 abbrev two-below-calls : ℕ → two-below-lts.Claims
