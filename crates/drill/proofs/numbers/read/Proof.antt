@@ -3,8 +3,8 @@ use mathlib.Core.Path.{_≡_}
 use Prim.Native.Nat.{_≤_, _-_}
 use lib.ListN.{length}
 use borrow.Author.Needs.{needs}
-use Rattle.drill.proofs.calls.read.Statement.{statement}
-use Rattle.drill.proofs.calls.read.Tie as tie
+use Rattle.drill.proofs.numbers.read.Statement.{statement}
+use Rattle.drill.proofs.numbers.read.Tie as tie
 
 abbrev Inv-loop : tie.InvT-loop
 Inv-loop text words₀ count₀ value₀ at₀ words count value at =
