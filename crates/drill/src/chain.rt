@@ -1,5 +1,4 @@
 // The chain of a tree, changed behind the journal's back.
-use crate::steps::is_sound;
 use slots::NEXT;
 use slots::NULL;
 use slots::PREV;
@@ -49,9 +48,4 @@ pub fn before_another(cells: &[u32], head: &[u32], x: u32) -> u32 {
         return first;
     }
     NULL
-}
-
-// Whether two slots that have changed places leave a sound tree: x is the one of them that was before the other.
-pub fn is_planted(names: &[u64], cells: &[u32], head: &[u32], sizes: &[u32], x: u32) -> bool {
-    x != NULL && is_sound(names, cells, head, sizes)
 }

@@ -1,6 +1,4 @@
-// What two trees hold, or two indexes, compared.
-use crate::steps::all;
-use crate::steps::is_sound;
+// What two trees hold, compared.
 use index::find::Found;
 use index::find::find;
 use slots::FREE;
@@ -12,7 +10,6 @@ use slots::PLACE;
 use slots::STATE;
 use slots::get;
 use slots::name;
-use trials::same::same_names;
 
 // Whether slot i is free, or its pair has the same place in the other tree.
 fn is_held(
@@ -35,7 +32,7 @@ fn is_held(
 }
 
 // Whether two sound trees of n slots have the same entries: the other has each entry of the one, and their counts are the same.
-fn same_entries(
+pub fn same_entries(
     n: u32,
     names: &[u64],
     cells: &[u32],
@@ -69,7 +66,7 @@ fn same_entry(
 }
 
 // Whether two sound trees of n slots have the same listing: the same entries in the same order, from first by next.
-fn same_listing(
+pub fn same_listing(
     n: u32,
     names: &[u64],
     cells: &[u32],
@@ -93,27 +90,4 @@ fn same_listing(
         i += 1;
     }
     x == y
-}
-
-// Whether two indexes of n slots are the same: both sound, with the same pairs and places, in the same order along the chain, and with the
-// same words of the journal.
-pub fn same_contents(
-    n: u32,
-    names: &[u64],
-    cells: &[u32],
-    head: &[u32],
-    sizes: &[u32],
-    lines: &[u64],
-    other_names: &[u64],
-    other_cells: &[u32],
-    other_head: &[u32],
-    other_sizes: &[u32],
-    other_lines: &[u64],
-) -> bool {
-    let own = is_sound(names, cells, head, sizes);
-    let other = is_sound(other_names, other_cells, other_head, other_sizes);
-    let entries = same_entries(n, names, cells, head, other_names, other_cells, other_head);
-    let listing = same_listing(n, names, cells, head, other_names, other_cells, other_head);
-    let journal = same_names(lines, other_lines);
-    all(all(own, other, true, true), entries, listing, journal)
 }

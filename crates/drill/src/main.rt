@@ -4,32 +4,65 @@
 // mark, in the same order along the chain, and the journal the lines that it had. After each of these rollbacks two neighbours of
 // the chain are exchanged and put right, and a name is planted behind the journal's back; the comparison has to notice each. The list of
 // calls, with replaces among them, is cut as the longest script is, and a place is planted and two neighbours are exchanged at each cut.
-mod calls;
 mod chain;
+mod cuts;
 mod entries;
-mod longest;
 mod marks;
+mod numbers;
+mod sources;
 mod steps;
 mod table;
+mod words;
 
-use calls::read;
-use calls::try_calls;
-use longest::try_cuts;
+use cuts::Tally;
+use cuts::cut_all;
 use marks::try_short;
+use numbers::bytes_from;
+use numbers::lend_bytes;
+use numbers::read;
+use numbers::starts;
+use numbers::wide_from;
+use sources::ANSWERS;
+use sources::Source;
+use sources::WORDS;
 use trials::load::load;
 use trials::print::number;
 use trials::print::say;
 
-// The longest script's line.
-fn drill_longest(script: &mut [u8], answers: &mut [u8], out: &mut [u8]) {
-    let n = load(b"longest.txt", script);
-    let said = load(b"answers.txt", answers);
-    let t = try_cuts(&script[..n], &answers[..said], out);
-    number(b"longest: cuts ", t.cuts);
+// What came of the cuts of a source.
+fn print_cuts(t: Tally) {
+    number(b"cuts ", t.cuts);
     number(b" rollbacks ", t.rollbacks);
     number(b" refused ", t.refused);
     number(b" runs ", t.runs);
     number(b" differences ", t.differences);
+}
+
+// Reads a file into the first bytes, or into those from one on, and answers how many it has.
+fn load_first(path: &[u8], bytes: &mut [u8], n: usize) -> usize {
+    load(path, lend_bytes(bytes, n))
+}
+
+fn load_from(path: &[u8], bytes: &mut [u8], n: usize) -> usize {
+    load(path, bytes_from(bytes, n))
+}
+
+// The longest script's line. It runs on 512 slots and 1,024 lines, so that a line is left when the tree is full.
+fn drill_longest(bytes: &mut [u8]) {
+    let mut numbers = [0u64; 5120];
+    let length = load_first(b"longest.txt", bytes, ANSWERS);
+    let answered = load_from(b"answers.txt", bytes, ANSWERS);
+    let n = starts(bytes, length, &mut numbers);
+    let t = cut_all(
+        512,
+        1024,
+        Source::Script(length, answered),
+        n,
+        bytes,
+        &numbers,
+    );
+    say(b"longest: ");
+    print_cuts(t);
     say(b"\n");
 }
 
@@ -45,9 +78,9 @@ fn print_marks(t: marks::Tally) {
     say(b"\n");
 }
 
-fn drill_short(script: &mut [u8], rows: &mut [u32], out: &mut [u8]) {
+fn drill_short(script: &mut [u8], rows: &mut [u32]) {
     let n = load(b"marks.txt", script);
-    print_marks(try_short(&script[..n], rows, out));
+    print_marks(try_short(&script[..n], rows));
 }
 
 // Reads the numbers of a file, and answers how many it has.
@@ -57,12 +90,9 @@ fn load_numbers(path: &[u8], text: &mut [u8], words: &mut [u64]) -> u32 {
 }
 
 // The line of the list of calls.
-fn print_calls(t: calls::Tally) {
-    number(b"calls: cuts ", t.cuts);
-    number(b" rollbacks ", t.rollbacks);
-    number(b" refused ", t.refused);
-    number(b" runs ", t.runs);
-    number(b" differences ", t.differences);
+fn print_calls(t: Tally) {
+    say(b"calls: ");
+    print_cuts(t);
     number(b" planted ", t.planted);
     number(b" noticed ", t.noticed);
     number(b" exchanged ", t.exchanged);
@@ -70,20 +100,18 @@ fn print_calls(t: calls::Tally) {
     say(b"\n");
 }
 
-fn drill_calls(text: &mut [u8]) {
-    let mut calls = [0u64; 4096];
-    let mut words = [0u64; 1024];
-    let numbers = load_numbers(b"calls.txt", text, &mut calls);
-    load_numbers(b"words.txt", text, &mut words);
-    print_calls(try_calls(&calls, numbers / 4, &words));
+// The list of calls, on 64 slots and 128 lines, with the word that each has to answer.
+fn drill_calls(bytes: &mut [u8]) {
+    let mut numbers = [0u64; 5120];
+    let words = load_numbers(b"calls.txt", bytes, &mut numbers);
+    load_numbers(b"words.txt", bytes, wide_from(&mut numbers, WORDS as usize));
+    print_calls(cut_all(64, 128, Source::List, words / 4, b"", &numbers));
 }
 
 fn main() {
-    let mut script = [0u8; 65536];
-    let mut answers = [0u8; 524288];
-    let mut out = [0u8; 524288];
+    let mut bytes = [0u8; 589824];
     let mut rows = [0u32; 49248];
-    drill_longest(&mut script, &mut answers, &mut out);
-    drill_short(&mut script, &mut rows, &mut out);
-    drill_calls(&mut script);
+    drill_longest(&mut bytes);
+    drill_short(&mut bytes, &mut rows);
+    drill_calls(&mut bytes);
 }

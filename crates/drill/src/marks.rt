@@ -1,32 +1,26 @@
 // The short script, cut after every call and rolled back to every mark.
 use crate::chain::Order;
 use crate::chain::before_another;
-use crate::chain::exchange;
-use crate::chain::is_planted;
-use crate::steps::all;
-use crate::steps::is_sound;
+use crate::sources::feed_line;
 use crate::steps::length;
 use crate::steps::line_end;
 use crate::steps::more;
 use crate::steps::one;
-use crate::steps::undid;
 use crate::table::cut_at;
 use crate::table::note;
 use crate::table::same;
-use console::feed::blank;
-use console::feed::feed;
-use index::fresh::fresh;
-use index::insert::Inserted;
-use index::insert::insert;
-use index::rollback::rollback;
-use slots::NEXT;
-use slots::get;
+use crate::words::Task;
+use crate::words::Words;
+use crate::words::after;
+use crate::words::empty;
+use crate::words::exchanged;
+use crate::words::lend_lines;
+use crate::words::length_of;
+use crate::words::sound;
+use slots::NULL;
 
 // The slots that the pairs of the short script take.
 const SLOTS: u32 = 24;
-
-// The words of the journal: its length, and six to each of 512 lines.
-const JOURNAL_WORDS: usize = 1 + 6 * 512;
 
 // What came of the cuts: rollbacks, those after which something differs, names planted and noticed, neighbours of the chain exchanged and
 // noticed.
@@ -60,8 +54,7 @@ fn call_noted(
     out: &mut [u8],
 ) {
     let before = length(lines);
-    let start = blank();
-    feed(start, line, names, cells, head, sizes, lines, out);
+    feed_line(line, b"", 0, names, cells, head, sizes, lines, out);
     let after = length(lines);
     note_new(rows, before, after, names, cells, head);
 }
@@ -86,49 +79,49 @@ fn run_noted(
     }
 }
 
-// Plants a key that the script does not use, with a journal of its own; whether it went in.
-fn plant(
-    names: &mut [u64],
-    cells: &mut [u32],
-    head: &mut [u32],
-    sizes: &mut [u32],
-    k: u32,
-) -> bool {
-    let mut lines = [0u64; 7];
-    let key = (24 + k % 24) as u64;
-    match insert(
+// The index after the short script up to a cut, with its rows noted.
+fn run_to(part: &[u8], rows: &mut [u32]) -> Words {
+    let x = empty(512, 512);
+    let mut names = x.names;
+    let mut cells = x.cells;
+    let mut head = x.head;
+    let mut sizes = x.sizes;
+    let mut lines = x.lines;
+    let mut out = [0u8; 524288];
+    run_noted(
+        part,
+        &mut names,
+        &mut cells,
+        &mut head,
+        &mut sizes,
+        lend_lines(&mut lines, 512),
+        rows,
+        &mut out,
+    );
+    Words {
         names,
         cells,
         head,
         sizes,
-        &mut lines,
-        key / 4,
-        key,
-        4000000000,
-    ) {
-        Inserted::At(_) => true,
-        _ => false,
+        lines,
+        slots: 512,
+        rows: 512,
     }
 }
 
-// What a rollback to mark m leaves: whether it is what was noted at the mark.
-fn as_noted(
-    m: u32,
-    names: &mut [u64],
-    cells: &mut [u32],
-    head: &mut [u32],
-    sizes: &mut [u32],
-    lines: &mut [u64],
-    old: &[u64],
-    rows: &[u32],
-) -> bool {
-    let count = std::num::wrapping_sub_u32(length(old), m);
-    let rolled = rollback(names, cells, head, sizes, lines, m);
-    let back = undid(rolled, count);
-    let rules = is_sound(names, cells, head, sizes);
-    let held = same(rows, m, names, cells, head);
-    let cut = cut_at(lines, old, m);
-    all(back, rules, held, cut)
+// Whether the tree holds and lists what row m says.
+fn as_row(x: Words, m: u32, rows: &[u32]) -> bool {
+    let names = x.names;
+    let cells = x.cells;
+    let head = x.head;
+    same(rows, m, &names, &cells, &head)
+}
+
+// Whether the journal is the old one up to mark m, and has nothing after it.
+fn as_cut(x: Words, old: Words, m: u32) -> bool {
+    let lines = x.lines;
+    let old_lines = old.lines;
+    cut_at(&lines, &old_lines, m)
 }
 
 // What a rollback and the planting after it came to.
@@ -140,81 +133,48 @@ struct Trial {
     seen: bool,
 }
 
-// Exchanges two neighbours of the chain, compares, and puts them right: whether the tree was sound meanwhile, and the comparison noticed.
-fn plant_order(
-    m: u32,
-    names: &[u64],
-    cells: &mut [u32],
-    head: &mut [u32],
-    sizes: &[u32],
-    rows: &[u32],
-) -> Order {
-    let x = before_another(cells, head, m % SLOTS);
-    let y = get(cells, x, NEXT);
-    exchange(cells, head, x);
-    let planted = is_planted(names, cells, head, sizes, x);
-    let seen = !same(rows, m, names, cells, head);
-    exchange(cells, head, y);
+// Exchanges two neighbours of the chain: whether the tree is sound then, and the comparison notices.
+fn plant_order(x: Words, m: u32, rows: &[u32]) -> Order {
+    let cells = x.cells;
+    let head = x.head;
+    let earlier = before_another(&cells, &head, m % SLOTS);
+    let other = exchanged(x, earlier);
+    let planted = earlier != NULL && sound(other);
+    let same = as_row(other, m, rows);
     Order {
         planted,
-        seen: planted && seen,
+        seen: planted && !same,
     }
 }
 
-// Rolls back to mark m, compares, exchanges two neighbours of the chain and puts them right, plants a name, and compares again.
-fn roll_and_plant(
-    m: u32,
-    names: &mut [u64; 1024],
-    cells: &mut [u32; 3584],
-    head: &mut [u32; 3],
-    sizes: &mut [u32; 512],
-    lines: &mut [u64; JOURNAL_WORDS],
-    old: &[u64; JOURNAL_WORDS],
-    rows: &[u32],
-) -> Trial {
-    let right = as_noted(m, names, cells, head, sizes, lines, old, rows);
-    let order = plant_order(m, names, cells, head, sizes, rows);
-    let planted = plant(names, cells, head, sizes, m);
-    let seen = !same(rows, m, names, cells, head);
-    let noticed = all(planted, seen, true, true);
+// A key that the script does not use.
+fn unused(k: u32) -> u64 {
+    (24 + k % 24) as u64
+}
+
+// Rolls back to mark m and holds what is left against what was noted at the mark; then exchanges two neighbours of the chain, or plants a
+// name, and compares again.
+fn roll_and_plant(x: Words, m: u32, rows: &[u32]) -> Trial {
+    let count = std::num::wrapping_sub_u32(length_of(x), m);
+    let back = after(x, Task::Rollback(m, count));
+    let left = back.words;
+    let right = back.right && sound(left) && as_row(left, m, rows) && as_cut(left, x, m);
+    let order = plant_order(left, m, rows);
+    let plant = after(left, Task::Plant(unused(m)));
+    let same = as_row(plant.words, m, rows);
     Trial {
         right,
-        planted,
-        noticed,
+        planted: plant.right,
+        noticed: plant.right && !same,
         exchanged: order.planted,
         seen: order.seen,
     }
 }
 
 // The short script up to a cut, and a trial of mark m.
-fn try_mark(part: &[u8], m: u32, rows: &mut [u32], out: &mut [u8]) -> Trial {
-    let mut names = [0u64; 1024];
-    let mut cells = [0u32; 3584];
-    let mut head = [0u32; 3];
-    let mut sizes = [0u32; 512];
-    let mut lines = [0u64; JOURNAL_WORDS];
-    fresh(&mut names, &mut cells, &mut head, &mut sizes, &mut lines);
-    run_noted(
-        part,
-        &mut names,
-        &mut cells,
-        &mut head,
-        &mut sizes,
-        &mut lines,
-        rows,
-        out,
-    );
-    let old = lines;
-    roll_and_plant(
-        m,
-        &mut names,
-        &mut cells,
-        &mut head,
-        &mut sizes,
-        &mut lines,
-        &old,
-        rows,
-    )
+fn try_mark(part: &[u8], m: u32, rows: &mut [u32]) -> Trial {
+    let x = run_to(part, rows);
+    roll_and_plant(x, m, rows)
 }
 
 // The tally with one more trial.
@@ -228,27 +188,6 @@ fn tallied(t: Tally, tried: Trial) -> Tally {
         exchanged: more(t.exchanged, one(tried.exchanged)),
         seen: more(t.seen, one(tried.seen)),
     }
-}
-
-// How long the journal is at a cut of the short script.
-fn length_at(part: &[u8], rows: &mut [u32], out: &mut [u8]) -> u32 {
-    let mut names = [0u64; 1024];
-    let mut cells = [0u32; 3584];
-    let mut head = [0u32; 3];
-    let mut sizes = [0u32; 512];
-    let mut lines = [0u64; JOURNAL_WORDS];
-    fresh(&mut names, &mut cells, &mut head, &mut sizes, &mut lines);
-    run_noted(
-        part,
-        &mut names,
-        &mut cells,
-        &mut head,
-        &mut sizes,
-        &mut lines,
-        rows,
-        out,
-    );
-    length(&lines)
 }
 
 // The tally with one more cut.
@@ -265,12 +204,12 @@ fn cut_once(t: Tally) -> Tally {
 }
 
 // A cut of the short script, rolled back to every mark.
-fn try_marks(t: Tally, part: &[u8], rows: &mut [u32], out: &mut [u8]) -> Tally {
-    let marks = more(length_at(part, rows, out), 1);
+fn try_marks(t: Tally, part: &[u8], rows: &mut [u32]) -> Tally {
+    let marks = more(length_of(run_to(part, rows)), 1);
     let mut after = t;
     let mut m: u32 = 0;
     while m < marks {
-        let tried = try_mark(part, m, rows, out);
+        let tried = try_mark(part, m, rows);
         after = tallied(after, tried);
         m += 1;
     }
@@ -278,7 +217,7 @@ fn try_marks(t: Tally, part: &[u8], rows: &mut [u32], out: &mut [u8]) -> Tally {
 }
 
 // The short script, cut after every call.
-pub fn try_short(script: &[u8], rows: &mut [u32], out: &mut [u8]) -> Tally {
+pub fn try_short(script: &[u8], rows: &mut [u32]) -> Tally {
     let mut after = Tally {
         cuts: 0,
         rollbacks: 0,
@@ -291,7 +230,7 @@ pub fn try_short(script: &[u8], rows: &mut [u32], out: &mut [u8]) -> Tally {
     let mut at = 0;
     while at < script.len() {
         let end = line_end(script, at);
-        after = try_marks(after, &script[..end], rows, out);
+        after = try_marks(after, &script[..end], rows);
         at = end;
     }
     after

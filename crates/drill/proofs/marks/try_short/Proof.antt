@@ -8,10 +8,10 @@ use Rattle.drill.proofs.marks.try_short.Statement.{statement}
 use Rattle.drill.proofs.marks.try_short.Tie as tie
 
 abbrev Inv-loop : tie.InvT-loop
-Inv-loop script rows₀ out₀ after₀ at₀ rows out after at = (at ≤ length script) × (length rows ≡ length rows₀) × (length out ≡ length out₀)
+Inv-loop script rows₀ after₀ at₀ rows after at = (at ≤ length script) × (length rows ≡ length rows₀)
 
 abbrev μ-loop : tie.MeasureT-loop
-μ-loop script rows₀ out₀ after₀ at₀ rows out after at = length script - at
+μ-loop script rows₀ after₀ at₀ rows after at = length script - at
 
 slice-aggregate-try-marks : tie.Need-slice-aggregate-try-marks Inv-loop μ-loop
 slice-aggregate-try-marks c = simp length-take (omega arith)
@@ -21,4 +21,4 @@ try-short-spec =
     tie.close
     (tie.spec
     Inv-loop μ-loop (λ c. search needs) (λ c κs. search needs) slice-aggregate-try-marks (λ c κs. search needs) (λ c. search needs)
-    (λ c. search needs) (λ c. search needs) (λ c. search needs) (λ c. search needs))
+    (λ c. search needs) (λ c. search needs) (λ c. search needs))
