@@ -1,11 +1,14 @@
 // Somebody else writes between two calls. What the next one answers, and whether it leaves the words as they were written.
-use crate::cuts::begin;
 use crate::cuts::one;
-use crate::cuts::same;
-use reader::read::Read;
-use reader::words::Reader;
-use slots::put_wide;
-use slots::put_word;
+use crate::words::Upload;
+use crate::words::begun;
+use crate::words::chunk;
+use crate::words::ended;
+use crate::words::same;
+use crate::words::started;
+use crate::words::told;
+use crate::words::with_line;
+use crate::words::with_size;
 use trials::print::answer;
 use trials::print::number;
 use trials::print::say;
@@ -22,141 +25,42 @@ const AGAIN: [u8; 34] =
 
 // The write: the journal's length made 0, which is below the mark, or 1, which is the mark, or more than it has lines; a size of a free
 // slot; a line's place.
-fn write(sizes: &mut [u32; 8], lines: &mut [u64; 49], which: u32) {
+fn written(x: Upload, which: u32) -> Upload {
     match which {
-        1 => put_wide(lines, 0, 9),
-        2 => put_word(sizes, 7, 1),
-        6 => put_wide(lines, 0, 1),
-        7 => put_wide(lines, 0, 0),
-        _ => put_wide(lines, 10, 5),
+        1 => with_line(x, 0, 9),
+        2 => with_size(x, 7, 1),
+        6 => with_line(x, 0, 1),
+        7 => with_line(x, 0, 0),
+        _ => with_line(x, 10, 5),
     }
 }
 
 // A part of an upload into an index begun anew, and the write.
-fn prepare(
-    names: &mut [u64; 16],
-    cells: &mut [u32; 56],
-    head: &mut [u32; 3],
-    sizes: &mut [u32; 8],
-    lines: &mut [u64; 49],
-    part: &[u8],
-    which: u32,
-) -> Reader {
-    begin(names, cells, head, sizes, lines);
-    let started = Reader::start(names, cells, head, sizes, lines);
-    let read = started.reader.chunk(names, cells, head, sizes, lines, part);
-    write(sizes, lines, which);
-    read.reader
+fn prepared(part: &[u8], which: u32) -> Upload {
+    let read = chunk(started(begun(8, 8)), part);
+    written(read, which)
 }
 
 // A chunk, or the end call where it has no bytes.
-fn call(
-    reader: Reader,
-    names: &mut [u64; 16],
-    cells: &mut [u32; 56],
-    head: &mut [u32; 3],
-    sizes: &mut [u32; 8],
-    lines: &mut [u64; 49],
-    bytes: &[u8],
-) -> Read {
+fn call(x: Upload, bytes: &[u8]) -> Upload {
     if bytes.len() == 0 {
-        return reader.end(names, cells, head, sizes, lines);
+        return ended(x);
     }
-    reader.chunk(names, cells, head, sizes, lines, bytes)
-}
-
-// 1 where an index has the words that the write left.
-fn kept(
-    names: &[u64; 16],
-    cells: &[u32; 56],
-    head: &[u32; 3],
-    sizes: &[u32; 8],
-    lines: &[u64; 49],
-    part: &[u8],
-    which: u32,
-) -> u32 {
-    let mut names2 = [0u64; 16];
-    let mut cells2 = [0u32; 56];
-    let mut head2 = [0u32; 3];
-    let mut sizes2 = [0u32; 8];
-    let mut lines2 = [0u64; 49];
-    prepare(
-        &mut names2,
-        &mut cells2,
-        &mut head2,
-        &mut sizes2,
-        &mut lines2,
-        part,
-        which,
-    );
-    one(same(
-        names,
-        cells,
-        head,
-        sizes,
-        lines,
-        &names2,
-        &cells2,
-        &head2,
-        &sizes2,
-        &lines2,
-    ))
+    chunk(x, bytes)
 }
 
 // A part, the write, and a call; then a chunk of one byte and the end call. The words are held against those that the write left.
 fn ask(site: &[u8], label: &[u8], part: &[u8], bytes: &[u8], which: u32) {
-    let mut names = [0u64; 16];
-    let mut cells = [0u32; 56];
-    let mut head = [0u32; 3];
-    let mut sizes = [0u32; 8];
-    let mut lines = [0u64; 49];
-    let reader = prepare(
-        &mut names,
-        &mut cells,
-        &mut head,
-        &mut sizes,
-        &mut lines,
-        part,
-        which,
-    );
-    let read = call(
-        reader,
-        &mut names,
-        &mut cells,
-        &mut head,
-        &mut sizes,
-        &mut lines,
-        bytes,
-    );
-    let left = kept(&names, &cells, &head, &sizes, &lines, part, which);
-    let later = call(
-        read.reader,
-        &mut names,
-        &mut cells,
-        &mut head,
-        &mut sizes,
-        &mut lines,
-        b"\x02",
-    );
-    let ended = call(
-        later.reader,
-        &mut names,
-        &mut cells,
-        &mut head,
-        &mut sizes,
-        &mut lines,
-        b"",
-    );
-    let still = kept(&names, &cells, &head, &sizes, &lines, part, which);
-    let first = read.reply;
-    let second = later.reply;
-    let third = ended.reply;
+    let start = prepared(part, which);
+    let first = call(start, bytes);
+    let second = chunk(first, b"\x02");
+    let third = ended(second);
     say(site);
-    answer(label, b"entries ", first.answer());
-    number(b", words kept ", left);
-    answer(b", then ", b"entries ", second.answer());
-    answer(b", at the end ", b"entries ", third.answer());
-    number(b", words kept ", still);
+    answer(label, b"entries ", told(first));
+    number(b", words kept ", one(same(first, start)));
+    answer(b", then ", b"entries ", told(second));
+    answer(b", at the end ", b"entries ", told(third));
+    number(b", words kept ", one(same(third, start)));
     say(b"\n");
 }
 

@@ -6,6 +6,7 @@ mod foreign;
 mod refused;
 mod sample;
 mod table;
+mod words;
 
 use cuts::whole_and_cut;
 use foreign::try_foreign;

@@ -8,7 +8,7 @@ pub(crate) const LENGTH: usize = 108;
 pub(crate) const ROOM: usize = 112;
 
 // The slots and the lines of an index that has room for the name of the start and the six entries.
-pub(crate) const MOST: usize = 8;
+const MOST: u32 = 8;
 
 // The last byte of an entry is so far behind its first.
 const REST: u32 = 15;
@@ -136,8 +136,8 @@ pub(crate) struct Trial {
     pub spot: u32, // this byte is written over
     pub byte: u8,
     pub length: usize, // so many bytes are read
-    pub slots: usize, // into an index of so many slots and lines
-    pub lines: usize,
+    pub slots: u32, // into an index of so many slots and lines
+    pub lines: u32,
     pub at: usize, // from this byte on, and by the end call, it is answered this word
     pub told: u64,
     pub stay: u32, // so many entries stay
@@ -209,14 +209,14 @@ fn there(entry: u32) -> Trial {
 // There is no slot left for an entry.
 fn full(entry: u32) -> Trial {
     let mut trial = refused_in(entry, 5, 0);
-    trial.slots = entry as usize + 1;
+    trial.slots = more(entry, 1);
     trial
 }
 
 // There is no line left for it.
 fn journal_full(entry: u32) -> Trial {
     let mut trial = refused_in(entry, 6, 0);
-    trial.lines = entry as usize + 1;
+    trial.lines = more(entry, 1);
     trial
 }
 

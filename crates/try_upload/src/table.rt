@@ -1,4 +1,8 @@
 // Uploads that fill the slots, and the lines: the last entry is refused, and nothing stays of those before it.
+use crate::words::lend_cells;
+use crate::words::lend_lines;
+use crate::words::lend_names;
+use crate::words::lend_sizes;
 use index::fresh::fresh;
 use reader::words::Reader;
 use slots::COUNT;
@@ -42,6 +46,19 @@ fn read(
     reply.answer()
 }
 
+// The same, into an empty index.
+fn read_fresh(
+    names: &mut [u64],
+    cells: &mut [u32],
+    head: &mut [u32],
+    sizes: &mut [u32],
+    lines: &mut [u64],
+    bytes: &[u8],
+) -> Answer {
+    fresh(names, cells, head, sizes, lines);
+    read(names, cells, head, sizes, lines, bytes)
+}
+
 fn say_left(label: &[u8], told: Answer, head: &[u32], lines: &[u64]) {
     answer(label, b"entries ", told);
     number(b", names left ", word(head, COUNT, 0));
@@ -49,113 +66,43 @@ fn say_left(label: &[u8], told: Answer, head: &[u32], lines: &[u64]) {
     say(b"\n");
 }
 
-// 1,025 entries where there are 1,024 lines.
-fn fill_lines(bytes: &[u8; MANY]) {
+// An upload into an empty index of so many slots and lines, and what it leaves.
+fn fill_in(label: &[u8], slots: u32, rows: u32, bytes: &[u8; MANY]) {
     let mut names = [0u64; slots::MOST_NAMES];
     let mut cells = [0u32; slots::MOST_CELLS];
     let mut head = [0u32; 3];
     let mut sizes = [0u32; slots::MOST_SLOTS];
     let mut lines = [0u64; 6145];
-    fresh(&mut names, &mut cells, &mut head, &mut sizes, &mut lines);
-    let told = read(
-        &mut names,
-        &mut cells,
+    let told = read_fresh(
+        lend_names(&mut names, slots),
+        lend_cells(&mut cells, slots),
         &mut head,
-        &mut sizes,
-        &mut lines,
+        lend_sizes(&mut sizes, slots),
+        lend_lines(&mut lines, rows),
         bytes,
     );
-    say_left(b"1,025 entries, 1,024 lines: ", told, &head, &lines);
+    say_left(label, told, &head, &lines);
 }
 
-// The same where there are 1,024 slots, and one slot.
-fn fill_slots(bytes: &[u8; MANY]) {
-    let mut names = [0u64; 2048];
-    let mut cells = [0u32; 7168];
-    let mut head = [0u32; 3];
-    let mut sizes = [0u32; 1024];
-    let mut lines = [0u64; 6145];
-    fresh(&mut names, &mut cells, &mut head, &mut sizes, &mut lines);
-    let told = read(
-        &mut names,
-        &mut cells,
-        &mut head,
-        &mut sizes,
-        &mut lines,
-        bytes,
-    );
-    say_left(b"1,025 entries, 1,024 slots: ", told, &head, &lines);
-}
-
-fn fill_one(bytes: &[u8; MANY]) {
-    let mut names = [0u64; 2];
-    let mut cells = [0u32; 7];
-    let mut head = [0u32; 3];
-    let mut sizes = [0u32; 1];
-    let mut lines = [0u64; 13];
-    fresh(&mut names, &mut cells, &mut head, &mut sizes, &mut lines);
-    let told = read(
-        &mut names,
-        &mut cells,
-        &mut head,
-        &mut sizes,
-        &mut lines,
-        bytes,
-    );
-    say_left(b"1,025 entries, one slot: ", told, &head, &lines);
-}
-
-fn fill_none(bytes: &[u8; MANY]) {
-    let mut names = [0u64; 2];
-    let mut cells = [0u32; 7];
-    let mut head = [0u32; 3];
-    let mut sizes = [0u32; 1];
-    let mut lines = [0u64; 1];
-    fresh(&mut names, &mut cells, &mut head, &mut sizes, &mut lines);
-    let told = read(
-        &mut names,
-        &mut cells,
-        &mut head,
-        &mut sizes,
-        &mut lines,
-        bytes,
-    );
-    say_left(b"1,025 entries, no line: ", told, &head, &lines);
-}
-
-// Of 1,024 entries the last has the pair of the first.
-fn fill_again(bytes: &mut [u8; MANY]) {
+// Section 1 has 1,024 entries, of which the last has the pair of the first.
+fn repeat_first(bytes: &mut [u8; MANY]) {
     bytes[1] = 0;
     bytes[16379] = 0;
     bytes[16380] = 0;
-    let mut names = [0u64; 2048];
-    let mut cells = [0u32; 7168];
-    let mut head = [0u32; 3];
-    let mut sizes = [0u32; 1024];
-    let mut lines = [0u64; 6145];
-    fresh(&mut names, &mut cells, &mut head, &mut sizes, &mut lines);
-    let told = read(
-        &mut names,
-        &mut cells,
-        &mut head,
-        &mut sizes,
-        &mut lines,
-        bytes,
-    );
-    say_left(
-        b"1,024 entries, the last as the first: ",
-        told,
-        &head,
-        &lines,
-    );
 }
 
 pub(crate) fn try_full() {
     let mut bytes = [0u8; MANY];
     fill(&mut bytes);
-    fill_lines(&bytes);
-    fill_slots(&bytes);
-    fill_one(&bytes);
-    fill_none(&bytes);
-    fill_again(&mut bytes);
+    fill_in(b"1,025 entries, 1,024 lines: ", 4096, 1024, &bytes);
+    fill_in(b"1,025 entries, 1,024 slots: ", 1024, 1024, &bytes);
+    fill_in(b"1,025 entries, one slot: ", 1, 2, &bytes);
+    fill_in(b"1,025 entries, no line: ", 1, 0, &bytes);
+    repeat_first(&mut bytes);
+    fill_in(
+        b"1,024 entries, the last as the first: ",
+        1024,
+        1024,
+        &bytes,
+    );
 }
