@@ -24,4 +24,8 @@ pub make-in-spec : {M : Type 1} → statement M
 make-in-spec =
     tie.close
     (tie.spec
-    (λ c κs. search needs) (λ c. search needs) (λ c κs. search needs) (λ c. search needs) (λ c κs. search needs) (λ c. search needs) (λ c κs. search needs) (λ c. search needs) (λ c κs. search needs) (λ c. search needs) (λ c. search needs) slice-aggregate-make-step (λ c. search needs) slice-aggregate-make-step-2 (λ c. search needs) slice-aggregate-make-step-3 (λ c. search needs) slice-aggregate-make-step-4 (λ c. search needs) slice-aggregate-make-step-5 (λ c κs. search needs) (λ c. search needs) (λ c. search needs) (λ c. search needs) (λ c. search needs) (λ c. search needs) (λ c. search needs))
+    (λ c κs. search needs) (λ c. search needs) (λ c κs. search needs) (λ c. search needs) (λ c κs. search needs) (λ c. search needs)
+    (λ c κs. search needs) (λ c. search needs) (λ c κs. search needs) (λ c. search needs) (λ c. search needs) slice-aggregate-make-step
+    (λ c. search needs) slice-aggregate-make-step-2 (λ c. search needs) slice-aggregate-make-step-3 (λ c. search needs)
+    slice-aggregate-make-step-4 (λ c. search needs) slice-aggregate-make-step-5 (λ c κs. search needs) (λ c. search needs)
+    (λ c. search needs) (λ c. search needs) (λ c. search needs) (λ c. search needs) (λ c. search needs))
