@@ -1,4 +1,6 @@
 -- What one step of each walk comes to: at null or at the end, with no visits left, and at a slot, a header or a bin.
+-- Parts: the numbers of the recursion over tables; a list, a chain and the homes of a tree; the two tests of a list's slot, and which lists
+-- are long; what is counted; a bin, the two below it and table 0.
 use mathlib.Core.Path.{_≡_, refl, sym, _∙_}
 use mathlib.Core.Logic.{_≢_}
 use mathlib.Core.Bool.{Bool, true, false}
