@@ -11,6 +11,7 @@ use ranks::kth::kth;
 use ranks::position::position;
 use slots::PLACE;
 use slots::answer::Answer;
+use slots::answer::nothing;
 use slots::get;
 use slots::put;
 use slots::put_name;
@@ -28,6 +29,29 @@ pub enum Call {
     Check,
     Kth(u32),
     Position(u32),
+}
+
+// Makes a call that only reads; a call that writes answers nothing here.
+fn make_read(call: Call, names: &[u64], cells: &[u32], head: &[u32], sizes: &[u32]) -> Answer {
+    match call {
+        Call::Sound => {
+            let soundness = sound(names, cells, head, sizes);
+            soundness.answer()
+        }
+        Call::Check => {
+            let checked = check(names, cells, head);
+            checked.answer()
+        }
+        Call::Kth(k) => {
+            let at = kth(names, cells, head, sizes, k);
+            at.answer()
+        }
+        Call::Position(k) => {
+            let positioned = position(names, cells, head, sizes, hash_of(k), k as u64);
+            positioned.answer()
+        }
+        _ => nothing(),
+    }
 }
 
 // Makes a call.
@@ -78,22 +102,7 @@ pub fn make(
             let rolled = rollback(names, cells, head, sizes, lines, mark);
             rolled.answer()
         }
-        Call::Sound => {
-            let soundness = sound(names, cells, head, sizes);
-            soundness.answer()
-        }
-        Call::Check => {
-            let checked = check(names, cells, head);
-            checked.answer()
-        }
-        Call::Kth(k) => {
-            let at = kth(names, cells, head, sizes, k);
-            at.answer()
-        }
-        Call::Position(k) => {
-            let positioned = position(names, cells, head, sizes, hash_of(k), k as u64);
-            positioned.answer()
-        }
+        _ => make_read(call, names, cells, head, sizes),
     }
 }
 

@@ -122,44 +122,19 @@ fn make_step(
     }
 }
 
-// The same on the first words of each slice.
-fn make_in(
-    room: Room,
-    step: Step,
-    names: &mut [u64],
-    cells: &mut [u32],
-    head: &mut [u32],
-    sizes: &mut [u32],
-    lines: &mut [u64],
-) -> Answer {
-    let n = room.names;
-    let c = room.cells;
-    let h = room.head;
-    let z = room.sizes;
-    let l = room.lines;
-    if names.len() < n {
-        return nothing();
+// The first words, lent to be written; all of them where there are no more.
+fn lend_wide(words: &mut [u64], n: usize) -> &mut [u64] {
+    if n <= words.len() {
+        return &mut words[0..n];
     }
-    if cells.len() < c {
-        return nothing();
+    words
+}
+
+fn lend(words: &mut [u32], n: usize) -> &mut [u32] {
+    if n <= words.len() {
+        return &mut words[0..n];
     }
-    if head.len() < h {
-        return nothing();
-    }
-    if sizes.len() < z {
-        return nothing();
-    }
-    if lines.len() < l {
-        return nothing();
-    }
-    make_step(
-        step,
-        &mut names[..n],
-        &mut cells[..c],
-        &mut head[..h],
-        &mut sizes[..z],
-        &mut lines[..l],
-    )
+    words
 }
 
 // Makes a step on the words of an index.
@@ -170,14 +145,13 @@ pub fn after(x: Words, step: Step) -> Done {
     let mut sizes = x.sizes;
     let mut lines = x.lines;
     let room = x.room;
-    let told = make_in(
-        room,
+    let told = make_step(
         step,
-        &mut names,
-        &mut cells,
-        &mut head,
-        &mut sizes,
-        &mut lines,
+        lend_wide(&mut names, room.names),
+        lend(&mut cells, room.cells),
+        lend(&mut head, room.head),
+        lend(&mut sizes, room.sizes),
+        lend_wide(&mut lines, room.lines),
     );
     let words = Words {
         names,
