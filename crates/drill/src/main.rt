@@ -2,8 +2,9 @@
 // that ran only the calls of the lines that are kept, rolled back to 0 and run again, every answer held against the model's. The short
 // script is cut after every call and rolled back to every mark up to the journal's length: the tree has to hold what it held at the
 // mark, in the same order along the chain, and the journal the lines that it had. After each of these rollbacks two neighbours of
-// the chain are exchanged and put right, and a name is planted behind the journal's back; the comparison has to notice each. The list of
-// calls, with replaces among them, is cut as the longest script is, and a place is planted and two neighbours are exchanged at each cut.
+// the chain are exchanged in a copy, and in another a name is planted behind the journal's back; the comparison has to notice each. The
+// list of calls, with replaces among them, is cut as the longest script is, and a place is planted and two neighbours are exchanged at
+// each cut.
 mod chain;
 mod cuts;
 mod entries;

@@ -199,6 +199,30 @@ fn many(
     right
 }
 
+// All of a script, and whether its answers are the ones expected.
+fn play_all(
+    script: &[u8],
+    answers: &[u8],
+    names: &mut [u64],
+    cells: &mut [u32],
+    head: &mut [u32],
+    sizes: &mut [u32],
+    lines: &mut [u64],
+    out: &mut [u8],
+) -> Met {
+    play(
+        script,
+        65536,
+        answers,
+        names,
+        cells,
+        head,
+        sizes,
+        lines,
+        out,
+    )
+}
+
 // Does a job on slices.
 fn work(
     job: Job,
@@ -211,8 +235,8 @@ fn work(
     head: &mut [u32],
     sizes: &mut [u32],
     lines: &mut [u64],
+    out: &mut [u8],
 ) -> Met {
-    let mut out = [0u8; 524288];
     match job {
         Job::Call(k, said) => call(
             source,
@@ -225,7 +249,7 @@ fn work(
             head,
             sizes,
             lines,
-            &mut out,
+            out,
         ),
         Job::Many(n) => met(many(
             source,
@@ -238,20 +262,48 @@ fn work(
             head,
             sizes,
             lines,
-            &mut out,
+            out,
         )),
-        Job::Script(length, answered) => play(
+        Job::Script(length, answered) => play_all(
             part_of(bytes, 0, length),
-            65536,
             part_of(bytes, ANSWERS, end_of(answered)),
             names,
             cells,
             head,
             sizes,
             lines,
-            &mut out,
+            out,
         ),
     }
+}
+
+// The same, with a buffer for what the console says.
+fn work_alone(
+    job: Job,
+    source: Source,
+    bytes: &[u8],
+    numbers: &[u64],
+    row: &[u32],
+    names: &mut [u64],
+    cells: &mut [u32],
+    head: &mut [u32],
+    sizes: &mut [u32],
+    lines: &mut [u64],
+) -> Met {
+    let mut out = [0u8; 524288];
+    work(
+        job,
+        source,
+        bytes,
+        numbers,
+        row,
+        names,
+        cells,
+        head,
+        sizes,
+        lines,
+        &mut out,
+    )
 }
 
 // What is left after a job, and what it came to.
@@ -274,7 +326,7 @@ pub fn after_job(
     let mut head = x.head;
     let mut sizes = x.sizes;
     let mut lines = x.lines;
-    let found = work(
+    let found = work_alone(
         job,
         source,
         bytes,

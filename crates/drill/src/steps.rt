@@ -1,4 +1,4 @@
-// What the parts of the drill ask: the journal's length, what a rollback came to, what is left of the calls, and where a call ends.
+// What the parts of the drill ask: the journal's length, what a rollback came to, the mark of a cut, and where a call ends.
 use index::journal::length_of;
 use index::rollback::RolledBack;
 use index::sound::Soundness;
