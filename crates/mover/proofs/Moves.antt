@@ -66,7 +66,7 @@ module _ (s : Set) (k i : ℕ) where
       record {
         table = omega (arith, p .lower, f .most);
         width = length-bound f k;
-        index = p .place .index;
+        index = p .there .index;
         slots = omega (arith, f .two, f .slots-most);
         headers = omega (arith, f .three, f .headers-most);
       }
