@@ -33,7 +33,8 @@
 //! **Threads.** No routine keeps anything between calls. All types here are `Send` and `Sync`; what `&self` calls only reads.
 //!
 //! **Stack.** [`Index::check`] takes up to 709 KiB and [`Index::why`] up to 388 on a damaged tree of 4,096 slots in one line; a rollback
-//! and a refused chunk some 201. A thread of Rust's default 2 MiB is enough.
+//! and a refused chunk some 201; what accepts a set some 140 where that has a list of more than 64 slots. A thread of Rust's default 2 MiB
+//! is enough.
 #![warn(missing_docs)]
 
 mod frozen;
