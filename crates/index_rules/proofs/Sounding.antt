@@ -7,16 +7,16 @@ use native.Mathlib.Omega.{arith}
 use Rattle.slots.specs.Words.{pick}
 use Rattle.slots.specs.Answers.{Answer, given, refused}
 use Rattle.slots.proofs.Laws.{given-is, number}
-use Rattle.index_rules.specs.Live.{Live, Fit}
+use Rattle.index_rules.specs.Live.{Live, Fit, fits}
 use Rattle.index_rules.specs.Sound.{Sound, rule1, rule2, rule3, rule4, rule5, rule6, rule7, sound, sounds}
-use Rattle.index_rules.specs.Index.{Index}
+use Rattle.index_rules.specs.Index.{Index, fitsIndex}
 use Rattle.index_rules.specs.Checked.{soundsIndex}
 use Rattle.index_rules.specs.Claims.{Sounds, SoundsIndex}
-use Rattle.index_rules.proofs.Fit.{both, false-of}
+use Rattle.index_rules.proofs.Fit.{both}
 use Rattle.index_rules.proofs.Rules.{and, rule-one, rule-two, rule-three, rule-four, rule-five, rule-six, rule-seven}
 use Rattle.index_rules.proofs.Weighing.{rule-eight}
 use Rattle.index_rules.proofs.Passing.{sound-passes}
-use Rattle.index_rules.proofs.Reading.{Gate, tree-gate, index-gate, gated, one-only, others}
+use Rattle.index_rules.proofs.Reading.{Gate, tree-gate, index-gate}
 
 module _ {t : Live} (fit : Fit t) where
   pub sound-yes : Sound t → sound t ≡ true
@@ -91,34 +91,57 @@ module _ (a b : Bool) where
   pub told-yes : given 1 ≡ pick a (pick b (given 1) (given 0)) (refused 1) → (a ≡ true) × (b ≡ true)
   told-yes e = let t = told e in (t .0, verdict b .0 (sym (t .1)))
 
--- The full check behind a gate that only fit trees pass.
-module _ {F : Type 0} (g : Gate F) {t : Live} (fit : F → Fit t) where
-  abbrev answer : Answer
-  answer = gated g (pick (sound t) (given 1) (given 0))
+-- The answer of the full check behind a gate that only fit trees pass, by what it is where the gate is shut and where it is open.
+module _ {F : Type 0} (g : Gate F) {t : Live} (fit : F → Fit t) {a : Answer} (shut : g .test ≡ false → a ≡ refused 1)
+    (no : g .test ≡ true → sound t ≡ false → a ≡ given 0) (yes : g .test ≡ true → sound t ≡ true → a ≡ given 1) where
+  cases : {A : Type 0} → ((F → ⊥) → a ≡ refused 1 → A) → (F → (Sound t → ⊥) → a ≡ given 0 → A) → (F → Sound t → a ≡ given 1 → A) → A
+  cases {A} u n y = go (g .test) refl (sound t) refl
+    where
+      go : (b : Bool) → g .test ≡ b → (c : Bool) → sound t ≡ c → A
+      go false e c s = u (λ f. false≢true (sym e ∙ g .opens f)) (shut e)
+      go true e false s = let f = g .opened e in n f (unsound (fit f) s) (no e s)
+      go true e true s = let f = g .opened e in y f (yes-sound (fit f) s) (yes e s)
 
-  one-exactly : (answer ≡ refused 1) ↔ (F → ⊥)
-  one-exactly = one-only g _ (not-one (sound t))
+  one-exactly : (a ≡ refused 1) ↔ (F → ⊥)
+  one-exactly = (
+    λ e f. cases (λ n z. n f) (λ k s z. omega (arith, number (sym z ∙ e))) (λ k s z. omega (arith, number (sym z ∙ e))),
+    λ n. cases (λ u z. z) (λ k s z. absurd (n k)) (λ k s z. absurd (n k)),
+  )
 
-  yes-exactly : (answer ≡ given 1) ↔ (F × Sound t)
-  yes-exactly =
-      let h = others g _ (λ e. omega (arith, number e)) (verdict (sound t)) in
-      (λ e. (let k = h .0 e in (k .0, yes-sound (fit (k .0)) (k .1))), λ k. h .1 (k .0, sound-yes (fit (k .0)) (k .1)))
+  yes-exactly : (a ≡ given 1) ↔ (F × Sound t)
+  yes-exactly = (
+    λ e. cases (λ n z. absurd (omega (arith, number (sym z ∙ e)))) (λ k s z. absurd (omega (arith, given-is (sym z ∙ e))))
+        (λ k s z. (k, s)),
+    λ p. cases (λ n z. absurd (n (p .0))) (λ k s z. absurd (s (p .1))) (λ k s z. z),
+  )
 
-  no-exactly : (answer ≡ given 0) ↔ (F × (Sound t → ⊥))
-  no-exactly =
-      let h = others g _ (λ e. omega (arith, number e)) (verdict-no (sound t)) in (
-        λ e. (let k = h .0 e in (k .0, unsound (fit (k .0)) (k .1))),
-        λ k. h .1 (k .0, false-of (sound t) (λ e. k .1 (yes-sound (fit (k .0)) e))),
-      )
+  no-exactly : (a ≡ given 0) ↔ (F × (Sound t → ⊥))
+  no-exactly = (
+    λ e. cases (λ n z. absurd (omega (arith, number (sym z ∙ e)))) (λ k s z. (k, s))
+        (λ k s z. absurd (omega (arith, given-is (sym z ∙ e)))),
+    λ p. cases (λ n z. absurd (n (p .0))) (λ k s z. z) (λ k s z. absurd (p .1 s)),
+  )
 
 module _ (t : Live) where
+  tree-shut : fits t ≡ false → sounds t ≡ refused 1
+  unfolding sounds
+  tree-shut e = rw e
+
+  tree-no : fits t ≡ true → sound t ≡ false → sounds t ≡ given 0
+  unfolding sounds
+  tree-no e s = rw (e, s)
+
+  tree-yes : fits t ≡ true → sound t ≡ true → sounds t ≡ given 1
+  unfolding sounds
+  tree-yes e s = rw (e, s)
+
   pub sound-claims : Sounds t
-  unfolding sounds tree-gate
+  unfolding tree-gate
   sound-claims =
       record {
-        one = one-exactly (tree-gate t) (λ f. f);
-        yes = yes-exactly (tree-gate t) (λ f. f);
-        no = no-exactly (tree-gate t) (λ f. f);
+        one = one-exactly (tree-gate t) (λ f. f) tree-shut tree-no tree-yes;
+        yes = yes-exactly (tree-gate t) (λ f. f) tree-shut tree-no tree-yes;
+        no = no-exactly (tree-gate t) (λ f. f) tree-shut tree-no tree-yes;
         passes-too = λ f h. sound-passes f h;
         rule-one = rule-one t;
         rule-two = rule-two t;
@@ -130,11 +153,24 @@ module _ (t : Live) where
         rule-eight = λ f one three. rule-eight f one three;
       }
 
-pub sound-index-claims : (ix : Index) → SoundsIndex ix
-unfolding soundsIndex index-gate
-sound-index-claims ix =
-    record {
-      one = one-exactly (index-gate ix) (λ f. f .tree);
-      yes = yes-exactly (index-gate ix) (λ f. f .tree);
-      no = no-exactly (index-gate ix) (λ f. f .tree);
-    }
+module _ (ix : Index) where
+  index-shut : fitsIndex ix ≡ false → soundsIndex ix ≡ refused 1
+  unfolding soundsIndex
+  index-shut e = rw e
+
+  index-no : fitsIndex ix ≡ true → sound (ix .live) ≡ false → soundsIndex ix ≡ given 0
+  unfolding soundsIndex
+  index-no e s = rw (e, s)
+
+  index-yes : fitsIndex ix ≡ true → sound (ix .live) ≡ true → soundsIndex ix ≡ given 1
+  unfolding soundsIndex
+  index-yes e s = rw (e, s)
+
+  pub sound-index-claims : SoundsIndex ix
+  unfolding index-gate
+  sound-index-claims =
+      record {
+        one = one-exactly (index-gate ix) (λ f. f .tree) index-shut index-no index-yes;
+        yes = yes-exactly (index-gate ix) (λ f. f .tree) index-shut index-no index-yes;
+        no = no-exactly (index-gate ix) (λ f. f .tree) index-shut index-no index-yes;
+      }
