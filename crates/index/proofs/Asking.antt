@@ -10,7 +10,7 @@ use lib.Dec.{leb}
 use borrow.Author.Tests.{leb-true, le-leb, lt-leb, not-true, not-false}
 use types.Run.{OneOf}
 use denote.Enum.Declared.{tagOf}
-use Rattle.slots.specs.Words.{null, pick, mostSlots}
+use Rattle.slots.specs.Words.{null, mostSlots}
 use Rattle.slots.specs.Answers.{Answer, Value, some, none, given, refused}
 use Rattle.slots.proofs.Laws.{given-is, number, value}
 use Rattle.tree_rules.specs.Find.{Counted, counted, found}

@@ -2,31 +2,31 @@
 -- are the answers' words one after another, and each accepted call has its line.
 -- Parts: the calls that a slice says, and the tests that they pass; the words that the calls write; a line for each accepted call; what the
 -- tests before the calls settle; all in one law.
-use mathlib.Core.Path.{_≡_, refl, ap, sym, _∙_, subst}
+use mathlib.Core.Path.{_≡_, refl, ap, sym, _∙_}
 use mathlib.Core.Logic.{_≢_, _⊎_, inl, inr}
 use mathlib.Core.Bool.{Bool, true, false, false≢true}
 use mathlib.Core.List.{List, [], _∷_, _++_, map, append-assoc}
-use Prim.Native.Nat.{ℕ, zero, suc, _+_, _*_, _/_, _<_, _≤_}
+use Prim.Native.Nat.{ℕ, zero, suc, _+_, _*_, _<_, _≤_}
 use native.Mathlib.Decide.{ℕ-discrete}
 use native.Mathlib.Omega.{arith}
-use lib.ListN.{length, getD, set, take, drop, length-set, take-append-drop}
-use lib.Seq.{take-suc-set, drop-set-lt, append-snoc}
+use lib.ListN.{length, set, take, drop, length-set, take-append-drop}
+use lib.Seq.{take-suc-set, drop-set-lt}
 use lib.Dec.{eqb, leb, ltb}
-use borrow.Author.Tests.{eqb-true, eqb-false, leb-true, ltb-true, eq-eqb, ne-eqb, le-leb, lt-ltb}
+use borrow.Author.Tests.{eqb-true, leb-true, ltb-true, eq-eqb, ne-eqb, le-leb, lt-ltb}
 use Rattle.slots.specs.Words.{pick}
 use Rattle.slots.specs.Answers.{Answer, given, refused, answerWord}
 use Rattle.slots.proofs.Laws.{number}
 use Rattle.index_rules.specs.Sound.{Sound, sound}
-use Rattle.index_rules.specs.Index.{Index, FitIndex, Outcome, fitsIndex, JournalLine, lengthOf, insertKind, removeKind, replaceKind}
+use Rattle.index_rules.specs.Index.{Index, FitIndex, Outcome, fitsIndex, lengthOf, insertKind, removeKind, replaceKind}
 use Rattle.index_rules.specs.Insert.{inserts}
 use Rattle.index_rules.specs.Remove.{removes}
 use Rattle.index_rules.specs.Replace.{replaces}
-use Rattle.index_rules.specs.Calls.{Call, insertCall, removeCall, replaceCall, called, after, OneLine}
+use Rattle.index_rules.specs.Calls.{Call, insertCall, removeCall, replaceCall, called, after}
 use Rattle.index_rules.specs.Batch.{callWords, callWord, callsIn, Batched, batched, Says, FitCalls, singly, acceptedIn, answeredWith}
 use Rattle.index_rules.specs.Batch.{callFits, allFit, callsFit, callAt, runs, batches}
 use Rattle.index_rules.specs.Batch.{end, insert, remove, replace}
 use Rattle.index_rules.specs.Claims.{Batches}
-use Rattle.index_rules.proofs.Fit.{both, false-of}
+use Rattle.index_rules.proofs.Fit.{both}
 use Rattle.index_rules.proofs.Rules.{and}
 use Rattle.index_rules.proofs.Journal.{fits-index, index-fits}
 use Rattle.index_rules.proofs.Sounding.{sound-yes, yes-sound, unsound}

@@ -1,7 +1,6 @@
 -- What the two calls come to, on plain values: the full check's answer settles the tests, and the way down the rest.
 use mathlib.Core.Path.{_≡_}
 use mathlib.Core.Bool.{true, false}
-use mathlib.Core.List.{List}
 use Prim.Native.Nat.{ℕ, _<_, _≤_}
 use native.Mathlib.Omega.{arith}
 use lib.ListN.{length}

@@ -3,7 +3,7 @@
 use mathlib.Core.Path.{_≡_, refl, ap, sym, _∙_}
 use mathlib.Core.Logic.{_⊎_, inl, inr}
 use mathlib.Core.Bool.{true, false}
-use mathlib.Core.List.{List, _∷_}
+use mathlib.Core.List.{List}
 use Prim.Native.Nat.{ℕ, zero, suc, _+_, _<_, _≤_}
 use native.Mathlib.Nat.{add-zero, add-suc}
 use native.Mathlib.Numerals.{add-one}
@@ -15,7 +15,7 @@ use borrow.Author.Tests.{le-leb, lt-leb, lt-ltb, le-ltb, eq-eqb, ne-eqb}
 use Rattle.slots.specs.Words.{null, next, cell}
 use Rattle.set_rules.specs.Words.{Set, tablesOf, lengthAt, firstAt, Fit, Bin, empty, moved, bad, list, tree}
 use Rattle.set_rules.specs.Cursor.{Cursor, BadCursor}
-use Rattle.set_rules.specs.Walk.{WalkPoint, walkPoint, deepest, binHere, advanced, wentOn, below, Sought, at, ended, lost, trimmed}
+use Rattle.set_rules.specs.Walk.{WalkPoint, deepest, binHere, advanced, wentOn, below, Sought, at, ended, lost, trimmed}
 use Rattle.set_rules.specs.Walk.{standing}
 use Rattle.set_rules.specs.Walk.{stepped, stepsOn, turnsIn, nexts}
 use Rattle.set_rules.specs.NodeIter.{Iter, iter, over, pushed, recovered, proceeds, Yield, yields, ends, stuck, matched, looped}

@@ -24,7 +24,6 @@ use Rattle.redblack.specs.Balance.{OneFewer}
 use Rattle.redblack.specs.Holding.{Holds, RedBlackTree, Fresh, Has}
 use Rattle.redblack.specs.Hanging.{inserted, spotted}
 use Rattle.redblack.proofs.Claims.{claims}
-use Rattle.index_rules.proofs.Fit.{both}
 use Rattle.index_rules.proofs.Frames.{without-else, without-same}
 use Rattle.index_rules.proofs.Seeking.{Answers, seeks}
 use Rattle.tree.specs.Find.{searchedOf}
