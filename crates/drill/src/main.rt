@@ -5,6 +5,8 @@
 // the chain are exchanged in a copy, and in another a name is planted behind the journal's back; the comparison has to notice each. The
 // list of calls, with replaces among them, is cut as the longest script is, and a place is planted and two neighbours are exchanged at
 // each cut.
+#![tactic(auto)]
+
 mod chain;
 mod cuts;
 mod entries;

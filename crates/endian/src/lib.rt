@@ -1,4 +1,6 @@
 // Words read from bytes, the lowest byte first.
+#![tactic(auto)]
+
 ghost use Rattle.std.specs.Prelude.{◌≡◌, ◌+◌, ◌*◌, ◌≤◌, ◌<◌, ◌^◌, length, take, drop};
 ghost use Rattle.endian.specs.Bytes.{number_of, word_in, words_in};
 

@@ -1,4 +1,6 @@
 // The library's entry points for Rust and C: a slice is a pointer and a length, the answer one word, value + 2^32 * number.
+#![tactic(auto)]
+
 mod cursor;
 pub mod files;
 pub mod frozen;

@@ -1,5 +1,7 @@
 // figures: reads sets' files from standard input, each after its length, in chunks of up to 65,536 bytes, and prints the figures over all
 // of them. On a terminal it tells on standard error how many sets are counted, every 10,000 sets.
+#![tactic(auto)]
+
 use libc::{STDERR_FILENO, STDIN_FILENO, STDOUT_FILENO};
 use slots::answer::Value;
 use tally::figure::Figured;

@@ -1,4 +1,6 @@
 // A set's file (docs/RULES.md, section 16): its bytes, save, and the loader.
+#![tactic(auto)]
+
 pub mod loader;
 mod put;
 pub mod reply;

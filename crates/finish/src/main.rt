@@ -1,5 +1,7 @@
 // finish: reads a set's file from standard input, moves every bin of every table but the last, and writes the file of what is left to
 // standard output; what came of it goes to standard error.
+#![tactic(auto)]
+
 use finisher::answer::answer;
 use libc::{STDERR_FILENO, STDIN_FILENO, STDOUT_FILENO};
 

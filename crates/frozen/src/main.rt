@@ -1,5 +1,7 @@
 // frozen: reads a set's file from standard input in chunks of up to 65,536 bytes, each section into the slice of the largest set that takes
 // it, and prints the set's counts and entries, or the number of the refusal.
+#![tactic(auto)]
+
 use file::loader::Loader;
 use libc::{STDIN_FILENO, STDOUT_FILENO};
 use listing::tell::tell;

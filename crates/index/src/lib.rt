@@ -1,5 +1,7 @@
 // The live index over lent slices: a tree of names and its journal (docs/RULES.md, sections 1 to 6).
 // What only reads: whether the slices fit, find, the source's check, the full check.
+#![tactic(auto)]
+
 pub mod check;
 pub mod find;
 pub mod fit;

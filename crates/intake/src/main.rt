@@ -1,5 +1,7 @@
 // intake: reads an upload from standard input in chunks of up to 65,536 bytes into an empty index of 4,096 slots and 1,024 lines, and
 // prints the names that it holds then, or the number of the refusal.
+#![tactic(auto)]
+
 use console::feed::LONGEST;
 use console::receipt::receipt;
 use index::fresh::fresh;

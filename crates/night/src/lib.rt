@@ -1,5 +1,7 @@
 // Why a live tree is not sound: the first broken rule, the lowest slot that shows it, what is told with it and how the rule is broken
 // there; and what can be saved of it.
+#![tactic(auto)]
+
 pub mod account;
 mod below;
 pub mod breach;

@@ -1,4 +1,6 @@
 // The section reader: an upload is read in chunks into the live index (docs/RULES.md, section 12).
+#![tactic(auto)]
+
 pub mod reply;
 pub mod words;
 // The word of a note, for those who keep a reader as eight words.

@@ -1,5 +1,7 @@
 // salvage: reads a dump of an index from standard input, and writes the dump of a second index with all that can be saved of it to
 // standard output; what was lost goes to standard error.
+#![tactic(auto)]
+
 use dump::rescue::rescue;
 use libc::{STDERR_FILENO, STDIN_FILENO, STDOUT_FILENO};
 

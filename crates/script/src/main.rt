@@ -1,5 +1,7 @@
 // The script program: reads calls from standard input and writes their answers, over a tree of 512 slots and a journal of 512
 // lines in fixed memory.
+#![tactic(auto)]
+
 use console::feed::{Line, blank, feed, finish};
 use index::fresh::fresh;
 use libc::{STDIN_FILENO, STDOUT_FILENO};

@@ -1,5 +1,7 @@
 // Frozen sets over lent slices (docs/RULES.md, section 7).
 // The words: whether the slices fit, and what bins and headers say.
+#![tactic(auto)]
+
 pub mod bin;
 pub mod fit;
 // Acceptance.

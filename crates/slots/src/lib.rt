@@ -1,6 +1,8 @@
 // A slot is seven words of a lent slice of cells, and two of a lent slice of names.
 // Reads and writes are total: where there is no such word a read answers null (a name: 0) and a write does nothing,
 // so that no function above needs a bound on a link.
+#![tactic(auto)]
+
 pub mod answer;
 
 ghost use Rattle.std.specs.Prelude.{◌≡◌, eqb, get_or, set};

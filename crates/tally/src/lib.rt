@@ -1,4 +1,6 @@
 // Figures over many sets (docs/RULES.md, section 18): a set tallied into lent totals, and an input of many sets.
+#![tactic(auto)]
+
 mod add;
 pub mod tally;
 mod totals;

@@ -1,5 +1,7 @@
 // What the programs that try the library share.
 // Input through the console, held against what is expected; two indexes compared.
+#![tactic(auto)]
+
 pub mod play;
 pub mod same;
 // What is read from files and printed.

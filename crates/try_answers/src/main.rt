@@ -1,4 +1,6 @@
 // Runs the source's own answers, a fixed list of calls, words and verdicts, and compares each with ours.
+#![tactic(auto)]
+
 mod calls;
 mod list;
 mod words;

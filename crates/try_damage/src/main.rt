@@ -1,4 +1,6 @@
 // Damages sound trees and asks both checks: every word of one tree, every two slots of it, and the trees that only the full check refuses.
+#![tactic(auto)]
+
 mod build;
 mod damage;
 mod judge;

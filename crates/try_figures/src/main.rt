@@ -1,5 +1,7 @@
 // Counts the figures of an input with every kind of refusal, in two orders, cut and ended at every byte, and near a million sets: they have
 // to be those that are counted apart, file by file, from a table.
+#![tactic(auto)]
+
 mod expect;
 mod limits;
 mod run;

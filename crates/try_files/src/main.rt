@@ -1,5 +1,7 @@
 // Loads the sample file cut at every byte and every pair of bytes, ended at every byte, with every byte damaged and with a byte more: what
 // is refused has to leave zeros, and what is accepted a set that saves to the file's bytes.
+#![tactic(auto)]
+
 mod room;
 mod run;
 mod trial;

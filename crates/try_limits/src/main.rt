@@ -1,6 +1,8 @@
 // Runs the index at its limits: find on words at the edge of what it refuses, insert, remove, replace and rollback on the smallest and the
 // largest tree and journal, rollback on journals that do not fit, all of them on words that are unfit and trees that are not sound, and
 // kth and position. Prints each answer.
+#![tactic(auto)]
+
 mod brim;
 mod calls;
 mod contents;

@@ -1,5 +1,7 @@
 // Searches trees for every pair and for every gap between two, and holds the number of slots looked at against the limit: 2 to the power
 // of the looks is at most the square of one more than the pairs. Prints the limits that docs/HANDBOOK.md has.
+#![tactic(auto)]
+
 use index::find::find;
 use index::fresh::fresh;
 use index::insert::{Inserted, insert};

@@ -1,4 +1,6 @@
 // Moves bins of small sets, and holds every word that is left against what is to be expected, found by a second way.
+#![tactic(auto)]
+
 mod counts;
 mod expect;
 mod finishes;

@@ -1,4 +1,6 @@
 // Damages small trees, salvages what is left of each into a cleared tree, and holds it against what is to be kept, found by a second way.
+#![tactic(auto)]
+
 mod ask;
 mod counts;
 mod judge;

@@ -1,4 +1,6 @@
 // Runs scripts whose answers are known, each whole, in pieces of seven bytes and byte by byte, and compares every answer.
+#![tactic(auto)]
+
 ghost use Rattle.std.specs.Prelude.{◌≤◌};
 
 use index::fresh::fresh;

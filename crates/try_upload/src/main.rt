@@ -1,6 +1,8 @@
 // Reads uploads cut at every pair of bytes and holds each run against the one that is not cut; has a sample refused at every byte where
 // that can be, and sees that each refusal leaves the index of the start and that a planted name is noticed; and has somebody else write
 // between two calls.
+#![tactic(auto)]
+
 mod cuts;
 mod foreign;
 mod refused;

@@ -1,4 +1,6 @@
 // Asks accept of small sets, each a word or two away from an accepted one, and prints its answer: yes, no, or 1.
+#![tactic(auto)]
+
 use sets::accept::accept;
 use slots::{
     BLACK, HASH, KEY, LEFT, NEXT, NULL, PARENT, PLACE, PREV, RED, RIGHT, STATE, put, put_name,

@@ -1,4 +1,6 @@
 // Walks whole frozen sets entry by entry, looks pairs up in them, and tries words and cursors that lookup and next refuse.
+#![tactic(auto)]
+
 mod ask;
 mod bounds;
 mod broken;

@@ -1,4 +1,6 @@
 // Damages small trees, and holds what why tells of each against what a second finder tells, written apart.
+#![tactic(auto)]
+
 mod ask;
 mod finder;
 mod print;

@@ -1,4 +1,6 @@
 // why: reads a dump of an index from standard input, and prints that its tree is sound or how the first broken rule is broken.
+#![tactic(auto)]
+
 use dump::answer::answer;
 use libc::{STDIN_FILENO, STDOUT_FILENO};
 
