@@ -14,7 +14,7 @@ use index::sound::{Soundness, sound_index};
 use slots::answer::{Answer, given, refused};
 
 // What batch answers, with the number of each refusal.
-#[derive(Drop)]
+#[derive(Clone, Copy)]
 pub enum BatchMade {
     Accepted(u32), // how many calls were accepted
     Unfit, // 1

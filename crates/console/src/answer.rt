@@ -51,7 +51,7 @@ fn tell_answer(out: &mut [u8], at: usize, word: &[u8], answer: Answer) -> usize
 }
 
 // How many slots the chain has, or that it cannot be followed.
-#[derive(Drop)]
+#[derive(Clone, Copy)]
 enum Met {
     Slots(usize),
     Lost,

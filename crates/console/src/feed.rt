@@ -17,7 +17,7 @@ pub const LONGEST: usize = 262144;
 const WIDTH: usize = 81;
 
 // The line that has come so far.
-#[derive(Drop)]
+#[derive(Clone, Copy)]
 pub struct Line {
     pub bytes: [u8; 81],
     pub count: usize,
@@ -25,7 +25,7 @@ pub struct Line {
 
 // What a call comes to: the number, the line, the bytes of the chunk that were taken and those of the buffer that were
 // written.
-#[derive(Drop)]
+#[derive(Clone, Copy)]
 pub struct Fed {
     pub number: u32,
     pub line: Line,
@@ -78,7 +78,7 @@ fn kept_meaning(line: Line) -> Command
 }
 
 // What one byte comes to: the line, and where the next byte of the buffer goes.
-#[derive(Drop)]
+#[derive(Clone, Copy)]
 struct Step {
     line: Line,
     at: usize,

@@ -11,7 +11,7 @@ const MOST64: u64 = 18446744073709551615;
 const MOST32: u64 = 4294967295;
 
 // A number of the line and where the bytes after it start, or that there is none.
-#[derive(Drop)]
+#[derive(Clone, Copy)]
 enum Number {
     Value(u64, usize),
     Missing,
@@ -95,7 +95,7 @@ fn begins(line: &[u8], word: &[u8]) -> bool
 }
 
 // What a line asks for.
-#[derive(Drop)]
+#[derive(Clone, Copy)]
 pub enum Command {
     Insert(u64, u64, u32),
     Remove(u64, u64),
@@ -129,7 +129,7 @@ fn entry(line: &[u8], at: usize) -> Command
 }
 
 // Hash and key, or that they do not stand there.
-#[derive(Drop)]
+#[derive(Clone, Copy)]
 enum Pair {
     Of(u64, u64),
     Missing,

@@ -2,7 +2,7 @@
 use slots::{NEXT, NULL, PREV, get, put};
 
 // What an exchange of two neighbours came to: whether it left a sound tree, and whether it was seen.
-#[derive(Drop)]
+#[derive(Clone, Copy)]
 pub struct Order {
     pub planted: bool,
     pub seen: bool,

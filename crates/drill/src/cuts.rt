@@ -13,7 +13,7 @@ use slots::{NULL, PLACE, get, put};
 
 // What came of the cuts: rollbacks accepted and refused at them, whole runs after them, what was not as it has to be, places planted and
 // noticed, neighbours of the chain exchanged and noticed.
-#[derive(Drop)]
+#[derive(Clone, Copy)]
 pub struct Tally {
     pub cuts: u32,
     pub rollbacks: u32,
@@ -27,7 +27,7 @@ pub struct Tally {
 }
 
 // What the planting at a cut came to.
-#[derive(Drop)]
+#[derive(Clone, Copy)]
 struct Plants {
     planted: bool,
     noticed: bool,
@@ -99,7 +99,7 @@ fn plant(source: Source, x: Words, then: Words, cut: u32) -> Plants {
 }
 
 // What a cut came to.
-#[derive(Drop)]
+#[derive(Clone, Copy)]
 struct Trial {
     right: bool,
     plants: Plants,
@@ -187,7 +187,7 @@ fn counted(t: Tally, answer: bool, tried: Trial) -> Tally {
 }
 
 // How far the source has come: the index, which call made each line, where the next answer is expected, and the tally.
-#[derive(Drop)]
+#[derive(Clone, Copy)]
 struct Cut {
     x: Words,
     made: [u32; 1024],

@@ -11,7 +11,7 @@ const SLOTS: u32 = 24;
 
 // What came of the cuts: rollbacks, those after which something differs, names planted and noticed, neighbours of the chain exchanged and
 // noticed.
-#[derive(Drop)]
+#[derive(Clone, Copy)]
 pub struct Tally {
     pub cuts: u32,
     pub rollbacks: u32,
@@ -113,7 +113,7 @@ fn as_cut(x: Words, old: Words, m: u32) -> bool {
 }
 
 // What a rollback and the planting after it came to.
-#[derive(Drop)]
+#[derive(Clone, Copy)]
 struct Trial {
     right: bool,
     planted: bool,

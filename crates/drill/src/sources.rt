@@ -12,7 +12,7 @@ use slots::answer::{Answer, Value};
 use slots::{get, name};
 use trials::play::{Met, agrees, play};
 
-#[derive(Drop)]
+#[derive(Clone, Copy)]
 pub enum Source {
     Script(usize, usize), // of so many bytes, whose answers have so many
     List,
@@ -24,7 +24,7 @@ pub const ANSWERS: usize = 65536;
 
 pub const WORDS: u32 = 4096;
 
-#[derive(Drop)]
+#[derive(Clone, Copy)]
 pub enum Job {
     Call(u32, usize), // this call; its answer is expected from this place on
     Many(u32), // the first so many calls of a row of them
@@ -258,7 +258,7 @@ fn work_alone(
 }
 
 // What is left after a job, and what it came to.
-#[derive(Drop)]
+#[derive(Clone, Copy)]
 pub struct Run {
     pub words: Words,
     pub met: Met,

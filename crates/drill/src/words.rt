@@ -9,7 +9,7 @@ use slots::{PLACE, get, put};
 use trials::same::{same_index, same_names};
 
 // The words of an index of so many slots and lines, which are the first of each array.
-#[derive(Drop)]
+#[derive(Clone, Copy)]
 pub struct Words {
     pub names: [u64; 1024],
     pub cells: [u32; 3584],
@@ -20,7 +20,7 @@ pub struct Words {
     pub rows: u32,
 }
 
-#[derive(Drop)]
+#[derive(Clone, Copy)]
 pub enum Task {
     Fresh,
     Refuse(u32), // a rollback to this mark, which is past the length
@@ -30,7 +30,7 @@ pub enum Task {
 }
 
 // What is left, and whether it was answered as it has to be.
-#[derive(Drop)]
+#[derive(Clone, Copy)]
 pub struct Done {
     pub words: Words,
     pub right: bool,

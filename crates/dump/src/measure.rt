@@ -6,7 +6,7 @@ ghost use Rattle.dump.specs.Measures.{measure_of};
 use endian::word_at;
 use slots::{MOST_LINES, MOST_SLOTS};
 
-#[derive(Drop)]
+#[derive(Clone, Copy)]
 pub enum Measure {
     Whole(u32, u32), // a dump of so many slots and lines
     Stub(usize), // too few bytes for the two counts

@@ -73,7 +73,7 @@ fn kept_of(made: SalvageMade) -> u32
 }
 
 // How many bytes of a dump and of a text were written.
-#[derive(Drop)]
+#[derive(Clone, Copy)]
 pub struct Rescued {
     pub dumped: usize,
     pub said: usize,

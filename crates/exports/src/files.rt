@@ -14,7 +14,7 @@ use slots::answer::{answer_word, packed};
 use slots::{put_wide, wide};
 
 // The loader that eight words say, unless they say none.
-#[derive(Drop)]
+#[derive(Clone, Copy)]
 pub(crate) enum LoaderAt {
     Known(Loader),
     Unknown,

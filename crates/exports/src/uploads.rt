@@ -11,7 +11,7 @@ use slots::answer::{answer_word, packed};
 use slots::{put_wide, wide};
 
 // The reader that eight words say, unless they say none.
-#[derive(Drop)]
+#[derive(Clone, Copy)]
 pub(crate) enum ReaderAt {
     Known(Reader),
     Unknown,

@@ -16,7 +16,7 @@ use crate::runs::step;
 use sets::accept::{Acceptance, accept};
 
 // What a call answers, and the loader after it.
-#[derive(Drop)]
+#[derive(Clone, Copy)]
 pub struct Load {
     pub reply: LoadReply,
     pub loader: Loader,

@@ -9,13 +9,13 @@ ghost use Rattle.file.specs.Ranged.{CountsTold};
 use crate::reply::LoadReply;
 
 // Nothing is noted, or an answer is that every later call gives again.
-#[derive(Drop)]
+#[derive(Clone, Copy)]
 pub enum LoadNote {
     Unsaid,
     Said(LoadReply),
 }
 
-#[derive(Drop)]
+#[derive(Clone, Copy)]
 pub struct Loader {
     pub section: u64, // the sections that are whole
     pub at: u64, // 8 * the words of the next one that have come, its count the first of them, + the bytes of the next word

@@ -11,7 +11,7 @@ use crate::reply::LoadReply;
 use slots::answer::packed;
 
 // The note that a word says, unless that is no answer of the loader.
-#[derive(Drop)]
+#[derive(Clone, Copy)]
 pub enum LoadNoteAt {
     Known(LoadNote),
     Unknown,

@@ -5,7 +5,7 @@ ghost use Rattle.file.specs.Meanings.{load_reply_of};
 
 use slots::answer::{Answer, given, refused};
 
-#[derive(Drop)]
+#[derive(Clone, Copy)]
 pub enum LoadReply {
     Taken(u32), // the bytes taken since the start; of a start 1
     Unfit, // 1

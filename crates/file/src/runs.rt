@@ -15,7 +15,7 @@ use endian::{read_words, wide_at, word_at};
 use slots::{put_wide, put_word};
 
 // A loader amid a chunk, and the bytes that it took.
-#[derive(Drop)]
+#[derive(Clone, Copy)]
 pub(crate) struct Taking {
     pub loader: Loader,
     pub used: usize,

@@ -11,7 +11,7 @@ use sets::fit::fit_set;
 use slots::answer::{Answer, given, refused};
 
 // What save answers.
-#[derive(Drop)]
+#[derive(Clone, Copy)]
 pub enum SaveReply {
     Written(u32), // the bytes of the file
     Unfit, // 1

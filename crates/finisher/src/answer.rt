@@ -27,7 +27,7 @@ const MOST_BINS: usize = 8160;
 const MOST_HEADS: usize = 3 * 4096;
 
 // How many bytes of a file and of a line were written.
-#[derive(Drop)]
+#[derive(Clone, Copy)]
 pub struct FileFinished {
     pub written: usize,
     pub said: usize,

@@ -11,7 +11,7 @@ use slots::{NULL, ROOT, word};
 use tree::check::{Checked as Walked, check_invariants};
 
 // What the source's check answers, with the number of each refusal.
-#[derive(Drop)]
+#[derive(Clone, Copy)]
 pub enum Checked {
     Passes,
     Fails(u8, u32), // 100 and the test, with its slot

@@ -12,7 +12,7 @@ use slots::{NULL, ROOT, word};
 use tree::find::{Counted, Found as Searched, find_tree_node, with_looks};
 
 // What find answers, with the number of each refusal, and last how many slots it looked at.
-#[derive(Drop)]
+#[derive(Clone, Copy)]
 pub enum Found {
     At(u32, u32),
     Nothing(u32),

@@ -14,7 +14,7 @@ use slots::answer::{Answer, given, refused};
 use slots::{NULL, put_word};
 
 // Whether an empty index stands in the slices.
-#[derive(Drop)]
+#[derive(Clone, Copy)]
 pub enum Freshness {
     Made,
     Unfit,

@@ -14,7 +14,7 @@ use slots::{NULL, ROOT, word};
 use tree::find::{Found, find_tree_node};
 
 // What insert answers, with the number of each refusal.
-#[derive(Drop)]
+#[derive(Clone, Copy)]
 pub enum Inserted {
     At(u32), // the slot taken
     Unfit, // 1

@@ -18,14 +18,14 @@ use slots::{NULL, PLACE, ROOT, get, put, word};
 use tree::find::{Found, find_tree_node};
 
 // What comes of undoing a line: it is undone, with the slot that it freed, null where it freed none; or it does not fit.
-#[derive(Drop)]
+#[derive(Clone, Copy)]
 enum Undone {
     Freed(u32),
     Misfit,
 }
 
 // What comes of undoing lines: they are undone; or one does not fit.
-#[derive(Drop)]
+#[derive(Clone, Copy)]
 pub(crate) enum Undoing {
     Done,
     Misfit,

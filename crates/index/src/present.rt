@@ -13,7 +13,7 @@ use slots::{NULL, ROOT, word};
 use tree::find::{Found, find_tree_node};
 
 // What remove and replace answer, with the number of each refusal.
-#[derive(Drop)]
+#[derive(Clone, Copy)]
 pub enum Presence {
     At(u32), // the slot that has the pair; of an accepted remove the slot freed
     Unfit, // 1

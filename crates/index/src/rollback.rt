@@ -18,7 +18,7 @@ use slots::answer::{Answer, given, refused};
 use slots::{COUNT, FIRST, MOST_CELLS, MOST_NAMES, MOST_SLOTS, NULL, ROOT, word};
 
 // What rollback answers, with the number of each refusal.
-#[derive(Drop)]
+#[derive(Clone, Copy)]
 pub enum RolledBack {
     Lines(u32), // how many lines were undone
     Unfit, // 1

@@ -207,7 +207,7 @@ fn is_sound(names: &[u64], cells: &[u32], head: &[u32], sizes: &[u32]) -> bool
 }
 
 // What the full check answers.
-#[derive(Drop)]
+#[derive(Clone, Copy)]
 pub enum Soundness {
     Yes,
     No,

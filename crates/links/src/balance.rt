@@ -11,7 +11,7 @@ use crate::rotate::rotate;
 use slots::{BLACK, LEFT, NULL, PARENT, RED, RIGHT, STATE, colour, get, is_red, put};
 
 // What a turn comes to: the loop ends with this root, or goes on with this root from this slot.
-#[derive(Drop)]
+#[derive(Clone, Copy)]
 enum Step {
     Done(u32),
     More(u32, u32),

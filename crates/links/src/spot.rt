@@ -7,7 +7,7 @@ ghost use Rattle.redblack.specs.Links.{lent_links};
 use slots::{HASH, KEY, LEFT, NULL, RIGHT, comes_before, get, name};
 
 // The slot above, null where the tree is empty, and the field of the side to hang on.
-#[derive(Drop)]
+#[derive(Clone, Copy)]
 pub(crate) struct Spot {
     pub(crate) above: u32,
     pub(crate) side: u32,

@@ -13,7 +13,7 @@ use sets::fit::{fit_set, length_at};
 use slots::word;
 
 // How far it has come.
-#[derive(Drop)]
+#[derive(Clone, Copy)]
 pub struct FinishTold {
     pub number: u32, // of the refusal that stopped it, 0 where none has
     pub table: usize, // the table and the bin of that move

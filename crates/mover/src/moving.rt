@@ -16,7 +16,7 @@ use sets::fit::{fit_set, length_at};
 use slots::answer::{Answer, given, refused};
 
 // What a move answers.
-#[derive(Drop)]
+#[derive(Clone, Copy)]
 pub enum MoveReply {
     Moved(u32), // the entries moved
     Unfit, // 1

@@ -6,7 +6,7 @@ ghost use Rattle.night.specs.Told.{way_of, account_of};
 use slots::NULL;
 
 // A way from the root to a null link: its last slot, the side of that link (0 left, 1 right), and the black slots met.
-#[derive(Drop)]
+#[derive(Clone, Copy)]
 pub struct WayDown {
     pub last: u32,
     pub side: u32,
@@ -14,7 +14,7 @@ pub struct WayDown {
 }
 
 // The number of the first broken rule, 0 for a sound tree, and what shows it; words that say nothing are null.
-#[derive(Drop)]
+#[derive(Clone, Copy)]
 pub struct Account {
     pub rule: u32,
     pub slot: u32,

@@ -7,7 +7,7 @@ ghost use Rattle.night.specs.Told.{blacks_of, held_number};
 use slots::{LEFT, NULL, RIGHT, get, is_red};
 
 // So many black slots on every way down, or not equally many.
-#[derive(Drop)]
+#[derive(Clone, Copy)]
 pub(crate) enum Blacks {
     Even(usize),
     Uneven,

@@ -23,7 +23,7 @@ use slots::{
 use tree::check::in_range;
 
 // What breaks the rule, with the numbers that show it.
-#[derive(Drop)]
+#[derive(Clone, Copy)]
 pub enum Breach {
     StrayLink(u32, u32), // T1: a link's field, the link
     StrayState(u32), // the state

@@ -9,7 +9,7 @@ use crate::breach::{Breach, broken_by};
 use crate::why::{Explanation, why};
 
 // What examine answers.
-#[derive(Drop)]
+#[derive(Clone, Copy)]
 pub enum Finding {
     Sound,
     Broken(Account, Breach),

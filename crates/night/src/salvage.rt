@@ -172,7 +172,7 @@ fn fits_salvage(
 }
 
 // What salvage answers.
-#[derive(Drop)]
+#[derive(Clone, Copy)]
 pub enum SalvageMade {
     Kept(u32), // how many slots are kept
     Unfit, // 1

@@ -33,7 +33,7 @@ fn explain(names: &[u64], cells: &[u32], head: &[u32], sizes: &[u32]) -> Account
 }
 
 // What why answers.
-#[derive(Drop)]
+#[derive(Clone, Copy)]
 pub enum Explanation {
     Told(Account),
     Unfit, // 1

@@ -31,7 +31,7 @@ pub(crate) fn kth_slot(cells: &[u32], sizes: &[u32], root: u32, k: u32, steps: u
 }
 
 // A position, or that the pair is not met.
-#[derive(Drop)]
+#[derive(Clone, Copy)]
 pub(crate) enum Rank {
     At(u32),
     Absent,

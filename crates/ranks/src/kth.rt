@@ -11,7 +11,7 @@ use slots::answer::{Answer, given, refused};
 use slots::{COUNT, NULL, ROOT, word};
 
 // What kth answers, with the number of each refusal.
-#[derive(Drop)]
+#[derive(Clone, Copy)]
 pub enum KthSlot {
     At(u32), // the slot of the pair at the position
     Unfit, // 1

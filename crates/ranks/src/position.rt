@@ -11,7 +11,7 @@ use slots::answer::{Answer, given, refused};
 use slots::{NULL, ROOT, word};
 
 // What position answers, with the number of each refusal.
-#[derive(Drop)]
+#[derive(Clone, Copy)]
 pub enum Positioned {
     At(u32), // the position
     Unfit, // 1

@@ -12,7 +12,7 @@ use index::rollback::{RolledBack, rollback, rollback_sound};
 use index::sound::{Soundness, sound_index};
 
 // What an insert answered, whether the check has said yes, and then a slot below which none is free.
-#[derive(Drop)]
+#[derive(Clone, Copy)]
 pub(crate) struct Entered {
     pub inserted: Inserted,
     pub checked: bool,

@@ -11,7 +11,7 @@ use crate::words::Note;
 use slots::answer::{Value, packed};
 
 // The note that a word says, unless that is no answer of the reader.
-#[derive(Drop)]
+#[derive(Clone, Copy)]
 pub enum NoteAt {
     Known(Note),
     Unknown,

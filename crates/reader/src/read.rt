@@ -12,7 +12,7 @@ use index::journal::length_of;
 use index::sound::{Soundness, sound_index};
 
 // What a call answers, and the reader after it.
-#[derive(Drop)]
+#[derive(Clone, Copy)]
 pub struct Read {
     pub reply: Reply,
     pub reader: Reader,

@@ -11,7 +11,7 @@ use index::rollback::RolledBack;
 use slots::answer::{Answer, Value, given, refused};
 
 // What a call of the reader answers, with the number of each refusal.
-#[derive(Drop)]
+#[derive(Clone, Copy)]
 pub enum Reply {
     Given(u32), // the entries taken since the start; of a start 1
     Unfit, // 1

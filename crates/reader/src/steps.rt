@@ -17,7 +17,7 @@ use index::journal::length_of;
 use slots::NULL;
 
 // A reader amid a chunk: whether the check has said yes in it, and then a slot below which none is free.
-#[derive(Drop)]
+#[derive(Clone, Copy)]
 pub(crate) struct Reading {
     pub reader: Reader,
     pub checked: bool,

@@ -6,13 +6,13 @@ ghost use Rattle.reader.specs.Meanings.{words_of, reply_of};
 use crate::reply::Reply;
 
 // Nothing is noted, or an answer is that every later call gives again.
-#[derive(Drop)]
+#[derive(Clone, Copy)]
 pub enum Note {
     Unsaid,
     Said(Reply),
 }
 
-#[derive(Drop)]
+#[derive(Clone, Copy)]
 pub struct Reader {
     pub section: u64, // the sections that are whole
     pub got: u64, // the bytes of the next one's header that have come, 0 to 2; in its entries 3 and the bytes of the entry

@@ -73,7 +73,7 @@ fn is_accepted(lengths: &[u32], bins: &[u32], heads: &[u32], names: &[u64], cell
 }
 
 // What acceptance answers.
-#[derive(Drop)]
+#[derive(Clone, Copy)]
 pub enum Acceptance {
     Yes,
     No,

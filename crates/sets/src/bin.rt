@@ -47,7 +47,7 @@ const FIRST_TREE: u32 = 4098;
 const LAST_TREE: u32 = 8193;
 
 // What a bin word says, by its range.
-#[derive(Drop)]
+#[derive(Clone, Copy)]
 pub enum Bin {
     Empty,
     Moved,
@@ -90,7 +90,7 @@ pub(crate) fn bin_from(bins: &[u32], n: usize, h: usize, from: usize, i: u32) ->
 }
 
 // The index of the bin for a hash.
-#[derive(Drop)]
+#[derive(Clone, Copy)]
 pub enum Home {
     Bin(u32),
     Unfit, // 1

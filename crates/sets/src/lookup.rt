@@ -127,7 +127,7 @@ pub fn lookup_fit(
 }
 
 // What lookup answers, with the number of each refusal, and last how many slots it looked at.
-#[derive(Drop)]
+#[derive(Clone, Copy)]
 pub enum Looked {
     At(u32, u32),
     Nothing(u32),

@@ -14,7 +14,7 @@ use slots::answer::{Answer, given, nothing, refused};
 use slots::{FIRST, NEXT, NULL, get};
 
 // What the loop over the bins comes to: an entry, and the depth of the point after it; the end; or it is lost.
-#[derive(Drop)]
+#[derive(Clone, Copy)]
 enum Sought {
     At(u32, u32),
     Ended,
@@ -78,7 +78,7 @@ fn seek(
 }
 
 // Where a walk stands: the base table, the depth, the index at each level from the base down to it, and the slot last given.
-#[derive(Drop)]
+#[derive(Clone, Copy)]
 pub struct Cursor {
     pub base: u32,
     pub depth: u32,
@@ -87,7 +87,7 @@ pub struct Cursor {
 }
 
 // What start answers, with the number of each refusal.
-#[derive(Drop)]
+#[derive(Clone, Copy)]
 pub enum Started {
     Made,
     Unfit, // 1
@@ -108,14 +108,14 @@ impl Started {
 }
 
 // What start answers, and the cursor made; all zero where it is refused.
-#[derive(Drop)]
+#[derive(Clone, Copy)]
 pub struct Start {
     pub answer: Started,
     pub cursor: Cursor,
 }
 
 // What next answers, with the number of each refusal.
-#[derive(Drop)]
+#[derive(Clone, Copy)]
 pub enum Given {
     Entry(u32),
     Done,
@@ -140,7 +140,7 @@ impl Given {
 }
 
 // What next answers, and the cursor after; the same where it is refused.
-#[derive(Drop)]
+#[derive(Clone, Copy)]
 pub struct Step {
     pub answer: Given,
     pub cursor: Cursor,

@@ -6,14 +6,14 @@ ghost use Rattle.slots.specs.Coded.{answer_of};
 use crate::NULL;
 
 // What comes with a number: nothing, or a number of its own (a slot, the lines undone).
-#[derive(Drop)]
+#[derive(Clone, Copy)]
 pub enum Value {
     None,
     Some(u32),
 }
 
 // The number, 0 where the call is not refused, and the value that comes with it.
-#[derive(Drop)]
+#[derive(Clone, Copy)]
 pub struct Answer {
     pub number: u32,
     pub value: Value,

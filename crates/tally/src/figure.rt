@@ -13,7 +13,7 @@ use file::loader::Loader;
 use slots::wide;
 
 // What a call answers, and the stream after it.
-#[derive(Drop)]
+#[derive(Clone, Copy)]
 pub struct Figured {
     pub reply: StreamReply,
     pub stream: Stream,

@@ -213,7 +213,7 @@ fn own_bytes(left: u64, rest: &[u8]) -> usize
 }
 
 // The stream after some bytes, and how many they are.
-#[derive(Drop)]
+#[derive(Clone, Copy)]
 pub(crate) struct Taking {
     pub stream: Stream,
     pub used: usize,

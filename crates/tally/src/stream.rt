@@ -10,7 +10,7 @@ use file::load::may_go_on;
 use file::loader::Loader;
 use slots::answer::{Answer, given, refused};
 
-#[derive(Drop)]
+#[derive(Clone, Copy)]
 pub struct Stream {
     pub got: u64, // the bytes of the length that have come, 4 while the set's own come
     pub left: u64, // the number of those bytes; then the set's bytes that are to come
@@ -19,7 +19,7 @@ pub struct Stream {
 }
 
 // What a call on a stream answers.
-#[derive(Drop)]
+#[derive(Clone, Copy)]
 pub enum StreamReply {
     Counted(u32), // the sets that are counted so far
     Unfit, // 1

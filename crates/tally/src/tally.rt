@@ -12,7 +12,7 @@ use slots::answer::{Answer, given, refused};
 use slots::wide;
 
 // What tally answers.
-#[derive(Drop)]
+#[derive(Clone, Copy)]
 pub enum TallyReply {
     Accepted, // counted as accepted
     Refused, // counted as refused

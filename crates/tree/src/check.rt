@@ -131,7 +131,7 @@ pub fn links_in(n: usize, cells: &[u32], i: u32) -> bool
 }
 
 // What a visit comes to: all passes, with so many visits left; a test fails at a slot; or the walk is lost.
-#[derive(Drop)]
+#[derive(Clone, Copy)]
 enum Walk {
     Passed(usize),
     Failed(u8, u32),
@@ -173,7 +173,7 @@ fn visit(names: &[u64], cells: &[u32], i: u32, visits: usize) -> Walk
 }
 
 // What the source's check of one tree answers.
-#[derive(Drop)]
+#[derive(Clone, Copy)]
 pub enum Checked {
     Passes,
     Fails(u8, u32),

@@ -10,7 +10,7 @@ use slots::answer::Answer;
 use slots::{HASH, KEY, LEFT, NULL, RIGHT, get};
 
 // What a look at a slot says: the pair is here, or the search goes on along a link.
-#[derive(Drop)]
+#[derive(Clone, Copy)]
 enum Seen {
     Here,
     On(u32),
@@ -67,7 +67,7 @@ fn look(names: &[u64], cells: &[u32], p: u32, hash: u64, key: u64) -> Seen
 }
 
 // What find_tree_node answers, and last how many slots it looked at.
-#[derive(Drop)]
+#[derive(Clone, Copy)]
 pub enum Found {
     At(u32, usize),
     Nothing(usize),
@@ -75,7 +75,7 @@ pub enum Found {
 }
 
 // A search as it is told: the number and value of its answer, and how many slots it looked at.
-#[derive(Drop)]
+#[derive(Clone, Copy)]
 pub struct Counted {
     pub answer: Answer,
     pub looks: u32,

@@ -54,7 +54,7 @@ fn has_size(sizes: &[u32], i: u32, m: usize) -> bool
 
 // What a walk down from a link comes to: the visits left, the slot read last, and how many black slots every way down meets;
 // or that a rule is broken.
-#[derive(Drop)]
+#[derive(Clone, Copy)]
 enum Part {
     Obeys(usize, u32, usize),
     Breaks,
@@ -131,7 +131,7 @@ fn walk(
 }
 
 // The visits left after a walk, or that it goes wrong.
-#[derive(Drop)]
+#[derive(Clone, Copy)]
 pub enum Rest {
     Left(usize),
     Wrong,
@@ -172,7 +172,7 @@ pub fn survey(names: &[u64], cells: &[u32], root: u32, visits: usize) -> Rest
 }
 
 // The number of a tree's slots, or that it breaks a rule.
-#[derive(Drop)]
+#[derive(Clone, Copy)]
 pub enum Size {
     Slots(usize),
     Broken,

@@ -8,7 +8,7 @@ ghost use Rattle.trials.specs.Playing.{agreed, played, playing};
 use console::feed::{Fed, Line, blank, feed, finish};
 
 // Whether all was as expected so far, and how much of what is expected has come.
-#[derive(Drop)]
+#[derive(Clone, Copy)]
 pub struct Met {
     pub same: bool,
     pub at: usize,

@@ -1,7 +1,7 @@
 // The list of answers as decimal numbers, each with one byte after it.
 
 // A number, and where the next one starts.
-#[derive(Drop)]
+#[derive(Clone, Copy)]
 pub struct Read {
     pub value: u32,
     pub at: usize,

@@ -13,7 +13,7 @@ use trials::print::figure;
 use words::one_if;
 
 // The lines of a tree, up to the next tree: where it starts, how many there were and how many of them differ.
-#[derive(Drop)]
+#[derive(Clone, Copy)]
 struct Seen {
     at: usize,
     lines: u32,

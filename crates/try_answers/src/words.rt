@@ -3,7 +3,7 @@ use crate::list::number;
 use slots::{HASH, KEY, NULL, PLACE, get, name, put, put_name};
 
 // Where the list goes on, and how many of the words differ.
-#[derive(Drop)]
+#[derive(Clone, Copy)]
 pub struct Held {
     pub at: usize,
     pub wrong: u32,

@@ -118,7 +118,7 @@ pub fn grow(names: &mut [u64], cells: &mut [u32], sizes: &mut [u32]) {
 }
 
 // The first and the last slot of a chain; null if there is none.
-#[derive(Drop)]
+#[derive(Clone, Copy)]
 pub struct Ends {
     pub first: u32,
     pub last: u32,

@@ -17,7 +17,7 @@ const KINDS: u32 = 6;
 
 // What came of the damaged trees: how many there were, sound and not, judged otherwise by the naive judge, and passed by the
 // source's own check.
-#[derive(Drop)]
+#[derive(Clone, Copy)]
 pub struct Tally {
     pub tried: u32,
     pub yes: u32,
@@ -249,7 +249,7 @@ fn damage(names: &mut [u64], cells: &mut [u32], head: &mut [u32], sizes: &mut [u
 }
 
 // What came of the sizes that were changed to another number: how many there were, and those for which insert answered 2.
-#[derive(Drop)]
+#[derive(Clone, Copy)]
 struct Sized {
     changed: u32,
     refused: u32,

@@ -15,7 +15,7 @@ const OVER: usize = 39;
 pub const FILES: usize = 17;
 
 // What a file adds: 0 or 1 for sets, entries, lists, trees, and the entries found at one look and at two.
-#[derive(Drop)]
+#[derive(Clone, Copy)]
 struct Share {
     sets: u64,
     entries: u64,

@@ -50,7 +50,7 @@ pub fn try_cuts(label: &[u8], bytes: &[u8]) {
 }
 
 // What came of several files: how many of each number, and how many are right.
-#[derive(Drop)]
+#[derive(Clone, Copy)]
 struct Tally {
     tried: u64,
     accepted: u64,

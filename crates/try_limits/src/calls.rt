@@ -14,7 +14,7 @@ use slots::{PLACE, get, put, put_name};
 use trials::print::{answer, verdict};
 
 // A call of a pair is of the pair with that number.
-#[derive(Drop)]
+#[derive(Clone, Copy)]
 pub enum Call {
     Fresh,
     Insert(u32, u32), // a pair, with this place
@@ -115,7 +115,7 @@ pub fn say_answer(label: &[u8], call: Call, told: Answer) {
 }
 
 // A word, and what it is set to.
-#[derive(Drop)]
+#[derive(Clone, Copy)]
 pub enum Word {
     Root(u32),
     Count(u32),

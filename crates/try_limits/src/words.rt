@@ -10,7 +10,7 @@ use trials::print::{line, name as say_name, say};
 use trials::same::same_index;
 
 // How many words of each slice are lent.
-#[derive(Drop)]
+#[derive(Clone, Copy)]
 pub struct Room {
     pub names: usize,
     pub cells: usize,
@@ -19,7 +19,7 @@ pub struct Room {
     pub lines: usize,
 }
 
-#[derive(Drop)]
+#[derive(Clone, Copy)]
 pub struct Words {
     pub names: [u64; 8195],
     pub cells: [u32; 28680],
@@ -30,7 +30,7 @@ pub struct Words {
 }
 
 // What is done with the words that are lent.
-#[derive(Drop)]
+#[derive(Clone, Copy)]
 pub enum Step {
     One(Call),
     Enter(u32, Order), // so many pairs go in, each with its number as its place
@@ -40,7 +40,7 @@ pub enum Step {
 }
 
 // What is left, and what was answered. The number of accepted calls, or of what is counted, is the answer's value.
-#[derive(Drop)]
+#[derive(Clone, Copy)]
 pub struct Done {
     pub words: Words,
     pub told: Answer,

@@ -9,7 +9,7 @@ use slots::{
 };
 
 // The table, the entries of each half, whether they are a tree, whether those of a half have one hash, and the set's headers.
-#[derive(Drop)]
+#[derive(Clone, Copy)]
 pub struct Trial {
     pub table: u32,
     pub low: u32,

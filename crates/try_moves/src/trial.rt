@@ -9,7 +9,7 @@ use crate::words::{BINS, CELLS, HEADS, NAMES, TABLES, lengths, same_set};
 use mover::moving::{MoveReply, move_bin};
 
 // What came of a move: whether all but the words is right, the number, and the entries moved.
-#[derive(Drop)]
+#[derive(Clone, Copy)]
 struct Moving {
     whole: bool,
     number: u32,

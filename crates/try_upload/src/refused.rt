@@ -8,7 +8,7 @@ use slots::answer::answer_word;
 use trials::print::{number, say};
 
 // How much was wrong in a trial, and 1 where a planted name was noticed.
-#[derive(Drop)]
+#[derive(Clone, Copy)]
 struct Seen {
     wrong: u32,
     noticed: u32,

@@ -101,7 +101,7 @@ fn second_rule(head: &[u32]) -> [u32; 9] {
 }
 
 // Two neighbours in order.
-#[derive(Drop)]
+#[derive(Clone, Copy)]
 struct Two {
     slot: u32,
     other: u32,

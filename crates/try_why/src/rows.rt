@@ -5,7 +5,7 @@ use slots::{FREE, LEFT, NEXT, NULL, RIGHT, STATE, get, put_word, word};
 pub const MOST: u32 = 7;
 
 // Slots one after the other, and how many there are.
-#[derive(Drop)]
+#[derive(Clone, Copy)]
 pub struct Row {
     pub slots: [u32; 16],
     pub len: u32,

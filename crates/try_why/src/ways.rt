@@ -41,7 +41,7 @@ pub fn parts(cells: &[u32], i: u32) -> bool {
 
 // A way as far as it has been gone: the link where it is, the sides to go on by as the bits of a number, the last slot and the side that it
 // was left by, the black slots met, and whether it goes as it should: 0 not yet, 1 so far, 2 not at all.
-#[derive(Drop)]
+#[derive(Clone, Copy)]
 struct Trail {
     at: u32,
     sides: u32,
