@@ -32,9 +32,9 @@ four_bytes a b c d ha hb hc hd =
 -- One file more in front.
 in_front : {l : List ℕ} (f rest : List ℕ) → Bytes f → length f < 4294967296 → l ≡ block f ++ rest → Input rest → Input l
 unfolding blocks
-in_front f rest k b e (Input.whole ls fs z) = Input.whole (f ∷ ls) (Files.one_more k b fs) (e ∙ ap (λ (x : List ℕ). block f ++ x) z)
+in_front f rest k b e (Input.whole ls fs z) = Input.whole (f ∷ ls) (Files.one_more_lem k b fs) (e ∙ ap (λ (x : List ℕ). block f ++ x) z)
 in_front f rest k b e (Input.cut ls r fs c z) =
-    Input.cut (f ∷ ls) r (Files.one_more k b fs) c (e ∙ ap (λ (x : List ℕ). block f ++ x) z ∙ sym (append_assoc (block f) (blocks ls) r))
+    Input.cut (f ∷ ls) r (Files.one_more_lem k b fs) c (e ∙ ap (λ (x : List ℕ). block f ++ x) z ∙ sym (append_assoc (block f) (blocks ls) r))
 
 step : (k : ℕ) {l : List ℕ} → Bytes l → length l ≤ suc k → ((m : List ℕ) → Bytes m → length m ≤ k → Input m) → Input l
 unfolding blocks

@@ -68,7 +68,7 @@ pub record Runs (n : ℕ) (look : ℕ → Look) (run : ℕ → ℕ → Search) :
   pub at_null : (visits p : ℕ) → p ≡ null → run visits p ≡ ends nothing
   pub out_of_range : (visits p : ℕ) → p ≢ null → n ≤ p → run visits p ≡ ends (refused 9)
   pub visits_spent : (p : ℕ) → p ≢ null → run 0 p ≡ ends (refused 9)
-  pub at_slot_lem : (visits p : ℕ) → p ≢ null → p < n → run (suc visits) p ≡ looked_then (look p) p (λ q. run visits q)
+  pub at_slot : (visits p : ℕ) → p ≢ null → p < n → run (suc visits) p ≡ looked_then (look p) p (λ q. run visits q)
 
 module _ {n : ℕ} {look : ℕ → Look} {run : ℕ → ℕ → Search} (r : Runs n look run) where
   -- What a search comes to, by the looks on its way.
