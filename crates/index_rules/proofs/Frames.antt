@@ -175,7 +175,8 @@ below_frame {p = p} e (before {i} {l} h b) =
     before (subst (λ (q : Pair). Less p q) (sym (e i (omega (arith, times_head i l)))) h)
     (below_frame (λ k z. e k (omega (arith, times_rest k i l))) b)
 
-pub rising_frame : {names other l : List ℕ} → ((k : ℕ) → 1 ≤ times k l → pair_of other k ≡ pair_of names k) → Rising names l → Rising other l
+pub rising_frame : {names other l : List ℕ} → ((k : ℕ) → 1 ≤ times k l → pair_of other k ≡ pair_of names k) → Rising names l
+    → Rising other l
 rising_frame e empty = empty
 rising_frame {other = other} e (rise {i} {l} h r) =
     let f : (k : ℕ) → 1 ≤ times k l → pair_of other k ≡ pair_of _ k = λ k z. e k (omega (arith, times_rest k i l)) in
@@ -233,7 +234,8 @@ pub name_across : (l : List ℕ) (i f v j g : ℕ) → eqb f g ≡ false → ltb
 unfolding rename name_of
 name_across l i f v j g e hf hg = word_across parts 0 l i f v j g e hf hg
 
-pub name_else : (l : List ℕ) (i f v j g : ℕ) → j ≢ i → ltb f parts ≡ true → ltb g parts ≡ true → name_of (rename l i f v) j g ≡ name_of l j g
+pub name_else : (l : List ℕ) (i f v j g : ℕ) → j ≢ i → ltb f parts ≡ true → ltb g parts ≡ true
+    → name_of (rename l i f v) j g ≡ name_of l j g
 unfolding rename name_of
 name_else l i f v j g n hf hg = word_else parts 0 l i f v j g n hf hg
 

@@ -109,7 +109,8 @@ module _ (names cells : List ℕ) (few : slots_of names ≤ null) where
   -- The eight tests at the top of a tree.
   all_pass : {q : ℕ} {c : Colour} {l r : Tree} {i : ℕ} → Hangs (slots_of names) cells q (node c l i r) → Calm (node c l i r)
       → Rising names (slots (node c l i r))
-      → (q ≢ null → (cell cells q left ≡ i) ⊎ (cell cells q right ≡ i)) → Beside names cells (node c l i r) → first_failing names cells i ≡ 0
+      → (q ≢ null → (cell cells q left ≡ i) ⊎ (cell cells q right ≡ i)) → Beside names cells (node c l i r)
+      → first_failing names cells i ≡ 0
   unfolding slots
   all_pass {q} {c} {l} {r} {i} (hangsSome k a b) calm rising above beside =
       let here : 1 ≤ times i (slots l ++ (i ∷ slots r)) = omega (arith, times_append i (slots l) (i ∷ slots r), times_head i (slots r)) in

@@ -122,7 +122,8 @@ module _ (names cells : List ℕ) (first hash key : ℕ) where
           rw (visits_spent names cells hash key p n)
           (lost (record { visited = k; link = p; follows = f; solid = n; astray = inr (omega arith) }))
   from (suc v) k p f e =
-      go (ℕ_discrete p null) (dec_lt p (slots_of names)) (decided names p hash key) (λ g. from v (suc k) (cell cells p next) g (omega arith))
+      go (ℕ_discrete p null) (dec_lt p (slots_of names)) (decided names p hash key)
+      (λ g. from v (suc k) (cell cells p next) g (omega arith))
     where
       go : Dec (p ≡ null) → Dec (p < slots_of names) → Dec (pair_of names p ≡ pair hash key)
           → (ListFollows names cells first hash key (suc k) (cell cells p next)

@@ -30,7 +30,8 @@ module _ (names cells : List ℕ) (root hash key : ℕ) where
   trace : {k p : ℕ} → Follows names cells root hash key k p → k ≤ slots_of names
       → (found names cells root hash key).answer ≡ (searched names cells (slots_of names - k) p hash key).answer
   unfolding found
-  trace start l = let z : slots_of names ≡ slots_of names - 0 = omega arith in ap (λ (v : ℕ). (searched names cells v root hash key).answer) z
+  trace start l = let z : slots_of names ≡ slots_of names - 0 = omega arith in
+      ap (λ (v : ℕ). (searched names cells v root hash key).answer) z
   trace (step {k} {p} {q} f n i e) l =
       trace f (omega arith) ∙ ap (λ (v : ℕ). (searched names cells v p hash key).answer) (fewer (slots_of names) k l)
       ∙ onward (slots_of names - suc k) n i e
