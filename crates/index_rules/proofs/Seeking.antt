@@ -78,10 +78,10 @@ module _ (names cells : List ℕ) (few : slots_of names ≤ null) (hash key : �
   where_is : (c : Colour) (l r : Tree) (i x : ℕ) → Rising names (slots (node c l i r)) → 1 ≤ times x (slots (node c l i r))
       → Sought x → {A : Type 0}
       → (1 ≤ times x (slots l) → (hash < name_of names i hash_part) ⊎ ((hash ≡ name_of names i hash_part) × (key < name_of names i key_part))
-        → A)
+      → A)
       → (x ≡ i → A)
       → (1 ≤ times x (slots r) → (name_of names i hash_part < hash) ⊎ ((name_of names i hash_part ≡ hash) × (name_of names i key_part < key))
-        → A)
+      → A)
       → A
   unfolding slots
   where_is c l r i x rising z s lefts same rights =
