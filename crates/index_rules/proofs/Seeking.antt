@@ -77,10 +77,11 @@ module _ (names cells : List ℕ) (few : slots_of names ≤ null) (hash key : �
   -- Where a sought slot stands in a node: on the left below it, there, or on the right above it.
   where_is : (c : Colour) (l r : Tree) (i x : ℕ) → Rising names (slots (node c l i r)) → 1 ≤ times x (slots (node c l i r))
       → Sought x → {A : Type 0}
-      → (1 ≤ times x (slots l) → (hash < name_of names i hash_part) ⊎ ((hash ≡ name_of names i hash_part) × (key < name_of names i key_part))
-      → A)
+      → (1 ≤ times x (slots l)
+      → (hash < name_of names i hash_part) ⊎ ((hash ≡ name_of names i hash_part) × (key < name_of names i key_part)) → A)
       → (x ≡ i → A)
-      → (1 ≤ times x (slots r) → (name_of names i hash_part < hash) ⊎ ((name_of names i hash_part ≡ hash) × (name_of names i key_part < key))
+      → (1 ≤ times x (slots r)
+      → (name_of names i hash_part < hash) ⊎ ((name_of names i hash_part ≡ hash) × (name_of names i key_part < key))
       → A)
       → A
   unfolding slots
