@@ -79,8 +79,8 @@ up_to_million l b = all_figures l no_totals false no_fit (omega (arith, no_word 
 -- Files in another order.
 order_files : {l m : List (List ℕ)} → Reordered l m → Files l → Files m
 order_files nothing fs = fs
-order_files (keep r) (Files.one_more k b fs) = Files.one_more k b (order_files r fs)
-order_files swap (Files.one_more k b (Files.one_more j c fs)) = Files.one_more j c (Files.one_more k b fs)
+order_files (keep r) (Files.one_more_lem k b fs) = Files.one_more_lem k b (order_files r fs)
+order_files swap (Files.one_more_lem k b (Files.one_more_lem j c fs)) = Files.one_more_lem j c (Files.one_more_lem k b fs)
 order_files (then r q) fs = order_files q (order_files r fs)
 
 order_sets : {l m : List (List ℕ)} → Reordered l m → Reordered (file_sets l) (file_sets m)

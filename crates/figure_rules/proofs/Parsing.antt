@@ -32,9 +32,10 @@ four_bytes a b c d ha hb hc hd =
 -- One file more in front.
 in_front : {l : List ℕ} (f rest : List ℕ) → Bytes f → length f < 4294967296 → l ≡ block f ++ rest → Input rest → Input l
 unfolding blocks
-in_front f rest k b e (Input.whole ls fs z) = Input.whole (f ∷ ls) (Files.one_more k b fs) (e ∙ ap (λ (x : List ℕ). block f ++ x) z)
+in_front f rest k b e (Input.whole ls fs z) = Input.whole (f ∷ ls) (Files.one_more_lem k b fs) (e ∙ ap (λ (x : List ℕ). block f ++ x) z)
 in_front f rest k b e (Input.cut ls r fs c z) =
-    Input.cut (f ∷ ls) r (Files.one_more k b fs) c (e ∙ ap (λ (x : List ℕ). block f ++ x) z ∙ sym (append_assoc (block f) (blocks ls) r))
+    Input.cut (f ∷ ls) r (Files.one_more_lem k b fs) c
+    (e ∙ ap (λ (x : List ℕ). block f ++ x) z ∙ sym (append_assoc (block f) (blocks ls) r))
 
 step : (k : ℕ) {l : List ℕ} → Bytes l → length l ≤ suc k → ((m : List ℕ) → Bytes m → length m ≤ k → Input m) → Input l
 unfolding blocks
@@ -52,7 +53,8 @@ step k (another {b = a} ha (another {b = b} hb (another {b = c} hc (another {b =
     front x = ap (λ (y : List ℕ). y ++ x) (sym (four_bytes a b c d ha hb hc hd))
 
     go : Dec (length m < four_of a b c d) → Input (a ∷ (b ∷ (c ∷ (d ∷ m))))
-    go (yes l) = Input.cut [] (little 4 (four_of a b c d) ++ m) Files.no_file (CutShort.in_set (four_of a b c d) m (omega arith) l) (front m)
+    go (yes l) = Input.cut [] (little 4 (four_of a b c d) ++ m) Files.no_file (CutShort.in_set (four_of a b c d) m (omega arith) l)
+        (front m)
     go (no l) =
         let t = length-take-le (four_of a b c d) m (omega arith) in
         in_front (take (four_of a b c d) m) (drop (four_of a b c d) m) (bytes_split (four_of a b c d) km).0 (omega arith)

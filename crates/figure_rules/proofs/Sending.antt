@@ -127,8 +127,8 @@ file_short s m =
 sent_files : {l m : List Set} → Sent l m → Files (files_of l)
 unfolding files_of
 sent_files Sent.none_sent = Files.no_file
-sent_files (Sent.itself {s = s} may k d) = Files.one_more (set_are_bytes s) (file_short s may) (sent_files d)
-sent_files (Sent.past {s = s} may k d) = Files.one_more (set_are_bytes s) (file_short s may) (sent_files d)
+sent_files (Sent.itself {s = s} may k d) = Files.one_more_lem (set_are_bytes s) (file_short s may) (sent_files d)
+sent_files (Sent.past {s = s} may k d) = Files.one_more_lem (set_are_bytes s) (file_short s may) (sent_files d)
 
 pub sent_figures : {l m : List Set} → Sent l m → figures_of (blocks (files_of l)) ≡ with_sets no_figures m
 sent_figures {l} d = whole_figures (files_of l) (sent_files d) ∙ sent_counts no_figures d

@@ -81,7 +81,7 @@ pub record BlocksRun (d : Loading) (f : Figures) (ls : List (List ℕ)) : Type 0
 pub run_blocks : (d : Loading) (f : Figures) (ls : List (List ℕ)) → Files ls → SameLengths week_slices d.set → BlocksRun d f ls
 unfolding blocks file_sets with_sets bytes_figured
 run_blocks d f [] Files.no_file h = record { last = d; kept = h; comes = refl }
-run_blocks d f (l ∷ ls) (Files.one_more k b fs) h =
+run_blocks d f (l ∷ ls) (Files.one_more_lem k b fs) h =
     let e = (load_whole d.set l).left in
     let w = whole_kept d.set k in
     let again = run_blocks e (with_set f (file_set l)) ls fs (λ x. w x ∙ h x) in

@@ -31,11 +31,11 @@ top-named : {n q : ℕ} {cells : List ℕ} {t : Tree} → Hangs n cells q t → 
 top-named hangsNone = inl refl
 top-named (hangsSome c a b) = inr c.inside
 
-pub hangs_links : {n q : ℕ} {cells : List ℕ} {t : Tree} (k : ℕ) → Named n q → Hangs n cells q t → 1 ≤ times k (slots t)
+pub hangs_links : {n : ℕ} {cells : List ℕ} {q : ℕ} {t : Tree} (k : ℕ) → Named n q → Hangs n cells q t → 1 ≤ times k (slots t)
     → TreeLinks n cells k
 unfolding slots times
 hangs_links k m hangsNone z = absurd (omega arith)
-hangs_links {n} {q} {cells} k m (hangsSome {l = l} {i} {r} c a b) z =
+hangs_links {n} {cells} {q} k m (hangsSome {l = l} {i} {r} c a b) z =
     times-around k (slots l) i (slots r) z
     (λ y. hangs_links k (inr c.inside) a y)
     (λ e. rw e (record { parents = rw c.above m; lefts = rw c.lefts (top-named a); rights = rw c.rights (top-named b) }))
@@ -45,7 +45,7 @@ chain_head : {n q i : ℕ} {cells l : List ℕ} → Chain n cells q i l → Name
 chain_head (ended e) = inl e
 chain_head (linked w p c) = inr w
 
-pub chain_links : {n q i : ℕ} {cells l : List ℕ} (k : ℕ) → Named n q → Chain n cells q i l → 1 ≤ times k l
+pub chain_links : {n : ℕ} {cells : List ℕ} {q i : ℕ} {l : List ℕ} (k : ℕ) → Named n q → Chain n cells q i l → 1 ≤ times k l
     → Named n (cell cells k prev) × Named n (cell cells k next)
 unfolding times
 chain_links k m (ended e) z = absurd (omega arith)

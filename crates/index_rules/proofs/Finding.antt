@@ -32,8 +32,8 @@ module _ {t : Live} (fit : Fit t) (h : Sound t) (hash key : ℕ) where
   is : (finds (unsized_of t) hash key).answer ≡ (found t.names t.cells (root_of t) hash key).answer
   is = ap (λ (s : Search). s.answer) (find_fit (unsized_of t) hash key (fit_unsized fit))
 
-  at_slot_lem : (x : ℕ) → Stands x h.tree → pair_of t.names x ≡ pair hash key → (finds (unsized_of t) hash key).answer ≡ given x
-  at_slot_lem x z n = is ∙ found_at fit h hash key x z n
+  at_slot : (x : ℕ) → Stands x h.tree → pair_of t.names x ≡ pair hash key → (finds (unsized_of t) hash key).answer ≡ given x
+  at_slot x z n = is ∙ found_at fit h hash key x z n
 
   at_none : (Has t.names h.tree hash key → ⊥) → (finds (unsized_of t) hash key).answer ≡ nothing
   at_none n = is ∙ found_none fit h hash key n
@@ -41,7 +41,7 @@ module _ {t : Live} (fit : Fit t) (h : Sound t) (hash key : ℕ) where
   pub find_sound_claims : FindsSound t fit h hash key
   find_sound_claims =
       record {
-        at = λ slot. (to slot, λ r. at_slot_lem slot r.0 r.1);
+        at = λ slot. (to slot, λ r. at_slot slot r.0 r.1);
         none = (lacks, at_none);
         never_nine = λ e. nine e (seen fit h hash key);
         once = ((find_claims (unsized_of t) hash key).looks (fit_unsized fit)).once (λ e. nine e (seen fit h hash key));
@@ -54,15 +54,15 @@ module _ {t : Live} (fit : Fit t) (h : Sound t) (hash key : ℕ) where
         where
           go : Seen h hash key → Stands slot h.tree × (pair_of t.names slot ≡ pair hash key)
           go (there x z n s) =
-              let y : x ≡ slot = value_inj (sym (at_slot_lem x z n) ∙ e) refl refl in
+              let y : x ≡ slot = value_inj (sym (at_slot x z n) ∙ e) refl refl in
               (subst (λ (k : ℕ). Stands k h.tree) y z, subst (λ (k : ℕ). pair_of t.names k ≡ pair hash key) y n)
           go (absent n s) = absurd (none_some (value (sym (at_none n) ∙ e)))
 
       lacks : (finds (unsized_of t) hash key).answer ≡ nothing → Has t.names h.tree hash key → ⊥
-      lacks e a = none_some (value (sym e ∙ at_slot_lem a.slot a.stands a.named))
+      lacks e a = none_some (value (sym e ∙ at_slot a.slot a.stands a.named))
 
       nine : (finds (unsized_of t) hash key).answer ≡ refused 9 → Seen h hash key → ⊥
-      nine e (there x z n s) = omega (arith, number (sym (at_slot_lem x z n) ∙ e))
+      nine e (there x z n s) = omega (arith, number (sym (at_slot x z n) ∙ e))
       nine e (absent n s) = omega (arith, number (sym (at_none n) ∙ e))
 
 -- An entry stands in the contents exactly where the tree has its pair with its place.

@@ -57,7 +57,8 @@ pub record Still (c d : List ℕ) (k : ℕ) : Type 0 where
   pub lefts : cell d k left ≡ cell c k left
   pub rights : cell d k right ≡ cell c k right
 
-pub hangs_frame : {n q : ℕ} {c d : List ℕ} {t : Tree} → ((k : ℕ) → 1 ≤ times k (slots t) → Still c d k) → Hangs n c q t → Hangs n d q t
+pub hangs_frame : {n : ℕ} {c d : List ℕ} {q : ℕ} {t : Tree} → ((k : ℕ) → 1 ≤ times k (slots t) → Still c d k) → Hangs n c q t
+    → Hangs n d q t
 unfolding slots
 hangs_frame e hangsNone = hangsNone
 hangs_frame e (hangsSome {l = l} {i} {r} w a b) =
@@ -77,7 +78,7 @@ pub record Held (c d : List ℕ) (k : ℕ) : Type 0 where
   pub prevs : cell d k prev ≡ cell c k prev
   pub nexts : cell d k next ≡ cell c k next
 
-pub chain_frame : {n q i : ℕ} {c d l : List ℕ} → ((k : ℕ) → 1 ≤ times k l → Held c d k) → Chain n c q i l → Chain n d q i l
+pub chain_frame : {n : ℕ} {c d : List ℕ} {q i : ℕ} {l : List ℕ} → ((k : ℕ) → 1 ≤ times k l → Held c d k) → Chain n c q i l → Chain n d q i l
 chain_frame e (ended z) = ended z
 chain_frame e (linked {i = i} {l} w p c) =
     let s = e i (omega (arith, times_head i l)) in
@@ -116,7 +117,7 @@ pub record Seated (n : ℕ) (c d : List ℕ) (x y q : ℕ) : Type 0 where
 pub chain_next : {n q i : ℕ} {c : List ℕ} (a : List ℕ) (y : ℕ) (b : List ℕ) → Chain n c q i (a ++ (y ∷ b))
     → (cell c y next ≡ null) ⊎ (1 ≤ times (cell c y next) b)
 chain_next [] y b (linked w p r) = chain_starts r
-chain_next (z ∷ a) y b (linked w p r) = chain_next a y b r
+chain_next {q = q} (z ∷ a) y b (linked w p r) = chain_next {q = z} a y b r
 
 pub seated_front : {n x q : ℕ} {c d l : List ℕ} → Seated n c d x null q → ((k : ℕ) → times k l ≤ 1) → times x l ≡ 0
     → ((k : ℕ) → 1 ≤ times k l → k < null)
@@ -153,7 +154,7 @@ seated-behind {n} {q} {i} {x} {y} {c} {d} (u ∷ a) b s bound once away f (linke
     let own : u ≢ x = none_of (u ∷ (a ++ (y ∷ b))) away (omega (arith, times_head u (a ++ (y ∷ b)))) in
     linked {l = a ++ (y ∷ (x ∷ b))} w (s.prevs u own (before f) ∙ p)
     (rw (s.nexts u own (other y (omega (arith, times_append y a (y ∷ b), times_head y b))))
-    (seated-behind a b s bound (λ k. omega (arith, once k, times_rest k u (a ++ (y ∷ b))))
+    (seated-behind {q = u} a b s bound (λ k. omega (arith, once k, times_rest k u (a ++ (y ∷ b))))
     (omega (arith, times_rest x u (a ++ (y ∷ b)))) f r))
   where
     -- what stands further on is another slot
@@ -167,14 +168,15 @@ seated-behind {n} {q} {i} {x} {y} {c} {d} (u ∷ a) b s bound once away f (linke
     before (inr z) g = other (cell c y next) (omega (arith, times_append (cell c y next) a (y ∷ b), times_rest (cell c y next) y b)) g
 
 -- The order reads the pairs of its slots.
-below_frame : {names other l : List ℕ} {p : Pair} → ((k : ℕ) → 1 ≤ times k l → pair_of other k ≡ pair_of names k) → Below names p l
-    → Below other p l
+below_frame : {names other : List ℕ} {p : Pair} {l : List ℕ} → ((k : ℕ) → 1 ≤ times k l → pair_of other k ≡ pair_of names k)
+    → Below names p l → Below other p l
 below_frame e last = last
 below_frame {p = p} e (before {i} {l} h b) =
     before (subst (λ (q : Pair). Less p q) (sym (e i (omega (arith, times_head i l)))) h)
     (below_frame (λ k z. e k (omega (arith, times_rest k i l))) b)
 
-pub rising_frame : {names other l : List ℕ} → ((k : ℕ) → 1 ≤ times k l → pair_of other k ≡ pair_of names k) → Rising names l → Rising other l
+pub rising_frame : {names other l : List ℕ} → ((k : ℕ) → 1 ≤ times k l → pair_of other k ≡ pair_of names k) → Rising names l
+    → Rising other l
 rising_frame e empty = empty
 rising_frame {other = other} e (rise {i} {l} h r) =
     let f : (k : ℕ) → 1 ≤ times k l → pair_of other k ≡ pair_of _ k = λ k z. e k (omega (arith, times_rest k i l)) in
@@ -232,7 +234,8 @@ pub name_across : (l : List ℕ) (i f v j g : ℕ) → eqb f g ≡ false → ltb
 unfolding rename name_of
 name_across l i f v j g e hf hg = word_across parts 0 l i f v j g e hf hg
 
-pub name_else : (l : List ℕ) (i f v j g : ℕ) → j ≢ i → ltb f parts ≡ true → ltb g parts ≡ true → name_of (rename l i f v) j g ≡ name_of l j g
+pub name_else : (l : List ℕ) (i f v j g : ℕ) → j ≢ i → ltb f parts ≡ true → ltb g parts ≡ true
+    → name_of (rename l i f v) j g ≡ name_of l j g
 unfolding rename name_of
 name_else l i f v j g n hf hg = word_else parts 0 l i f v j g n hf hg
 

@@ -126,6 +126,7 @@ in_placed (later {x} i) =
 lacks_in : {hash key : ℕ} {e : Entry} {l : List Entry} → Lacks hash key l → In e l → e.hash ≡ hash → e.key ≡ key → ⊥
 lacks_in (other n k) first p q = n p q
 lacks_in (other n k) (later i) p q = lacks_in k i p q
+lacks_in empty i p q = elim i [ ]
 
 pub in_lacks : {hash key : ℕ} {e : Entry} {l : List Entry} → In e l → Lacks hash key l → e.hash ≡ hash → e.key ≡ key → ⊥
 in_lacks i k p q = lacks_in k i p q
@@ -252,6 +253,7 @@ module _ (e : Entry) (l : List Entry) (r : Distinct l) (i : In e l) where
 above_in : {e x : Entry} {l : List Entry} → Above e l → In x l → Less (pair_in e) (pair_in x)
 above_in (more h r) first = h
 above_in (more h r) (later i) = above_in r i
+above_in none i = elim i [ ]
 
 not_both : (x y : Entry) → Less (pair_in x) (pair_in y) → Less (pair_in y) (pair_in x) → ⊥
 not_both x y h k = less_irreflexive (pair_in x) (less_transitive (pair_in x) (pair_in y) (pair_in x) h k)

@@ -32,18 +32,18 @@ head_back : {n q j : ℕ} {cells m : List ℕ} → Chain n cells q j m → j ≢
 head_back (ended e) f = absurd (f e)
 head_back (linked w p c) f = p
 
-chain_next : {n q i : ℕ} {cells l : List ℕ} (k : ℕ) → Chain n cells q i l → 1 ≤ times k l → cell cells k next ≢ null
+chain_next : {n : ℕ} {cells : List ℕ} {q i : ℕ} {l : List ℕ} (k : ℕ) → Chain n cells q i l → 1 ≤ times k l → cell cells k next ≢ null
     → cell cells (cell cells k next) prev ≡ k
 unfolding times
 chain_next k (ended e) z d = absurd (omega arith)
 chain_next {cells = cells} k (linked {i = i} {l = l} w p c) z d =
     times_cases k i l z (λ e. rw e (head_back c (λ y. d (rw e y)))) (λ y. chain_next k c y d)
 
-chain_back : {n q i : ℕ} {cells l : List ℕ} (k : ℕ) → Chain n cells q i l → 1 ≤ times k l
+chain_back : {n : ℕ} {cells : List ℕ} {q i : ℕ} {l : List ℕ} (k : ℕ) → Chain n cells q i l → 1 ≤ times k l
     → ((cell cells k prev ≡ q) × (k ≡ i)) ⊎ (cell cells (cell cells k prev) next ≡ k)
 unfolding times
 chain_back k (ended e) z = absurd (omega arith)
-chain_back {q = q} {cells = cells} k (linked {i = i} {l = l} w p c) z =
+chain_back {cells = cells} {q = q} k (linked {i = i} {l = l} w p c) z =
     times_cases k i l z (λ e. inl (rw e p, e)) (λ y. go (chain_back k c y))
   where
     go : ((cell cells k prev ≡ i) × (k ≡ cell cells i next)) ⊎ (cell cells (cell cells k prev) next ≡ k)
@@ -109,7 +109,8 @@ module _ (names cells : List ℕ) (few : slots_of names ≤ null) where
   -- The eight tests at the top of a tree.
   all_pass : {q : ℕ} {c : Colour} {l r : Tree} {i : ℕ} → Hangs (slots_of names) cells q (node c l i r) → Calm (node c l i r)
       → Rising names (slots (node c l i r))
-      → (q ≢ null → (cell cells q left ≡ i) ⊎ (cell cells q right ≡ i)) → Beside names cells (node c l i r) → first_failing names cells i ≡ 0
+      → (q ≢ null → (cell cells q left ≡ i) ⊎ (cell cells q right ≡ i)) → Beside names cells (node c l i r)
+      → first_failing names cells i ≡ 0
   unfolding slots
   all_pass {q} {c} {l} {r} {i} (hangsSome k a b) calm rising above beside =
       let here : 1 ≤ times i (slots l ++ (i ∷ slots r)) = omega (arith, times_append i (slots l) (i ∷ slots r), times_head i (slots r)) in

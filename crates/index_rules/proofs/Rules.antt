@@ -181,11 +181,11 @@ pub all_but : (n l m : ℕ) → l ≤ n → l ≡ m → n - (n - l) ≡ m
 all_but n l m h e = omega arith
 
 -- In a chain only the first slot has no slot before it.
-chain_prev : {n q i k : ℕ} {cells l : List ℕ} → Chain n cells q i l → 1 ≤ times k l
+chain_prev : {n : ℕ} {cells : List ℕ} {q i k : ℕ} {l : List ℕ} → Chain n cells q i l → 1 ≤ times k l
     → ((cell cells k prev ≡ q) × (k ≡ i)) ⊎ (cell cells k prev < n)
 unfolding times
 chain_prev (ended e) z = absurd (omega arith)
-chain_prev {n} {q} {i} {k} {cells} (linked {l = l} w p c) z = times_cases k i l z (λ e. inl (rw e p, e)) (λ y. go (chain_prev c y))
+chain_prev {n} {cells} {q} {i} {k} (linked {l = l} w p c) z = times_cases k i l z (λ e. inl (rw e p, e)) (λ y. go (chain_prev c y))
   where
     go : ((cell cells k prev ≡ i) × (k ≡ cell cells i next)) ⊎ (cell cells k prev < n)
         → ((cell cells k prev ≡ q) × (k ≡ i)) ⊎ (cell cells k prev < n)

@@ -14,7 +14,7 @@ use Rattle.tree_rules.specs.Find.{Look, here, on, looked, Search, looked_then, s
 use Rattle.tree_rules.specs.Tree.{Tree, leaf, node, top, slots, times, Hangs, Rising}
 use Rattle.tree_rules.specs.Tree.Hangs.{none as hangsNone, some as hangsSome}
 use Rattle.tree_rules.specs.Claims.{Looks}
-use Rattle.tree_rules.proofs.Searching.{at_null, at_slot_lem}
+use Rattle.tree_rules.proofs.Searching.{at_null, at_slot}
 use Rattle.tree_rules.proofs.Counting.{times_append, times_head, times_rest, times-around}
 use Rattle.tree_rules.proofs.Reaching.{length_node, rooted_most}
 use Rattle.tree_rules.proofs.Claims.{claims}
@@ -77,9 +77,12 @@ module _ (names cells : List ℕ) (few : slots_of names ≤ null) (hash key : �
   -- Where a sought slot stands in a node: on the left below it, there, or on the right above it.
   where_is : (c : Colour) (l r : Tree) (i x : ℕ) → Rising names (slots (node c l i r)) → 1 ≤ times x (slots (node c l i r))
       → Sought x → {A : Type 0}
-      → (1 ≤ times x (slots l) → (hash < name_of names i hash_part) ⊎ ((hash ≡ name_of names i hash_part) × (key < name_of names i key_part)) → A)
+      → (1 ≤ times x (slots l)
+      → (hash < name_of names i hash_part) ⊎ ((hash ≡ name_of names i hash_part) × (key < name_of names i key_part)) → A)
       → (x ≡ i → A)
-      → (1 ≤ times x (slots r) → (name_of names i hash_part < hash) ⊎ ((name_of names i hash_part ≡ hash) × (name_of names i key_part < key)) → A)
+      → (1 ≤ times x (slots r)
+      → (name_of names i hash_part < hash) ⊎ ((name_of names i hash_part ≡ hash) × (name_of names i key_part < key))
+      → A)
       → A
   unfolding slots
   where_is c l r i x rising z s lefts same rights =
@@ -98,13 +101,13 @@ module _ (names cells : List ℕ) (few : slots_of names ≤ null) (hash key : �
       → (searched names cells (suc v) i hash key).answer ≡ (searched names cells v q hash key).answer
   step_on {i} v l e =
       ap (λ (s : Search). s.answer)
-      (at_slot_lem names cells hash key v i (omega arith) l ∙ ap (λ (o : Look). looked_then o i (λ q. searched names cells v q hash key)) e)
+      (at_slot names cells hash key v i (omega arith) l ∙ ap (λ (o : Look). looked_then o i (λ q. searched names cells v q hash key)) e)
 
   step_here : {i : ℕ} (v : ℕ) → i < slots_of names → looked names cells i hash key ≡ here
       → (searched names cells (suc v) i hash key).answer ≡ given i
   step_here {i} v l e =
       ap (λ (s : Search). s.answer)
-      (at_slot_lem names cells hash key v i (omega arith) l ∙ ap (λ (o : Look). looked_then o i (λ q. searched names cells v q hash key)) e)
+      (at_slot names cells hash key v i (omega arith) l ∙ ap (λ (o : Look). looked_then o i (λ q. searched names cells v q hash key)) e)
 
   answered : {t : Tree} {a b : Answer} → a ≡ b → Answers t b → Answers t a
   answered e h = record { at = λ x z s. e ∙ h.at x z s; none = λ f. e ∙ h.none f }

@@ -46,12 +46,12 @@ module _ {n : ℕ} {cells : List ℕ} where
   -- The chain after x, and the slot before x.
   chain_after : {q i : ℕ} (a : List ℕ) (x : ℕ) (b : List ℕ) → Chain n cells q i (a ++ (x ∷ b)) → Chain n cells x (cell cells x next) b
   chain_after [] x b (linked w p c) = c
-  chain_after (y ∷ a) x b (linked w p c) = chain_after a x b c
+  chain_after {q = q} (y ∷ a) x b (linked w p c) = chain_after {q = y} a x b c
 
   chain_prior : {q i : ℕ} (a : List ℕ) (x : ℕ) (b : List ℕ) → Chain n cells q i (a ++ (x ∷ b))
       → ((cell cells x prev ≡ q) × (a ≡ [])) ⊎ (1 ≤ times (cell cells x prev) a)
   chain_prior [] x b (linked w p c) = inl (p, refl)
-  chain_prior (y ∷ a) x b (linked w p c) = inr (go (chain_prior a x b c))
+  chain_prior {q = q} (y ∷ a) x b (linked w p c) = inr (go (chain_prior {q = y} a x b c))
     where
       go : ((cell cells x prev ≡ y) × (a ≡ [])) ⊎ (1 ≤ times (cell cells x prev) a) → 1 ≤ times (cell cells x prev) (y ∷ a)
       go (inl e) = rw e.0 (omega (arith, times_head y a))
@@ -61,7 +61,7 @@ module _ {n : ℕ} {cells : List ℕ} where
 pub chain_last : {n q i : ℕ} {cells : List ℕ} (a : List ℕ) (x : ℕ) (b : List ℕ) → Chain n cells q i (a ++ (x ∷ b))
     → ((cell cells x prev ≡ q) × (a ≡ [])) ⊎ ((c : List ℕ) × (a ≡ c ++ (cell cells x prev ∷ [])))
 chain_last [] x b (linked w p r) = inl (p, refl)
-chain_last {cells = cells} (y ∷ a) x b (linked w p r) = inr (go (chain_last a x b r))
+chain_last {q = q} {cells = cells} (y ∷ a) x b (linked w p r) = inr (go (chain_last {q = y} a x b r))
   where
     go : ((cell cells x prev ≡ y) × (a ≡ [])) ⊎ ((c : List ℕ) × (a ≡ c ++ (cell cells x prev ∷ [])))
         → (c : List ℕ) × (y ∷ a ≡ c ++ (cell cells x prev ∷ []))
@@ -116,7 +116,7 @@ module _ (cells : List ℕ) (x : ℕ) where
         clash k z = none_of b (omega (arith, times_rest q x b)) z
     chain_cut {q} (y ∷ a) b once out (linked w p c) =
         linked {l = a ++ b} w (loose_prev y later ∙ p)
-        (rw step (chain_cut a b (λ k. omega (arith, once k, times_rest k y (a ++ (x ∷ b)))) nowhere c))
+        (rw step (chain_cut {q = y} a b (λ k. omega (arith, once k, times_rest k y (a ++ (x ∷ b)))) nowhere c))
       where
         nowhere : times y (a ++ (x ∷ b)) ≡ 0
         nowhere = omega (arith, once y, times_head y (a ++ (x ∷ b)))

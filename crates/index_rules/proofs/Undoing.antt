@@ -43,7 +43,7 @@ undone_places {j = j} {l} (behind_line p c i) w =
     behind_all (λ (e : Entry). e.at < 4294967296) j.prior_hash j.prior_key (line_entry j) l c.small w
 undone_places {j = j} {l} (replace_line {old = old} p v s r i) w = with_all (λ (e : Entry). e.at < 4294967296) j.hash j.key old l r w
 
-pub undoes_places : {n m k : ℕ} {lines : List ℕ} {l l' : List Entry} → Undoes n lines m k l l' → Places l → Places l'
+pub undoes_places : {n m : ℕ} {lines : List ℕ} {k : ℕ} {l l' : List Entry} → Undoes n lines m k l l' → Places l → Places l'
 undoes_places (back e) w = w
 undoes_places (down h o u) w = undoes_places u (undone_places o w)
 
@@ -67,7 +67,7 @@ module _ {n m : ℕ} {lines : List ℕ} where
       go (no d) rest = let r = rest d in let w : mid ≤ k = omega arith in (r.0, down w o r.1, r.2)
 
 -- Other words do not matter.
-pub undoes_frame : {n m k : ℕ} {lines : List ℕ} {l l' : List Entry} (lines' : List ℕ)
+pub undoes_frame : {n m : ℕ} {lines : List ℕ} {k : ℕ} {l l' : List Entry} (lines' : List ℕ)
     → ((j : ℕ) → m ≤ j → j < k → line_of lines' j ≡ line_of lines j)
     → Undoes n lines m k l l' → Undoes n lines' m k l l'
 undoes_frame lines' s (back e) = back e

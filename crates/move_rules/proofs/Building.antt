@@ -106,7 +106,7 @@ module _ (names : List ℕ) where
 
   by_one : {s r : Links} {x : ℕ} {l : List ℕ} → Grows names (joined names s x) l r → Grows names s (x ∷ l) r
   unfolding joined
-  by_one d = Grows.one_more d
+  by_one d = Grows.one_more_lem d
 
   -- They are inserted in the order in which next visits them.
   pub grows_all : {s : Links} {p : ℕ} {l : List ℕ} (v : ℕ) → slots_of names ≤ null → Listed (slots_of names) s.cells p l → length l ≤ v

@@ -154,7 +154,7 @@ module _ {s : Set} (fit : Fit s) (acc : Accepted s) where
             rw (eq-eqb f.number 0 e, z)
             (record {
               same = moved_same g.same b;
-              made = rw w (MovesMade.one_more g.made (splits x y m.there m.unmoved) b);
+              made = rw w (MovesMade.one_more_lem g.made (splits x y m.there m.unmoved) b);
               onward = λ y. moved_before g.same b (g.onward e);
               halted = λ n. absurd (n refl);
             })

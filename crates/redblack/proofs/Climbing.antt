@@ -47,7 +47,7 @@ by_one P i at_i rest k = go (ℕ_discrete k i)
     go (no d) = rest k d
 
 -- Up the way C the sizes know a weight w at its end, and v when all is counted. e is what they have for the slots that are not of the way.
-along : {n x d : ℕ} {s : Links} {C : Way} (m w v : ℕ) (e : ℕ → ℕ) (l : List ℕ) → n ≤ null → Leads n s x C → length C ≤ m → Shift d w v
+along : {n d : ℕ} {s : Links} {x : ℕ} {C : Way} (m w v : ℕ) (e : ℕ → ℕ) (l : List ℕ) → n ≤ null → Leads n s x C → length C ≤ m → Shift d w v
     → w + weight_way C ≤ null → v + weight_way C ≤ null → ((k : ℕ) → count_way k C ≤ 1) → ((k : ℕ) → 1 ≤ count_way k C → e k ≡ 0)
     → length l ≡ n → ((k : ℕ) → get_or l k 0 ≡ size_along k w C + e k)
     → (length (climbed m s.cells l (upper C) d) ≡ n) × ((k : ℕ) → get_or (climbed m s.cells l (upper C) d) k 0 ≡ size_along k v C + e k)

@@ -35,7 +35,7 @@ total_add zero f g h e = omega arith
 total_add (suc n) f g h e = omega (arith, e n, total_add n f g h e)
 
 -- Each slot of the way counts.
-way_total : {n x : ℕ} {s : Links} {C : Way} → Leads n s x C → length C ≤ total n (λ (k : ℕ). count_way k C)
+way_total : {n : ℕ} {s : Links} {x : ℕ} {C : Way} → Leads n s x C → length C ≤ total n (λ (k : ℕ). count_way k C)
 unfolding count_way
 way_total (home e) = omega arith
 way_total {n} (via {i = i} {b = b} {C = C} k y w) =

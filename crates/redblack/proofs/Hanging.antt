@@ -17,7 +17,7 @@ use Rattle.redblack.specs.Insertion.{insertion_turn, insertion_turns, balanced_i
 use Rattle.redblack.specs.Hanging.{spot, hooked, inserted}
 use Rattle.redblack.specs.Climbing.{weighed_in}
 use Rattle.redblack.specs.Kept.{Agree}
-use Rattle.redblack.proofs.Ends.{Part, Outcome, black_part}
+use Rattle.redblack.proofs.Ends.{Part, Outcome, black_part, red_part}
 use Rattle.redblack.proofs.Reading.{reads, roomy_cap, recap}
 use Rattle.redblack.proofs.Frames.{hit_same, hit_ne, apart, way_cell, way_tree, way_on_lem, tree_frame, way_frame, site_of}
 use Rattle.redblack.proofs.Depth.{depth}
@@ -85,6 +85,7 @@ pub inserting_part : {n : ℕ} {s : Links} {σ : Side} {c : Colour} {xp : ℕ} {
 unfolding inserted
 inserting_part m x l wx fresh (black_part w void) h =
     let v = hooked_site x wx fresh h in insertion m _ w (site_of _ refl refl v) (omega (arith, depth v))
+inserting_part m x l wx fresh (red_part _ z) h = elim z [ ]
 
 pub inserting : {n : ℕ} {s : Links} {σ : Side} {c : Colour} {xp k : ℕ} {b : Sided} {C : Way} (m x : ℕ) → n ≤ m → x < n
     → count_way x (frame σ c xp b ∷ C) ≡ 0 → RedBlack black k (plug (frame σ c xp b ∷ C) bare)

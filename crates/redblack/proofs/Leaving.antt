@@ -67,6 +67,9 @@ dropping_sized {s = s} {p = p} {C} m l (black_part w (dark (rosy {σ = σ} {i = 
     (sized_of (dropped m s p) (o.sizes ∙ spliced_sizes (weighed_out m s p) p x)
     (sized_hue C σ red black bare x bare (sized_at C (fork σ red bare x bare) (parted_counts m (omega (arith, depth h)) h z))))
 dropping_sized m l (red_part w (rosy void void)) h z = gone m (omega (arith, depth h)) (red_is m h) h z
+dropping_sized m l (black_part w (dark (dark _ _) x)) h z = elim x [ ]
+dropping_sized m l (black_part w (dark (rosy (dark _ _) _) x)) h z = elim x [ ]
+dropping_sized m l (red_part w (rosy (dark _ _) x)) h z = elim x [ ]
 
 -- p has two children: it trades places with its successor, and leaves from there.
 trading_sized : {n : ℕ} {s : Links} {c d : Colour} {a x y : Sided} {p i : ℕ} {C : Way} (m : ℕ) → n ≤ m → eqb (top a) null ≡ false

@@ -47,8 +47,8 @@ cell_link : (P : ℕ → Type 0) {n q : ℕ} {s : Links} {σ : Side} {c : Colour
 cell_link P k pq pa pb up = rw k.above pq
 cell_link P k pq pa pb (on τ) = cell_side P k pa pb τ
 
-hangs_in : (P : ℕ → Type 0) {n q : ℕ} {s : Links} {t : Sided} → P null → P q → ((i : ℕ) → 1 ≤ count i t → P i) → Hangs n s q t → (i g : ℕ)
-    → Link g → 1 ≤ count i t → P (read s i g)
+hangs_in : (P : ℕ → Type 0) {n : ℕ} {s : Links} {q : ℕ} {t : Sided} → P null → P q → ((i : ℕ) → 1 ≤ count i t → P i) → Hangs n s q t
+    → (i g : ℕ) → Link g → 1 ≤ count i t → P (read s i g)
 unfolding count
 hangs_in P pn pq sub none i g lg l = absurd (omega arith)
 hangs_in P {s = s} pn pq sub (some {a = a} {b} {i = k} c x y) i g lg l =

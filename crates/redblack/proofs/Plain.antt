@@ -19,7 +19,7 @@ use Rattle.redblack.specs.Hanging.{spot, spotted, inserted}
 use Rattle.redblack.specs.Removal.{removed}
 use Rattle.redblack.specs.Kept.{Agree}
 use Rattle.redblack.specs.Holding.{Holds, RedBlackTree, Hung, Has, Stands, Fresh, on_null, on_left, on_right, depth}
-use Rattle.redblack.proofs.Ends.{Part, Outcome, Beside, With, black_part}
+use Rattle.redblack.proofs.Ends.{Part, Outcome, Beside, With, black_part, red_part}
 use Rattle.redblack.proofs.Frames.{inward, turn}
 use Rattle.redblack.proofs.Order.{slots_turn}
 use Rattle.redblack.proofs.Parts.{part_in, part_turn}
@@ -40,6 +40,7 @@ hung-outcome : {n x : ℕ} {C : Way} {t u : Tree} (m : ℕ) (s : Links) → Hung
     → length C + depth u ≤ m → Outcome n (balanced_insertion m s x) (Sided.slots (plug C (sided u)))
 unfolding sided depth plug
 hung-outcome m s on_null (black_part w void) h l = insertion m s w h (omega arith)
+hung-outcome m s on_null (red_part _ z) h l = elim z [ ]
 hung-outcome {C = C} m s (on_left {c} {l = a} {m = b} {i} {r} k) o h l =
     hung-outcome {C = frame leftward c i (sided r) ∷ C} m s k (part_in o) (inward h) (omega arith)
 hung-outcome {C = C} m s (on_right {c} {l = a} {i} {r} {m = b} k) o h l =

@@ -225,3 +225,6 @@ dropping_part {s = s} {p = p} {C} m l (black_part w (dark (rosy {σ = σ} {i = x
       same = slots-plug C (fork σ black bare x bare) (fork σ red bare x bare) refl;
     }
 dropping_part m l (red_part w (rosy void void)) h = bare_red m (omega (arith, depth h)) w h
+dropping_part m l (black_part w (dark (dark _ _) x)) h = elim x [ ]
+dropping_part m l (black_part w (dark (rosy (dark _ _) _) x)) h = elim x [ ]
+dropping_part m l (red_part w (rosy (dark _ _) x)) h = elim x [ ]

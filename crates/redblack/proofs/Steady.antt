@@ -90,8 +90,8 @@ module _ {n : ℕ} {o : Sided} {s : Links} where
     where
       go : Dec (p ≡ i) → Dec (1 ≤ count p a) → (1 ≤ count p a → View n o s σ p) → (1 ≤ count p b → View n o s σ p) → View n o s σ p
       go (yes q) d f g = rw q (here σ ρ h z e)
-      go (no d) (yes u) f g = f u
-      go (no d) (no u) f g = g (omega (arith, hit_ne d))
+      go (Prim.no d) (yes u) f g = f u
+      go (Prim.no d) (Prim.no u) f g = g (omega (arith, hit_ne d))
 
   viewed : (σ : Side) (p : ℕ) → 1 ≤ count p o → Steady n o s → View n o s σ p
   unfolding plug

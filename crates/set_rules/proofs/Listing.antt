@@ -15,7 +15,7 @@ use Rattle.slots.specs.Answers.{Answer, given, nothing, refused}
 use Rattle.tree_rules.specs.Find.{slots_of}
 use Rattle.tree_rules.proofs.Trail.{answers}
 use Rattle.set_rules.specs.Lookup.{has_pair, sought_in_list, ListFollows, start, step, ListLost, ListHere, ListMissed}
-use Rattle.set_rules.proofs.Reading.{at_null, out_of_range, visits_spent, at_slot_lem}
+use Rattle.set_rules.proofs.Reading.{at_null, out_of_range, visits_spent, at_slot}
 use Rattle.set_rules.proofs.Cursors.{both}
 
 -- The test of a pair is the equality of pairs.
@@ -56,11 +56,11 @@ module _ (names cells : List ℕ) (first hash key : ℕ) where
   -- One more visit.
   pub onward : {p : ℕ} (v : ℕ) → p ≢ null → p < slots_of names → pair_of names p ≢ pair hash key
       → (sought_in_list names cells (suc v) p hash key).answer ≡ (sought_in_list names cells v (cell cells p next) hash key).answer
-  onward {p} v n l d = answers (at_slot_lem names cells hash key v p n l) ∙ rw (not_has names p hash key d)
+  onward {p} v n l d = answers (at_slot names cells hash key v p n l) ∙ rw (not_has names p hash key d)
 
   pub stays : {p : ℕ} (v : ℕ) → p ≢ null → p < slots_of names → pair_of names p ≡ pair hash key
       → (sought_in_list names cells (suc v) p hash key).answer ≡ given p
-  stays {p} v n l d = answers (at_slot_lem names cells hash key v p n l) ∙ rw (same_has names p hash key d)
+  stays {p} v n l d = answers (at_slot names cells hash key v p n l) ∙ rw (same_has names p hash key d)
 
   fewer : (n k : ℕ) → suc k ≤ n → n - k ≡ suc (n - suc k)
   fewer n k h = omega arith
@@ -122,7 +122,8 @@ module _ (names cells : List ℕ) (first hash key : ℕ) where
           rw (visits_spent names cells hash key p n)
           (lost (record { visited = k; link = p; follows = f; solid = n; astray = inr (omega arith) }))
   from (suc v) k p f e =
-      go (ℕ_discrete p null) (dec_lt p (slots_of names)) (decided names p hash key) (λ g. from v (suc k) (cell cells p next) g (omega arith))
+      go (ℕ_discrete p null) (dec_lt p (slots_of names)) (decided names p hash key)
+      (λ g. from v (suc k) (cell cells p next) g (omega arith))
     where
       go : Dec (p ≡ null) → Dec (p < slots_of names) → Dec (pair_of names p ≡ pair hash key)
           → (ListFollows names cells first hash key (suc k) (cell cells p next)

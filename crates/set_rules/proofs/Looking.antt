@@ -13,7 +13,7 @@ use Rattle.slots.specs.Answers.{Answer, none, given, nothing, refused}
 use Rattle.tree_rules.specs.Find.{Look, here, on, looked, Search, ends, looked_then, slots_of, searched, found}
 use Rattle.tree_rules.proofs.Claims.{claims as shape-claims}
 use Rattle.tree_rules.proofs.Trail.{answers}
-use Rattle.tree_rules.proofs.Searching.{at_null, out_of_range, visits_spent, at_slot_lem}
+use Rattle.tree_rules.proofs.Searching.{at_null, out_of_range, visits_spent, at_slot}
 use Rattle.set_rules.specs.Words.{Set, tables_of, root_at, Fit, fits, Bin, empty, moved, bad, list, tree}
 use Rattle.set_rules.proofs.Fit.{fits_fit, fit_fits}
 use Rattle.set_rules.specs.Lookup.{home_bin, asked, forwarded, lookups, lookups_fit, Reaches, start, down, Astray, Hit, Miss}
@@ -43,7 +43,7 @@ kind names cells hash key (suc v) p = go (ℕ_discrete p null) (dec_lt p (slots_
         → Kind (searched names cells (suc v) p hash key).answer
     go (yes e) d again = rw (at_null names cells hash key (suc v) p e) null_link
     go (no n) (no d) again = rw (out_of_range names cells hash key (suc v) p n (omega arith)) nine
-    go (no n) (yes l) again = rw (at_slot_lem names cells hash key v p n l) (visit (looked names cells p hash key) again)
+    go (no n) (yes l) again = rw (at_slot names cells hash key v p n l) (visit (looked names cells p hash key) again)
 
 module _ (s : Set) (t hash key : ℕ) (there : t < tables_of s) where
   abbrev pub whole : Search

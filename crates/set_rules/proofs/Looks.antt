@@ -19,7 +19,7 @@ use Rattle.set_rules.specs.Words.{Set, tables_of, root_at, Fit, fits, Bin, empty
 use Rattle.set_rules.specs.Accepted.{Listed}
 use Rattle.set_rules.specs.Lookup.{has_pair, list_look, sought_in_list, home_bin, asked, forwarded, lookups, ListFollows}
 use Rattle.set_rules.specs.Walked.{LookupLooks}
-use Rattle.set_rules.proofs.Reading.{at_null, out_of_range, visits_spent, at_slot_lem}
+use Rattle.set_rules.proofs.Reading.{at_null, out_of_range, visits_spent, at_slot}
 use Rattle.set_rules.proofs.Forwarding.{past_last}
 use Rattle.set_rules.proofs.Listing.{same_has, has_same, not_has}
 use Rattle.set_rules.proofs.Looking.{at-bin, known_loop}
@@ -47,7 +47,7 @@ module _ (names cells : List ℕ) (hash key : ℕ) where
         at_null = at_null names cells hash key;
         out_of_range = out_of_range names cells hash key;
         visits_spent = visits_spent names cells hash key;
-        at_slot_lem = at_slot_lem names cells hash key;
+        at_slot = at_slot names cells hash key;
       }
 
   module _ (first : ℕ) where

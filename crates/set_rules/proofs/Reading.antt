@@ -24,8 +24,8 @@ module _ (names cells : List ℕ) (hash key : ℕ) where
   unfolding sought_in_list
   visits_spent p n = simp (ne_eqb _ _ n)
 
-  pub at_slot_lem : (visits p : ℕ) → p ≢ null → p < slots_of names
+  pub at_slot : (visits p : ℕ) → p ≢ null → p < slots_of names
       → sought_in_list names cells (suc visits) p hash key
       ≡ looked_then (list_look names cells p hash key) p (λ q. sought_in_list names cells visits q hash key)
   unfolding sought_in_list
-  at_slot_lem visits p n h = simp (ne_eqb _ _ n, lt-leb _ _ h)
+  at_slot visits p n h = simp (ne_eqb _ _ n, lt-leb _ _ h)

@@ -50,39 +50,39 @@ no_weight none rise calm level = refl
 -- No way from the link i down meets more than d slots.
 data Low (cells : List ℕ) : ℕ → ℕ → Type 0 where
   at_null : {d i : ℕ} → i ≡ null → Low cells d i
-  at_slot_lem : {d i : ℕ} → i ≢ null → Low cells d (cell cells i left) → Low cells d (cell cells i right) → Low cells (suc d) i
+  at_slot : {d i : ℕ} → i ≢ null → Low cells d (cell cells i left) → Low cells d (cell cells i right) → Low cells (suc d) i
 
 module _ (cells : List ℕ) where
   lower : (d e i : ℕ) → d ≤ e → Low cells d i → Low cells e i
   lower d e i h (at_null z) = at_null z
-  lower (suc d) zero i h (at_slot_lem n a b) = absurd (omega arith)
-  lower (suc d) (suc e) i h (at_slot_lem n a b) = at_slot_lem n (lower d e _ (omega arith) a) (lower d e _ (omega arith) b)
+  lower (suc d) zero i h (at_slot n a b) = absurd (omega arith)
+  lower (suc d) (suc e) i h (at_slot n a b) = at_slot n (lower d e _ (omega arith) a) (lower d e _ (omega arith) b)
 
   -- Past the depth of what hangs there, depth changes nothing.
   rise_past : (names : List ℕ) (d e i : ℕ) → d ≤ e → Low cells d i → (m : ℕ) → risen e names cells m i ≡ risen d names cells m i
   unfolding risen
   rise_past names d e i h (at_null z) m = sym (rise_null names cells m i e z) ∙ rise_null names cells m i d z
-  rise_past names (suc d) zero i h (at_slot_lem n a b) m = absurd (omega arith)
-  rise_past names (suc d) (suc e) i h (at_slot_lem n a b) m =
+  rise_past names (suc d) zero i h (at_slot n a b) m = absurd (omega arith)
+  rise_past names (suc d) (suc e) i h (at_slot n a b) m =
       rw (rise_past names d e _ (omega arith) a m, rise_past names d e _ (omega arith) b i)
 
   calm_past : (d e i : ℕ) → d ≤ e → Low cells d i → all_calm e cells i ≡ all_calm d cells i
   unfolding all_calm
   calm_past d e i h (at_null z) = sym (calm_null cells i e z) ∙ calm_null cells i d z
-  calm_past (suc d) zero i h (at_slot_lem n a b) = absurd (omega arith)
-  calm_past (suc d) (suc e) i h (at_slot_lem n a b) = rw (calm_past d e _ (omega arith) a, calm_past d e _ (omega arith) b)
+  calm_past (suc d) zero i h (at_slot n a b) = absurd (omega arith)
+  calm_past (suc d) (suc e) i h (at_slot n a b) = rw (calm_past d e _ (omega arith) a, calm_past d e _ (omega arith) b)
 
   level_past : (d e i : ℕ) → d ≤ e → Low cells d i → levelled e cells i ≡ levelled d cells i
   unfolding levelled
   level_past d e i h (at_null z) = sym (level-null cells i e z) ∙ level-null cells i d z
-  level_past (suc d) zero i h (at_slot_lem n a b) = absurd (omega arith)
-  level_past (suc d) (suc e) i h (at_slot_lem n a b) = rw (level_past d e _ (omega arith) a, level_past d e _ (omega arith) b)
+  level_past (suc d) zero i h (at_slot n a b) = absurd (omega arith)
+  level_past (suc d) (suc e) i h (at_slot n a b) = rw (level_past d e _ (omega arith) a, level_past d e _ (omega arith) b)
 
   weigh_past : (sizes : List ℕ) (d e i : ℕ) → d ≤ e → Low cells d i → slots_below e cells sizes i ≡ slots_below d cells sizes i
   unfolding slots_below
   weigh_past sizes d e i h (at_null z) = sym (weigh_null cells sizes i e z) ∙ weigh_null cells sizes i d z
-  weigh_past sizes (suc d) zero i h (at_slot_lem n a b) = absurd (omega arith)
-  weigh_past sizes (suc d) (suc e) i h (at_slot_lem n a b) = rw (weigh_past sizes d e _ (omega arith) a, weigh_past sizes d e _ (omega arith) b)
+  weigh_past sizes (suc d) zero i h (at_slot n a b) = absurd (omega arith)
+  weigh_past sizes (suc d) (suc e) i h (at_slot n a b) = rw (weigh_past sizes d e _ (omega arith) a, weigh_past sizes d e _ (omega arith) b)
 
   -- One level of T6 taken apart.
   record Evened (depth i b : ℕ) : Type 0 where
@@ -120,7 +120,7 @@ module _ (cells : List ℕ) where
   level_low zero i b e = null_or i at_null (λ n. refuted (rw (ne_eqb i null n) at e))
   level_low (suc depth) i b e =
       null_or i at_null
-      (λ n. (let k = evened depth i b n e in at_slot_lem n (level_low depth _ _ k.lefts) (level_low depth _ _ k.rights)))
+      (λ n. (let k = evened depth i b n e in at_slot n (level_low depth _ _ k.lefts) (level_low depth _ _ k.rights)))
 
   -- One level of T5 taken apart.
   three : (a b c : Bool) → pick a (pick b c false) false ≡ true → (a ≡ true) × (b ≡ true) × (c ≡ true)
@@ -149,7 +149,7 @@ module _ (cells : List ℕ) where
 
   data Drawn : ℕ → Tree → Type 0 where
     at_null : {i : ℕ} → i ≡ null → Drawn i leaf
-    at_slot_lem : {i : ℕ} {l r : Tree} → i ≢ null → Drawn (cell cells i left) l → Drawn (cell cells i right) r → Drawn i (node (hue i) l i r)
+    at_slot : {i : ℕ} {l r : Tree} → i ≢ null → Drawn (cell cells i left) l → Drawn (cell cells i right) r → Drawn i (node (hue i) l i r)
 
   hue_blacks : (i half : ℕ) → pick (eqb (cell cells i state) 2) half (half + 1) ≡ blacks (hue i) + half
   hue_blacks i half = go (eqb (cell cells i state) 2)
@@ -170,24 +170,24 @@ module _ (cells : List ℕ) where
       let x = drawn depth (cell cells i left) k.half k.lefts in
       let y = drawn depth (cell cells i right) k.half k.rights in
       let z : blacks (hue i) + k.half ≡ b = sym (hue_blacks i k.half) ∙ k.blacks in
-      (node (hue i) x.0 i y.0, at_slot_lem n x.1 y.1, subst (Even (node (hue i) x.0 i y.0)) z (above x.2 y.2))))
+      (node (hue i) x.0 i y.0, at_slot n x.1 y.1, subst (Even (node (hue i) x.0 i y.0)) z (above x.2 y.2))))
 
   -- It is as low as its height says, and as calm as T5's walk found it.
   drawn_low : {i : ℕ} {t : Tree} → Drawn i t → Low cells (height t) i
   unfolding height
   drawn_low (at_null z) = Low.at_null z
-  drawn_low (at_slot_lem {l = l} {r} n x y) =
+  drawn_low (at_slot {l = l} {r} n x y) =
       Low.at_slot n (lower _ _ _ (higher-left (height l) (height r)) (drawn_low x))
       (lower _ _ _ (higher-right (height l) (height r)) (drawn_low y))
 
   drawn-colour : {i : ℕ} {t : Tree} → Drawn i t → eqb (cell cells i state) 2 ≡ false → colour t ≡ black
   drawn-colour (at_null z) e = refl
-  drawn-colour (at_slot_lem n x y) e = rw e refl
+  drawn-colour (at_slot n x y) e = rw e refl
 
   drawn_calm : (depth : ℕ) {i : ℕ} {t : Tree} → Drawn i t → all_calm depth cells i ≡ true → Calm t
   drawn_calm depth (at_null z) e = nothing
-  drawn_calm zero (at_slot_lem {i} n x y) e = absurd (no_depth i n e)
-  drawn_calm (suc depth) (at_slot_lem {i} {l} {r} n x y) e =
+  drawn_calm zero (at_slot {i} n x y) e = absurd (no_depth i n e)
+  drawn_calm (suc depth) (at_slot {i} {l} {r} n x y) e =
       let q = calms depth i n e in
       go (eqb (cell cells i state) 2) refl q.0 (drawn_calm depth x q.1) (drawn_calm depth y q.2)
     where
@@ -231,7 +231,7 @@ module _ (n : ℕ) (cells : List ℕ) where
   visited : (f q i v rest : ℕ) {t : Tree} → Drawn cells i t → reached f n cells q i v ≡ some rest → rest + length (slots t) ≡ v
   unfolding slots
   visited f q i v rest (at_null z) r = let x : v ≡ rest = some_is (sym (at_once f q i v z) ∙ r) in omega (arith, x)
-  visited f q i v rest (at_slot_lem {l = l} {r = g} d x y) r =
+  visited f q i v rest (at_slot {l = l} {r = g} d x y) r =
       let t = stepped f q i v rest d r in
       omega (
         arith,

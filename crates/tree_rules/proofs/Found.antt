@@ -7,20 +7,20 @@ use Rattle.slots.specs.Answers.{Answer, given, nothing, refused}
 use Rattle.slots.proofs.Laws.{number, given_is, nothing-given}
 use Rattle.tree_rules.specs.Find.{Look, here, on, looked, Search, looked_then, slots_of, searched, found, Follows, start, step, Lost}
 use Rattle.tree_rules.specs.Find.{Here, Missed}
-use Rattle.tree_rules.proofs.Searching.{at_null, out_of_range, visits_spent, at_slot_lem}
+use Rattle.tree_rules.proofs.Searching.{at_null, out_of_range, visits_spent, at_slot}
 
 module _ (names cells : List ℕ) (root hash key : ℕ) where
   -- One more visit.
   onward : {p q : ℕ} (v : ℕ) → p ≢ null → p < slots_of names → looked names cells p hash key ≡ on q
       → (searched names cells (suc v) p hash key).answer ≡ (searched names cells v q hash key).answer
   onward {p} v n l e =
-      ap (λ (s : Search). s.answer) (at_slot_lem names cells hash key v p n l)
+      ap (λ (s : Search). s.answer) (at_slot names cells hash key v p n l)
       ∙ ap (λ (o : Look). (looked_then o p (λ q. searched names cells v q hash key)).answer) e
 
   stays : {p : ℕ} (v : ℕ) → p ≢ null → p < slots_of names → looked names cells p hash key ≡ here
       → (searched names cells (suc v) p hash key).answer ≡ given p
   stays {p} v n l e =
-      ap (λ (s : Search). s.answer) (at_slot_lem names cells hash key v p n l)
+      ap (λ (s : Search). s.answer) (at_slot names cells hash key v p n l)
       ∙ ap (λ (o : Look). (looked_then o p (λ q. searched names cells v q hash key)).answer) e
 
   fewer : (n k : ℕ) → suc k ≤ n → n - k ≡ suc (n - suc k)
@@ -30,7 +30,8 @@ module _ (names cells : List ℕ) (root hash key : ℕ) where
   trace : {k p : ℕ} → Follows names cells root hash key k p → k ≤ slots_of names
       → (found names cells root hash key).answer ≡ (searched names cells (slots_of names - k) p hash key).answer
   unfolding found
-  trace start l = let z : slots_of names ≡ slots_of names - 0 = omega arith in ap (λ (v : ℕ). (searched names cells v root hash key).answer) z
+  trace start l = let z : slots_of names ≡ slots_of names - 0 = omega arith in
+      ap (λ (v : ℕ). (searched names cells v root hash key).answer) z
   trace (step {k} {p} {q} f n i e) l =
       trace f (omega arith) ∙ ap (λ (v : ℕ). (searched names cells v p hash key).answer) (fewer (slots_of names) k l)
       ∙ onward (slots_of names - suc k) n i e

@@ -7,7 +7,7 @@ use Rattle.tree_rules.specs.Find.{here, on, decided, looked, slots_of, searched,
 use Rattle.tree_rules.specs.Looks.{LooksAt}
 use Rattle.tree_rules.specs.Claims.{Looks}
 use Rattle.tree_rules.proofs.Deciding.{look_claims}
-use Rattle.tree_rules.proofs.Searching.{at_null, out_of_range, visits_spent, at_slot_lem}
+use Rattle.tree_rules.proofs.Searching.{at_null, out_of_range, visits_spent, at_slot}
 use Rattle.tree_rules.proofs.Trail.{here_on, Runs, Trail, start, step, looks_at}
 
 module _ (at own l r hash key : ℕ) where
@@ -47,7 +47,7 @@ module _ (names cells : List ℕ) (hash key : ℕ) where
         at_null = at_null names cells hash key;
         out_of_range = out_of_range names cells hash key;
         visits_spent = visits_spent names cells hash key;
-        at_slot_lem = at_slot_lem names cells hash key;
+        at_slot = at_slot names cells hash key;
       }
 
   module _ (root : ℕ) where

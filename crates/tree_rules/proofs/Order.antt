@@ -4,7 +4,7 @@ use Rattle.slots.specs.Pairs.{Pair, pair_of, Less}
 use Rattle.tree_rules.specs.Tree.{times, Below, Rising, empty, rise}
 use Rattle.tree_rules.proofs.Counting.{times_append, times_head, times_cases}
 
-below_at : {names l : List ℕ} {p : Pair} (k : ℕ) → Below names p l → 1 ≤ times k l → Less p (pair_of names k)
+below_at : {names : List ℕ} {p : Pair} {l : List ℕ} (k : ℕ) → Below names p l → 1 ≤ times k l → Less p (pair_of names k)
 unfolding times
 below_at k Below.last z = absurd (omega arith)
 below_at {names} {p = p} k (Below.before {i} {l} h b) z = times_cases k i l z (λ e. rw e h) (λ y. below_at k b y)

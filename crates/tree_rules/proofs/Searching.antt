@@ -20,8 +20,8 @@ module _ (names cells : List ℕ) (hash key : ℕ) where
   unfolding searched
   visits_spent p n = simp (ne_eqb _ _ n)
 
-  pub at_slot_lem : (visits p : ℕ) → p ≢ null → p < slots_of names
+  pub at_slot : (visits p : ℕ) → p ≢ null → p < slots_of names
       → searched names cells (suc visits) p hash key
       ≡ looked_then (looked names cells p hash key) p (λ q. searched names cells visits q hash key)
   unfolding searched
-  at_slot_lem visits p n h = simp (ne_eqb _ _ n, lt-leb _ _ h)
+  at_slot visits p n h = simp (ne_eqb _ _ n, lt-leb _ _ h)

@@ -3,7 +3,8 @@
 -- go round for ever.
 -- Parts: lists from a place on; what a search is, and how it goes; the links followed from a root, and where they end; a search that is not
 -- lost is the same with more visits; it looks at no slot twice; the looks of the whole search.
-use Rattle.std.proofs.Common.{◌≡◌, ℕ, zero, suc, ◌+◌, ◌-◌, ◌<◌, ◌≤◌, ◌≢◌, ◌⊎◌, List, [], ◌∷◌, length, get_or, drop, sym, refl, ap, ◌∙◌, inl, inr, zero-add, arith}
+use Rattle.std.proofs.Common.{◌≡◌, ℕ, zero, suc, ◌+◌, ◌-◌, ◌<◌, ◌≤◌, ◌≢◌, ◌⊎◌, List, [], ◌∷◌, length, get_or, drop}
+use Rattle.std.proofs.Common.{sym, refl, ap, ◌∙◌, inl, inr, zero-add, arith}
 use native.Mathlib.Decide.{ℕ_discrete, dec_lt}
 use Rattle.slots.specs.Words.{null}
 use Rattle.slots.specs.Pairs.{pair, pair_of}
@@ -68,7 +69,7 @@ pub record Runs (n : ℕ) (look : ℕ → Look) (run : ℕ → ℕ → Search) :
   pub at_null : (visits p : ℕ) → p ≡ null → run visits p ≡ ends nothing
   pub out_of_range : (visits p : ℕ) → p ≢ null → n ≤ p → run visits p ≡ ends (refused 9)
   pub visits_spent : (p : ℕ) → p ≢ null → run 0 p ≡ ends (refused 9)
-  pub at_slot_lem : (visits p : ℕ) → p ≢ null → p < n → run (suc visits) p ≡ looked_then (look p) p (λ q. run visits q)
+  pub at_slot : (visits p : ℕ) → p ≢ null → p < n → run (suc visits) p ≡ looked_then (look p) p (λ q. run visits q)
 
 module _ {n : ℕ} {look : ℕ → Look} {run : ℕ → ℕ → Search} (r : Runs n look run) where
   -- What a search comes to, by the looks on its way.
@@ -76,7 +77,8 @@ module _ {n : ℕ} {look : ℕ → Look} {run : ℕ → ℕ → Search} (r : Run
     ended : {v p : ℕ} → p ≡ null → run v p ≡ ends nothing → Goes v p
     astray : {v p : ℕ} → p ≢ null → (n ≤ p) ⊎ (v ≡ 0) → run v p ≡ ends (refused 9) → Goes v p
     met : {v p : ℕ} → p ≢ null → p < n → look p ≡ here → run (suc v) p ≡ looked_then here p (λ q. run v q) → Goes (suc v) p
-    onward : {v p q : ℕ} → p ≢ null → p < n → look p ≡ on q → run (suc v) p ≡ looked_then (on q) p (λ q. run v q) → Goes v q → Goes (suc v) p
+    onward : {v p q : ℕ} → p ≢ null → p < n → look p ≡ on q → run (suc v) p ≡ looked_then (on q) p (λ q. run v q) → Goes v q
+        → Goes (suc v) p
 
   by_look : (v p : ℕ) → p ≢ null → p < n → (o : Look) → look p ≡ o → ((q : ℕ) → Goes v q) → Goes (suc v) p
   by_look v p d l here o rest = met d l o (r.at_slot v p d l ∙ ap (λ (o : Look). looked_then o p (λ q. run v q)) o)

@@ -209,7 +209,7 @@ module _ (ix : Index) (fits : FitIndex ix) (h : Sound ix.live) (words : Places (
   end_short {part} {l} k a e n =
       let r = reader_at mark part in
       let q = reader_mark mark part in
-      let back = E.taken_back ix fits h words a.taken in
+      let back = E.taken_back_lem ix fits h words a.taken in
       let f =
       turned_back r a.index (refused 12) (length_of a.index.lines - mark) (all_lined ix fits h words a)
       (ap (λ (i : ℕ). (rolls a.index i).answer) q ∙ back) in

@@ -25,26 +25,26 @@ returns c =
 
 returns-2 : tie.Need-returns-2 invariant-loop decreases-loop
 returns-2 c =
-    let at_slot_lem = c.before in
-    let at_visits = at_slot_lem.before in
+    let at_slot = c.before in
+    let at_visits = at_slot.before in
     let at_loop = at_visits.before.before in
     let a = at_loop.before.before.before.args in
     list_wrong
     a.names.now a.cells.now a.length a.i at_loop.loop.x at_loop.loop.left at_visits.before.loop-test.true
-    at_visits.if1.false at_slot_lem.list-slot-fine.ensures
-    (not-true at_slot_lem.list-slot-fine.result c.if2.true)
+    at_visits.if1.false at_slot.list-slot-fine.ensures
+    (not-true at_slot.list-slot-fine.result c.if2.true)
     ∙ at_loop.loop.invariant.0
 
 loop-again : tie.Need-loop-preserved invariant-loop decreases-loop
 loop-again c =
-    let at_slot_lem = c.before.before in
-    let at_visits = at_slot_lem.before in
+    let at_slot = c.before.before in
+    let at_visits = at_slot.before in
     let at_loop = at_visits.before.before in
     let a = at_loop.before.before.before.args in (
       list_on
           a.names.now a.cells.now a.length a.i at_loop.loop.x at_loop.loop.left
-          at_visits.before.loop-test.true at_visits.if1.false at_slot_lem.list-slot-fine.ensures
-          (not-false at_slot_lem.list-slot-fine.result c.before.if2.false)
+          at_visits.before.loop-test.true at_visits.if1.false at_slot.list-slot-fine.ensures
+          (not-false at_slot.list-slot-fine.result c.before.if2.false)
           c.get.ensures
           ∙ at_loop.loop.invariant.0,
       search rules,

@@ -19,13 +19,13 @@ returns c =
 
 returns-2 : tie.Need-returns-2
 returns-2 c =
-    let at_slot_lem = c.before.before in
-    let at_link = at_slot_lem.before in
+    let at_slot = c.before.before in
+    let at_link = at_slot.before in
     let at_get = at_link.before in
     let a = at_get.before.before.before.before.before.before.before.args in
     let s : Set =
     record { lengths = a.lengths.now; bins = a.bins.now; heads = a.heads.now; names = a.names.now; cells = a.cells.now } in
-    link_next s (cursor_of a.cursor) at_get.get.ensures c.trim.ensures at_link.if1.true at_slot_lem.if2.false
+    link_next s (cursor_of a.cursor) at_get.get.ensures c.trim.ensures at_link.if1.true at_slot.if2.false
 
 seek-requires : tie.Need-seek-requires
 seek-requires c κs =
