@@ -1,0 +1,26 @@
+use Prim.Native.Nat.{◌-◌}
+use Rattle.batch.proofs.Making.{turn_start, turn_on, turn_fits, turn_end, turn_most}
+use Rattle.batch.proofs.batch.run.Goals as goal
+
+pub loop-k-init : goal.loop-k-init
+loop-k-init c =
+    turn_start _ _ _ c.requires.0
+
+pub make-floor-requires : goal.make-floor-requires
+make-floor-requires c =
+    (c.loop-k.invariant.ready, turn_fits c.loop-k.invariant c.requires.1 c.loop-k-test.true)
+
+pub loop-k-preserved : goal.loop-k-preserved
+loop-k-preserved c =
+    turn_on c.loop-k.invariant c.loop-k-test.true c.make-floor.ensures
+    c.make-floor.auto.0
+    c.make-floor.auto.1.0
+    c.make-floor.auto.1.1.0
+    c.make-floor.auto.1.1.1.0
+    c.make-floor.auto.1.1.1.1.0
+    c.make-floor.auto.1.1.1.1.1.1.0
+
+pub returns : goal.returns
+returns c =
+    let i = c.loop-k.invariant in
+    (turn_end i c.loop-k-test.false, (i.more, turn_most i))

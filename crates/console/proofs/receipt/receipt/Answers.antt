@@ -1,0 +1,20 @@
+-- A short buffer is left, and on any other stands the refusal or the list.
+use native.Mathlib.Omega.{arith}
+use Rattle.console.proofs.Receipts.{receipt_short, receipt_refused, receipt_listed, text_within}
+use borrow.Author.Rules.{rules}
+use Rattle.console.proofs.receipt.receipt.Goals as goal
+
+pub returns-then-out-lt-LONGEST : goal.returns-then-out-lt-LONGEST
+returns-then-out-lt-LONGEST c = (receipt_short _ _ _ c.if-out-lt-LONGEST.true, search rules)
+
+pub returns-then-number-ne0 : goal.returns-then-number-ne0
+returns-then-number-ne0 c = (
+  receipt_refused _ _ _ c.if-out-lt-LONGEST.false c.if-number-ne0.true c.tell.ensures,
+  text_within _ _ c.tell.ensures (omega arith),
+)
+
+pub returns : goal.returns
+returns c = (
+  receipt_listed _ _ _ c.if-out-lt-LONGEST.false c.if-number-ne0.false c.tell_list.ensures,
+  text_within _ _ c.tell_list.ensures (omega arith),
+)

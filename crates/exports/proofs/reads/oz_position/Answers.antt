@@ -1,0 +1,7 @@
+-- The library answers what the model does, and its word is that answer's.
+use mathlib.Core.Path.{ap, ◌∙◌}
+use Rattle.slots.specs.Answers.{answer_word}
+use Rattle.exports.proofs.reads.oz_position.Goals as goal
+
+pub returns : goal.returns
+returns c = c.answer_word.ensures ∙ ap answer_word (c.answer.ensures ∙ c.position-positioned.ensures)

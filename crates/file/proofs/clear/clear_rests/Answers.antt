@@ -1,0 +1,26 @@
+-- Each rest behind its count.
+use native.Mathlib.Omega.{arith}
+use Rattle.set_rules.specs.Words.{lent_set}
+use Rattle.file.specs.Meanings.{loader_words}
+use Rattle.file.proofs.Ranging.{fit_small}
+use Rattle.file.proofs.Clearing.{rests_zeroed_lem}
+use Rattle.file.proofs.clear.clear_rests.Goals as goal
+
+pub overflow_mul-r : goal.overflow_mul-r
+overflow_mul-r c =
+    let small = fit_small (loader_words c.args.r) c.requires 2 in omega arith
+
+pub overflow_mul-r-2 : goal.overflow_mul-r-2
+overflow_mul-r-2 c =
+    let small = fit_small (loader_words c.args.r) c.requires 3 in omega arith
+
+pub overflow_mul-r-3 : goal.overflow_mul-r-3
+overflow_mul-r-3 c =
+    let small = fit_small (loader_words c.args.r) c.requires 3 in omega arith
+
+pub returns : goal.returns
+returns c =
+    let a = c.args in
+    let s = lent_set a.lengths.now a.bins.now a.heads.now a.names.now a.cells.now in
+    rests_zeroed_lem (loader_words c.args.r) s c.clear_words.ensures c.clear_words-2.ensures c.clear_words-3.ensures
+    c.clear_wides.ensures c.clear_words-4.ensures

@@ -1,0 +1,7 @@
+-- Hash and key.
+use Rattle.file.proofs.Running.{pair_put}
+use Rattle.file.proofs.runs.read_pair.Goals as goal
+
+pub returns : goal.returns
+returns c =
+    pair_put _ _ _ c.put_wide.ensures c.wide_at.ensures c.put_wide-2.ensures c.wide_at-2.ensures

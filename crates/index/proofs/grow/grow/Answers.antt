@@ -1,0 +1,44 @@
+-- What is read is read before a write, and the writes are those of `grown`, in order.
+use Rattle.index.proofs.Growing.{grow_wide, grow_null, grow, follower, top}
+use Rattle.index_rules.specs.Live.{lent_tree}
+use Rattle.index.proofs.grow.grow.Reads as reads
+use Rattle.index.proofs.grow.grow.Lts as lts
+use Rattle.index.proofs.grow.head_put.Reads as head-put-reads
+use Rattle.index.proofs.grow.put_pair.Reads as put-pair-reads
+use Rattle.index.proofs.grow.seat.Reads as seat-reads
+use Rattle.links.proofs.hang.hang_slot.Reads as hang-slot-reads
+use Rattle.slots.proofs.get.Reads as get-reads
+use Rattle.slots.proofs.put.Reads as put_reads
+use Rattle.slots.proofs.word.Reads as word-reads
+use Rattle.index.proofs.grow.grow.Goals as goal
+
+pub returns-then-names-gt-MOST_NAMES : goal.returns-then-names-gt-MOST_NAMES
+returns-then-names-gt-MOST_NAMES c =
+    let a = c.args in
+    grow_wide (lent_tree a.names.now a.cells.now a.head.now a.sizes.now) a.x a.y a.hash a.key a.place
+    c.if-names-gt-MOST_NAMES.true
+
+pub returns-then-count : goal.returns-then-count
+returns-then-count c =
+    let a = c.args in
+    grow_null (lent_tree a.names.now a.cells.now a.head.now a.sizes.now) a.x a.y a.hash a.key a.place
+    c.if-names-gt-MOST_NAMES.false
+    c.word-count.ensures
+    c.if-count.true
+
+pub returns : goal.returns
+returns c =
+    let a = c.args in
+    let t = lent_tree a.names.now a.cells.now a.head.now a.sizes.now in
+    grow t a.x a.y a.hash a.key a.place
+    c.if-names-gt-MOST_NAMES.false
+    c.word-count.ensures
+    c.if-count.false
+    c.word-root.ensures
+    (follower t a.x a.y c.word-first.ensures c.if-y-eq-NULL.branch c.get-behind.ensures (λ w. (w.0.taken, w.1)) (λ w. (w.0.left, w.1)))
+    (top t a.x a.y c.word-first.ensures c.if-y-eq-NULL-2.branch (λ w. (w.0.taken, w.1)) (λ w. (w.0.left, w.1)))
+    c.put_pair.ensures
+    c.put.ensures
+    c.seat.ensures
+    c.hang_slot-top.ensures
+    c.head_put.ensures

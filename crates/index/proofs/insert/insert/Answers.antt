@@ -1,0 +1,21 @@
+-- What the full check answers goes up, or the call is made where it has said yes.
+use mathlib.Core.Path.{sym, ap, ◌∙◌}
+use Rattle.index.specs.Reads.{sound_of}
+use Rattle.index.proofs.Singly.{insert_unfit, insert_damaged, insert_goes}
+use Rattle.index.proofs.insert.insert.Goals as goal
+
+pub returns-in-Unfit : goal.returns-in-Unfit
+returns-in-Unfit c =
+    let a = c.args in
+    insert_unfit _ (ap sound_of (sym c.in-Unfit.is) ∙ c.sound_index-verdict.ensures) a.hash a.key a.place
+
+pub returns-in-No : goal.returns-in-No
+returns-in-No c =
+    let a = c.args in
+    insert_damaged _ (ap sound_of (sym c.in-No.is) ∙ c.sound_index-verdict.ensures) a.hash a.key a.place
+
+pub returns-in-Yes : goal.returns-in-Yes
+returns-in-Yes c =
+    let a = c.args in
+    insert_goes _ (ap sound_of (sym c.in-Yes.is) ∙ c.sound_index-verdict.ensures) a.hash a.key a.place
+    c.insert_sound.ensures

@@ -1,0 +1,23 @@
+-- The noted pair is not there, or the pair comes back behind it.
+use Prim.{tt}
+use Rattle.index.proofs.Asking.{sought-at, sought-not}
+use Rattle.index.proofs.Undoing.{behind_none, behind_some}
+use Rattle.index.proofs.lines.put_behind.Reads as reads
+use Rattle.index.proofs.lines.put_behind.Lts as lts
+use Rattle.index.proofs.lines.put_back.Reads as put-back-reads
+use Rattle.slots.proofs.word.Reads as word-reads
+use Rattle.tree.proofs.find.find_tree_node.Reads as find-tree-node-reads
+use Rattle.index.proofs.lines.put_behind.Goals as goal
+
+pub returns-in_default : goal.returns-in_default
+returns-in_default c = (
+  λ kind. behind_none _ _ _ _ _ _
+      (sought-not _ _ _ c.word-root.ensures c.find_tree_node-found.result c.find_tree_node-found.ensures c.in_default.keys2),
+  tt,
+)
+
+pub returns : goal.returns
+returns c =
+    let a = c.args in
+    let s = sought-at _ _ _ c.word-root.ensures c.find_tree_node-found.result c.find_tree_node-found.ensures c.in-At.is in
+    (λ kind. behind_some _ _ _ _ _ _ s (c.put_back.ensures.0 kind a.prehash a.prekey), c.put_back.ensures.1)

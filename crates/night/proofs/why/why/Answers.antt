@@ -1,0 +1,23 @@
+-- The test of fitness decides; it bounds the capacity, as the rest requires.
+use mathlib.Core.Path.{sym, ◌∙◌}
+use borrow.Author.Tests.{not-false, not-true}
+use Rattle.index_rules.specs.Live.{lent_tree}
+use Rattle.night.proofs.Sought.{told_fit, told_unfit, few_names}
+use Rattle.night.proofs.why.why.Goals as goal
+
+pub returns-then-not-fits : goal.returns-then-not-fits
+returns-then-not-fits c =
+    told_unfit _ (sym c.fit-fits.ensures ∙ not-true c.fit-fits.result c.if-not-fits.true-raw)
+
+pub explain-account-requires : goal.explain-account-requires
+explain-account-requires c =
+    let a = c.args in
+    few_names (lent_tree a.names.now a.cells.now a.head.now a.sizes.now)
+    (sym c.fit-fits.ensures ∙ not-false c.fit-fits.result c.if-not-fits.false-raw)
+
+pub returns : goal.returns
+returns c =
+    let a = c.args in
+    told_fit (lent_tree a.names.now a.cells.now a.head.now a.sizes.now)
+    (sym c.fit-fits.ensures ∙ not-false c.fit-fits.result c.if-not-fits.false-raw)
+    c.explain-account.ensures

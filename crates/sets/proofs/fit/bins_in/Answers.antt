@@ -1,0 +1,7 @@
+-- Tables that fit double, so the sum has a closed form.
+use native.Mathlib.Omega.{arith}
+use Rattle.sets.proofs.Sized.{some_table}
+use Rattle.sets.proofs.fit.bins_in.Goals as goal
+
+pub overflow_sub-lengths : goal.overflow_sub-lengths
+overflow_sub-lengths c = omega (arith, some_table c.args.lengths.now c.requires)

@@ -1,0 +1,18 @@
+-- The three tests in a row are the model's.
+use mathlib.Core.Path.{◌∙◌}
+use borrow.Author.Tests.{le-ltb, lt-ltb}
+use Rattle.slots.proofs.Laws.{and-next}
+use Rattle.sets.specs.Lists.{slot_home}
+use Rattle.sets.proofs.lists.slot_home.Goals as goal
+
+pub returns-then-is_list_slot : goal.returns-then-is_list_slot
+unfolding slot_home
+returns-then-is_list_slot c =
+    and-next _ c.if-x-names.branch (λ w. (lt-ltb _ _ w.0.taken, w.2 ∙ w.1.ensures)) (λ w. (le-ltb _ _ w.0.left, w.1))
+    (rw c.if-is_list_slot.true c.is_home.ensures)
+
+pub returns-else-is_list_slot : goal.returns-else-is_list_slot
+unfolding slot_home
+returns-else-is_list_slot c =
+    and-next _ c.if-x-names.branch (λ w. (lt-ltb _ _ w.0.taken, w.2 ∙ w.1.ensures)) (λ w. (le-ltb _ _ w.0.left, w.1))
+    (rw c.if-is_list_slot.false)

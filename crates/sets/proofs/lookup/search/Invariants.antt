@@ -1,0 +1,21 @@
+-- The loop's invariant: the search from this table has the answer of the whole search.
+use mathlib.Core.Path.{◌≡◌}
+use Prim.Native.Nat.{◌-◌, ◌*◌, ◌/◌, ◌<◌, ◌≤◌}
+use lib.ListN.{length}
+use Rattle.tree_rules.specs.Find.{counted}
+use Rattle.set_rules.specs.Words.{Set, bins_before}
+use Rattle.set_rules.specs.Lookup.{forwarded}
+use Rattle.sets.proofs.lookup.search.Given as goal
+
+abbrev pub invariant-loop-k : goal.invariant-loop-k
+invariant-loop-k l =
+    let s : Set = record { l.lengths = l.lengths; l.bins = l.bins; l.heads = l.heads; l.names = l.names; l.cells = l.cells } in
+    (counted (forwarded (length l.lengths - l.k) s l.k l.hash l.key) ≡ counted (forwarded (length l.lengths - l.table) s l.table l.hash l.key))
+    × (l.k < length l.lengths)
+    × (l.n ≡ length l.names / 2)
+    × (l.h ≡ length l.heads / 3)
+    × (l.from ≡ bins_before l.lengths l.k)
+    × (l.from ≤ 4294967295 * l.k)
+
+abbrev pub decreases-loop-k : goal.decreases-loop-k
+decreases-loop-k l = length l.lengths - l.k

@@ -1,0 +1,31 @@
+use mathlib.Core.Path.{refl, ◌∙◌}
+use Prim.Native.Nat.{◌-◌}
+use native.Mathlib.Omega.{arith}
+use Rattle.script_rules.specs.Feeding.{lent_paper}
+use Rattle.tally.proofs.Telling.{row_told, rows_turn, rows_over}
+use Rattle.tally.proofs.tell.tell_rows.Goals as goal
+
+pub loop-i-init : goal.loop-i-init
+loop-i-init c = (refl, refl, omega arith)
+
+pub loop-i-smaller : goal.loop-i-smaller
+loop-i-smaller c = omega (arith, c.loop-i-test.true)
+
+pub loop-i-preserved : goal.loop-i-preserved
+loop-i-preserved c =
+    let l = c.loop-i in
+    let t = c.args.totals.now in (
+      rows_turn t (lent_paper l.out l.end) l.i c.loop-i-test.true (c.fill-end.ensures ∙ row_told t _ l.i c.wide.ensures)
+          ∙ l.invariant.0,
+      c.fill-end.auto.0 ∙ l.invariant.1,
+      omega arith,
+    )
+
+pub shape_of-out : goal.shape_of-out
+shape_of-out c = c.loop-i.invariant.1
+
+pub returns : goal.returns
+returns c =
+    let l = c.loop-i in
+    let t = c.args.totals.now in
+    rows_over t (lent_paper l.out l.end) l.i c.loop-i-test.false ∙ l.invariant.0
