@@ -32,7 +32,8 @@ unfolding after
 after_one [] c ix = refl
 after_one (d ∷ cs) c ix = after_one cs c (called d ix).left
 
-pub allowed_one : (hash key : ℕ) {m p : ℕ} {cs : List Call} → p < 4294967296 → Allowed m cs → Allowed m (cs ++ (insert_call hash key p ∷ []))
+pub allowed_one : (hash key : ℕ) {m p : ℕ} {cs : List Call} → p < 4294967296 → Allowed m cs
+    → Allowed m (cs ++ (insert_call hash key p ∷ []))
 allowed_one hash key l nothing = inserting l nothing
 allowed_one hash key l (inserting s a) = inserting s (allowed_one hash key l a)
 allowed_one hash key l (removing a) = removing (allowed_one hash key l a)
