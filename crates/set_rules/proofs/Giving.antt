@@ -120,7 +120,7 @@ module _ (s : Set) (fit : Fit s) (acc : Accepted s) (base : ℕ) where
   sees (suc t) p h (here w (Gives.of_list {a = a} e g) r) k =
       let z = ((ranges (slots_of s.names) (headers_in s) _).lists a).0 e in
       rw (at_list s base p h w e) (sees_list p h w g (omega (arith, z.3, small fit)) r)
-  sees (suc t) p h (here w (Gives.of_Tree {h = a} e g) r) k =
+  sees (suc t) p h (here w (Gives.of_tree {h = a} e g) r) k =
       let d = acc.headers.firsts (base + p.depth) (deepest p) a (record { table = h.deep; index = w }) e in
       rw (at_tree s base p h w e (first g d)) (sees_list p h w g d r)
     where
