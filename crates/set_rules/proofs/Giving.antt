@@ -61,7 +61,8 @@ module _ (s : Set) (base : ℕ) where
     unfolding advanced
     row_on x e (Onward.end z) = over refl (get_or-set_same x 0 (get_or x 0 0 + 1) 0 (omega arith) ∙ omega (arith, z))
     row_on x e (Onward.bin {l = a} {m} w g r) =
-        let z : get_or (set x 0 (get_or x 0 0 + 1)) 0 0 ≡ suc (get_or x 0 0) = get_or-set_same x 0 (get_or x 0 0 + 1) 0 (omega arith) ∙ omega arith in
+        let z : get_or (set x 0 (get_or x 0 0 + 1)) 0 0 ≡ suc (get_or x 0 0) =
+        get_or-set_same x 0 (get_or x 0 0 + 1) 0 (omega arith) ∙ omega arith in
         here {p = walk_point 0 (set x 0 (get_or x 0 0 + 1))} {l = a} {m = m} (rw (z, add-zero base) w) (rw (z, add-zero base) g)
         (row {x = set x 0 (get_or x 0 0 + 1)} {l = m} (rw z r))
 

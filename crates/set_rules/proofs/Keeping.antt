@@ -36,7 +36,8 @@ chain_listed (Chain.linked b p t) = Listed.onward b (chain_listed t)
 pub data Keeps (s : Set) : ℕ → ℕ → List ℕ → Type 0 where
   nothing : {k i : ℕ} → bin_at s k i ≡ empty → Keeps s k i []
   its : {k i : ℕ} {l : List ℕ} → HeldIn s (bin_at s k i) l → Keeps s k i l
-  parts : {k i : ℕ} {l m : List ℕ} → bin_at s k i ≡ moved → suc k < tables_of s → Keeps s (suc k) i l → Keeps s (suc k) (i + length_at s k) m
+  parts : {k i : ℕ} {l m : List ℕ} → bin_at s k i ≡ moved → suc k < tables_of s → Keeps s (suc k) i l
+      → Keeps s (suc k) (i + length_at s k) m
       → Keeps s k i (l ++ m)
 
 -- Those of the bins of table t, from bin i on.
