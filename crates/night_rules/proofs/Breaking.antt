@@ -221,7 +221,7 @@ module _ {t : Live} (fit : Fit t) where
   header_one h =
       chosen (HeaderBreaks t 1) _ (λ e. by_stray_root (λ r. (neg_tests (named n _, ranged n _)).0 e r))
       (λ a. chosen (HeaderBreaks t 1) _ (λ e. by_stray_first (λ r. (neg_tests (named n _, ranged n _)).0 e r))
-          (λ b. by_miscount (off a b h)))
+      (λ b. by_miscount (off a b h)))
     where
       n : ℕ
       n = slots_of t.names

@@ -68,7 +68,7 @@ sections_one k [] s = let z : k + 0 ≡ k = omega arith in rw z (append-nil (sec
 sections_one k (t ∷ ss) s =
     let z : suc k + length ss ≡ k + suc (length ss) = omega arith in
     ap (λ (x : List ℕ). section_bytes k t ++ x)
-        (sections_one (suc k) ss s ∙ ap (λ (j : ℕ). sections_bytes (suc k) ss ++ section_bytes j s) z)
+    (sections_one (suc k) ss s ∙ ap (λ (j : ℕ). sections_bytes (suc k) ss ++ section_bytes j s) z)
     ∙ sym (append_assoc (section_bytes k t) (sections_bytes (suc k) ss) _)
 
 pub entries_at_one : (from : ℕ) (l : List Pair) (p : Pair)
