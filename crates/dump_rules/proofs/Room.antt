@@ -18,7 +18,8 @@ use Rattle.script_rules.specs.Blanks.{link_text, field_text, piece, is_blank, le
 use Rattle.script_rules.proofs.Room.{digits_short}
 use Rattle.night_rules.specs.Account.{Account}
 use Rattle.night_rules.specs.Breach.{Breach}
-use Rattle.night_rules.specs.Breach.{stray_link, stray_state, left_hash, left_key, left_field, stray_root, stray_first, miscount, root_count}
+use Rattle.night_rules.specs.Breach.{stray_link, stray_state, left_hash, left_key, left_field, stray_root, stray_first, miscount}
+use Rattle.night_rules.specs.Breach.{root_count}
 use Rattle.night_rules.specs.Breach.{first_count, root_under, orphan, disowned, child_elsewhere, child_twice, off_root, falls, red_root}
 use Rattle.night_rules.specs.Breach.{red_under, uneven, first_behind, prev_astray, next_astray, off_first, wrong_size, free_size}
 use Rattle.night_rules.specs.Finding.{Finding, sound, broken, unfit, examined}

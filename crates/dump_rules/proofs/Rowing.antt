@@ -6,7 +6,7 @@ use Prim.Native.Nat.{ℕ, zero, suc, ◌+◌, ◌≤◌}
 use native.Mathlib.Omega.{arith}
 use lib.ListN.{length, length-append}
 use borrow.Author.Tests.{eq-eqb, ne_eqb}
-use Rattle.slots.specs.Words.{null, state, cell, code, red}
+use Rattle.slots.specs.Words.{null, left, state, cell, code, red}
 use Rattle.script_rules.specs.Letters.{letters}
 use Rattle.script_rules.specs.Blanks.{blanks_filled, piece, is_blank}
 use Rattle.dump_rules.specs.Sentence.{step_text, down_to, onward}
@@ -41,7 +41,7 @@ module _ (cells : List ℕ) where
   on_row zero (over e) h = refl
   on_row (suc n) (over {i} e) h = rw (eq-eqb i null e)
   on_row zero (on d r) h = absurd (omega arith)
-  on_row (suc n) (on {i} {row} d r) h = rw (ne_eqb i null d, on_row n r (omega arith))
+  on_row {i = j} (suc n) (on {i} {row} d r) h = rw (ne_eqb i null d, on_row {i = cell cells i left} n r (omega arith))
 
 pub rows : (cells : List ℕ) (n i : ℕ) → Rows cells n i
 unfolding step_text blanks_filled piece is_blank

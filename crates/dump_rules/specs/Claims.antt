@@ -11,7 +11,8 @@ use Rattle.script_rules.specs.Letters.{letters}
 use Rattle.script_rules.specs.Blanks.{link_text, field_text}
 use Rattle.night_rules.specs.Account.{Account}
 use Rattle.night_rules.specs.Reason.{Reason}
-use Rattle.night_rules.specs.Breach.{Breach, BreaksAt, stray_link, stray_state, left_hash, left_key, left_field, stray_root, stray_first, miscount}
+use Rattle.night_rules.specs.Breach.{Breach, BreaksAt, stray_link, stray_state, left_hash, left_key, left_field, stray_root, stray_first}
+use Rattle.night_rules.specs.Breach.{miscount}
 use Rattle.night_rules.specs.Breach.{root_count, first_count, root_under, orphan, disowned, child_elsewhere, child_twice, off_root, falls}
 use Rattle.night_rules.specs.Breach.{red_root}
 use Rattle.night_rules.specs.Breach.{red_under, uneven, first_behind, prev_astray, next_astray, off_first, wrong_size, free_size}

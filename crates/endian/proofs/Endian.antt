@@ -71,7 +71,7 @@ back_from k h before (x ∷ l) rest i e (more s b) =
     word-at_front k h before own (words_bytes k l ++ rest) i e (little-length k x) ∙ number_little k x s in
     let others : words_in k (before ++ (own ++ (words_bytes k l ++ rest))) (suc i) (length l) ≡ l =
     rw moved (back_from k h (before ++ own) l rest (suc i) long b) in
-    rw (bytes, one, others)
+    ap (λ (y : List ℕ). word_in k y i ∷ words_in k y (suc i) (length l)) bytes ∙ rw (one, others)
 
 pub words_back : (k : ℕ) → 0 < k → (words rest : List ℕ) → AllBelow (256 ^ k) words
     → words_in k (words_bytes k words ++ rest) 0 (length words) ≡ words

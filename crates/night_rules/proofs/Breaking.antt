@@ -9,7 +9,8 @@ use native.Mathlib.Omega.{arith}
 use native.Mathlib.Decide.{ℕ_discrete}
 use lib.Dec.{eqb, leb, ltb}
 use borrow.Author.Tests.{eq-eqb, ne_eqb, eqb-true, eqb-false, leb-true, leb-false, lt-ltb}
-use Rattle.slots.specs.Words.{null, pick, place, state, parent, left, right, prev, next, free, cell, name_of, hash_part, key_part, code, red}
+use Rattle.slots.specs.Words.{null, pick, place, state, parent, left, right, prev, next, free, cell, name_of, hash_part, key_part, code}
+use Rattle.slots.specs.Words.{red}
 use Rattle.slots.specs.Words.{leftward, rightward}
 use Rattle.tree_rules.specs.Find.{slots_of}
 use Rattle.tree_rules.specs.Check.{Named, LinksNamed, in_range, points_back, red_slot}
@@ -32,9 +33,12 @@ use Rattle.night_rules.specs.Why.{neg, lowest_with, misrooted, twins, misfirst, 
 use Rattle.night_rules.specs.Breach.{Breach, LinkOf, Breaks, HeaderBreaks, BreaksAt, at_slot, in_header, link_with, is_stray, is_set}
 use Rattle.night_rules.specs.Breach.{left_in, breach1, header1, header2}
 use Rattle.night_rules.specs.Breach.{misseated, breach3, breach4, breach5, breach7, breach8, breach}
-use Rattle.night_rules.specs.Breach.{by_stray_link, by_stray_state, by_left_hash, by_left_key, by_left_place, by_left_link, by_root_under, by_orphan}
-use Rattle.night_rules.specs.Breach.{by_disowned, by_child_elsewhere, by_child_twice, by_off_root, by_falls, by_red_root, by_red_under, by_uneven}
-use Rattle.night_rules.specs.Breach.{by_first_behind, by_prev_astray, by_next_astray, by_off_first, by_wrong_size, by_free_size, by_stray_root}
+use Rattle.night_rules.specs.Breach.{by_stray_link, by_stray_state, by_left_hash, by_left_key, by_left_place, by_left_link, by_root_under}
+use Rattle.night_rules.specs.Breach.{by_orphan}
+use Rattle.night_rules.specs.Breach.{by_disowned, by_child_elsewhere, by_child_twice, by_off_root, by_falls, by_red_root, by_red_under}
+use Rattle.night_rules.specs.Breach.{by_uneven}
+use Rattle.night_rules.specs.Breach.{by_first_behind, by_prev_astray, by_next_astray, by_off_first, by_wrong_size, by_free_size}
+use Rattle.night_rules.specs.Breach.{by_stray_root}
 use Rattle.night_rules.specs.Breach.{by_stray_first, by_miscount, by_root_set, by_root_unset, by_first_set, by_first_unset}
 use Rattle.night_rules.proofs.Testing.{back_tests, Misrooted, misrooted_tests, twins_tests, misfirst_tests, neg_tests, eq_tests}
 use Rattle.night_rules.proofs.Telling.{Tried, found, nowhere, tried, inside5, inside8}
@@ -216,7 +220,8 @@ module _ {t : Live} (fit : Fit t) where
   unfolding header1
   header_one h =
       chosen (HeaderBreaks t 1) _ (λ e. by_stray_root (λ r. (neg_tests (named n _, ranged n _)).0 e r))
-      (λ a. chosen (HeaderBreaks t 1) _ (λ e. by_stray_first (λ r. (neg_tests (named n _, ranged n _)).0 e r)) (λ b. by_miscount (off a b h)))
+      (λ a. chosen (HeaderBreaks t 1) _ (λ e. by_stray_first (λ r. (neg_tests (named n _, ranged n _)).0 e r))
+      (λ b. by_miscount (off a b h)))
     where
       n : ℕ
       n = slots_of t.names

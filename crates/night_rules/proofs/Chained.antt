@@ -1,6 +1,6 @@
 -- T7: where no slot shows it broken, the used slots form the chain from first by next. A slot's prevs lead to first, so the chain from it
 -- on is built with a budget that the steps to first use up; and a used slot is found in it from first on.
-use mathlib.Core.Path.{◌≡◌, refl, sym, ◌∙◌}
+use mathlib.Core.Path.{◌≡◌, refl, sym, subst, ◌∙◌}
 use mathlib.Core.Logic.{◌≢◌}
 use mathlib.Core.List.{List, [], ◌∷◌}
 use Prim.Native.Nat.{ℕ, zero, suc, ◌+◌, ◌<◌, ◌≤◌}
@@ -45,7 +45,8 @@ module _ {n : ℕ} {cells : List ℕ} where
   next_in_lem k (linked {i = i} {l} b p c) h d =
       times_cases k i l h
       (λ e. (let z : cell cells k next ≡ cell cells i next = rw e refl in
-      rw z (omega (arith, times_rest (cell cells i next) i l, head_in c (λ y. d (z ∙ y))))))
+      subst (λ (x : ℕ). 1 ≤ times x (i ∷ l)) (sym z)
+      (omega (arith, times_rest (cell cells i next) i l, head_in c (λ y. d (z ∙ y))))))
       (λ y. omega (arith, times_rest (cell cells k next) i l, next_in_lem k c y d))
 
 module _ {t : Live} (fit : Fit t) (one : T1 t) (chains : Chainable t) where

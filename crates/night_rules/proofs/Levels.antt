@@ -26,7 +26,7 @@ black_hue cells i red e = rw e
 
 module _ (n : ℕ) (cells : List ℕ) (small : n ≤ null) where
   -- The ways by the words are those of the tree.
-  pub down_meets : {q k i : ℕ} {t : Tree} → Hangs n cells q t → i ≡ top t → Down cells i k → Meets t k
+  pub down_meets : {q i k : ℕ} {t : Tree} → Hangs n cells q t → i ≡ top t → Down cells i k → Meets t k
   down_meets Hangs.none e (Down.end z) = Meets.end
   down_meets Hangs.none e (Down.by σ d w) = absurd (d e)
   down_meets (Hangs.some w a b) e (Down.end z) = absurd (solid small w.inside (sym e ∙ z))

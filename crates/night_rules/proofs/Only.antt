@@ -57,7 +57,7 @@ module _ {t : Live} (fit : Fit t) (one : T1 t) {tree : Tree} (three : T3 t tree)
   ranked {i} u (step m r) =
       let h = ranked (parent-used fit one sits u m) r in (suc h.0, rank_up (solid (small fit) u.inside) refl h.1)
 
-  descends_sum : {i s v : ℕ} → Used t i → Used t s → Descends t.cells s i v
+  descends_sum : {s i v : ℕ} → Used t i → Used t s → Descends t.cells s i v
       → blacks_above n t.cells s ≡ blacks_above n t.cells i + v
   descends_sum u w (at e) = omega (arith, ap (blacks_above n t.cells) e)
   descends_sum {s = s} u w (Descends.by {i} {k} σ d r) =

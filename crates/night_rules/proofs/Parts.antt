@@ -28,10 +28,10 @@ pub record PartBelow (n : ℕ) (cells : List ℕ) (t : Tree) (k : ℕ) : Type 0 
   pub hangs : Hangs n cells over (node hue lefts k rights)
   pub part : PartOf t (node hue lefts k rights)
 
-pub below : {n q : ℕ} {cells : List ℕ} {t : Tree} (k : ℕ) → Hangs n cells q t → 1 ≤ times k (slots t) → PartBelow n cells t k
+pub below : {n : ℕ} {cells : List ℕ} {q : ℕ} {t : Tree} (k : ℕ) → Hangs n cells q t → 1 ≤ times k (slots t) → PartBelow n cells t k
 unfolding slots times
 below k Hangs.none y = absurd (omega arith)
-below {n} {q} {cells} k (Hangs.some {c = c} {l} {i} {r} w a b) y =
+below {n} {cells} {q} k (Hangs.some {c = c} {l} {i} {r} w a b) y =
     times-around k (slots l) i (slots r) y
     (λ z. (let h = below k a z in
     record { over = h.over; hue = h.hue; lefts = h.lefts; rights = h.rights; hangs = h.hangs; part = of_left h.part }))

@@ -34,10 +34,10 @@ unfolding slots times
 counts k c l i r = omega (arith, times_append k (slots l) (i ∷ slots r))
 
 -- The number of a slot is that of its part.
-part_size : {t : Tree} {c : Colour} {l : Tree} {i : ℕ} {r : Tree} → ((k : ℕ) → times k (slots t) ≤ 1) → PartOf t (node c l i r)
+part_size : {t : Tree} {c : Colour} {l : Tree} {i : ℕ} {r : Tree} → PartOf t (node c l i r) → ((k : ℕ) → times k (slots t) ≤ 1)
     → size_in i t ≡ length (slots (node c l i r))
 unfolding size_in
-part_size {c = c} {l} {i} {r} once whole =
+part_size {c = c} {l} {i} {r} whole once =
     let m = counts i c l i r in
     let h = node_has c l i r in
     omega (
@@ -49,7 +49,7 @@ part_size {c = c} {l} {i} {r} once whole =
   where
     self : (i : ℕ) → hit i i ≡ 1
     self i = pick_eq {m = i} {n = i} 1 0 refl
-part_size {c = c} {l} {i} {r} once (of_left {c = d} {l = a} {i = j} {r = b} p) =
+part_size {c = c} {l} {i} {r} (of_left {c = d} {l = a} {i = j} {r = b} p) once =
     let m = counts i d a j b in
     let y = part_times i p in
     let z = node_has c l i r in
@@ -57,9 +57,9 @@ part_size {c = c} {l} {i} {r} once (of_left {c = d} {l = a} {i = j} {r = b} p) =
       arith,
       only_none i j (length (slots (node d a j b))) (omega (arith, once i)),
       size_in_none i b (omega (arith, once i)),
-      part_size (λ k. omega (arith, once k, counts k d a j b)) p,
+      part_size p (λ k. omega (arith, once k, counts k d a j b)),
     )
-part_size {c = c} {l} {i} {r} once (of_right {c = d} {l = a} {i = j} {r = b} p) =
+part_size {c = c} {l} {i} {r} (of_right {c = d} {l = a} {i = j} {r = b} p) once =
     let m = counts i d a j b in
     let y = part_times i p in
     let z = node_has c l i r in
@@ -67,7 +67,7 @@ part_size {c = c} {l} {i} {r} once (of_right {c = d} {l = a} {i = j} {r = b} p) 
       arith,
       only_none i j (length (slots (node d a j b))) (omega (arith, once i)),
       size_in_none i a (omega (arith, once i)),
-      part_size (λ k. omega (arith, once k, counts k d a j b)) p,
+      part_size p (λ k. omega (arith, once k, counts k d a j b)),
     )
 
 walk_number : {n q : ℕ} {cells : List ℕ} {t : Tree} (b : ℕ) → n ≤ null → Hangs n cells q t → length (slots t) ≤ b
@@ -112,13 +112,13 @@ module _ {t : Live} (fit : Fit t) (one : T1 t) {tree : Tree} (three : T3 t tree)
       let b = part_of three u in
       let m = rooted_most (slots_of t.names) t.cells (small fit) (root_of t) three.rooted in
       walk_number (slots_of t.names) (small fit) b.hangs (omega (arith, part_length b.part))
-      ∙ sym (part_size three.rooted.once b.part)
+      ∙ sym (part_size b.part three.rooted.once)
 
   pub number_most : {i : ℕ} → Used t i → size_in i tree ≤ slots_of t.names
   number_most {i} u =
       let b = part_of three u in
       let m = rooted_most (slots_of t.names) t.cells (small fit) (root_of t) three.rooted in
-      omega (arith, part_size three.rooted.once b.part, part_length b.part)
+      omega (arith, part_size b.part three.rooted.once, part_length b.part)
 
   pub eight_tests : (i : ℕ) → i < slots_of t.names → Decides (shows8 t i) (Shows8 t tree i)
   unfolding shows8

@@ -30,11 +30,11 @@ pub record Sits (t : Live) : Type 0 where
   pub leads : (i : ℕ) → Used t i → LeadsTo t.cells parent (root_of t) i
 
 -- A link of a member leads to a member.
-hangs_below : {n q : ℕ} {cells : List ℕ} {t : Tree} (σ : Side) (k : ℕ) → Hangs n cells q t → 1 ≤ times k (slots t)
+hangs_below : {n : ℕ} {cells : List ℕ} {q : ℕ} {t : Tree} (σ : Side) (k : ℕ) → Hangs n cells q t → 1 ≤ times k (slots t)
     → cell cells k (toward σ) ≢ null → 1 ≤ times (cell cells k (toward σ)) (slots t)
 unfolding slots times
 hangs_below σ k Hangs.none h d = absurd (omega arith)
-hangs_below {n} {q} {cells} σ k (Hangs.some {c = c} {l} {i} {r} w a b) h d =
+hangs_below {n} {cells} {q} σ k (Hangs.some {c = c} {l} {i} {r} w a b) h d =
     times-around k (slots l) i (slots r) h
     (λ y. omega (arith, into (cell cells k (toward σ)), hangs_below σ k a y d))
     (λ e. here σ e d)

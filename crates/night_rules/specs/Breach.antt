@@ -1,7 +1,8 @@
 -- How a rule is broken: for each way of breaking it what a sentence has to tell, when it is true, and the model that finds it for the slot
 -- that is told.
 use Rattle.std.specs.Prelude.{◌≡◌, ◌≢◌, Bool, List, ℕ, ◌<◌, ◌≤◌, eqb, leb}
-use Rattle.slots.specs.Words.{null, pick, place, state, parent, left, right, prev, next, free, cell, name_of, hash_part, key_part, code, red}
+use Rattle.slots.specs.Words.{null, pick, place, state, parent, left, right, prev, next, free, cell, name_of, hash_part, key_part, code}
+use Rattle.slots.specs.Words.{red}
 use Rattle.slots.specs.Words.{Side, leftward, rightward, toward}
 use Rattle.tree_rules.specs.Find.{slots_of}
 use Rattle.tree_rules.specs.Check.{Named, in_range, points_back, red_slot}

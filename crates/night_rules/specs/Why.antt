@@ -1,7 +1,8 @@
 -- The model of why: the full check's own tests in the order of the rules, and where one fails, the lowest slot for which a test of one slot
 -- is true. What follows links has a budget of as many steps as there are slots.
 use Rattle.std.specs.Prelude.{Bool, true, false, List, length, ℕ, zero, suc, ◌+◌, eqb}
-use Rattle.slots.specs.Words.{null, pick, state, parent, left, right, prev, next, free, cell, name_of, hash_part, key_part, code, black, ◌and◌}
+use Rattle.slots.specs.Words.{null, pick, state, parent, left, right, prev, next, free, cell, name_of, hash_part, key_part, code, black}
+use Rattle.slots.specs.Words.{◌and◌}
 use Rattle.slots.specs.Words.{Side, leftward, rightward, toward}
 use Rattle.slots.specs.Answers.{Value, some, none, given, refused}
 use Rattle.slots.specs.Pairs.{before}

@@ -22,11 +22,11 @@ use Rattle.script_rules.specs.Claims.{PrintsList}
 use Rattle.script_rules.proofs.Listing.{met-null, met_on}
 
 -- Visits for each of the slots are enough.
-met_visits : (v n : ℕ) (cells : List ℕ) {i : ℕ} {l : List ℕ} → n ≤ null → NextVisits n cells i l → length l ≤ v
+met_visits : (n : ℕ) (cells : List ℕ) (v : ℕ) {i : ℕ} {l : List ℕ} → n ≤ null → NextVisits n cells i l → length l ≤ v
     → met v n cells i ≡ some (length l)
-met_visits v n cells s (over e) h = met-null v n cells _ e
-met_visits zero n cells s (visit w c) h = absurd (omega arith)
-met_visits (suc v) n cells {i} s (visit w c) h = met_on v n cells i (omega arith) w ∙ ap more (met_visits v n cells s c (omega arith))
+met_visits n cells v s (over e) h = met-null v n cells _ e
+met_visits n cells zero s (visit w c) h = absurd (omega arith)
+met_visits n cells (suc v) {i} s (visit w c) h = met_on v n cells i (omega arith) w ∙ ap more (met_visits n cells v s c (omega arith))
 
 -- And what is counted is visited.
 abbrev Visited : ℕ → ℕ → List ℕ → ℕ → Type 0
@@ -87,7 +87,7 @@ module _ (t : Live) where
       along fit {l} c h =
           rw (
             fit_fits t fit,
-            met_visits (slots_of t.names) (slots_of t.names) t.cells (small fit) c h,
+            met_visits (slots_of t.names) t.cells (slots_of t.names) (small fit) c h,
             visits_lines c,
             length-map l (entry_of t),
           )

@@ -31,7 +31,8 @@ left-drop numbers b k = go (is_blank b)
 -- The byte at a place of the sentence, and then the rest of it.
 pub filled-drop : (sentence numbers : List ℕ) (i k : ℕ) → i < length sentence
     → blanks_filled (drop i sentence) (drop k numbers)
-    ≡ piece (get_or sentence i 0) (get_or numbers k 0) ++ blanks_filled (drop (i + 1) sentence) (drop (taken_after (get_or sentence i 0) k) numbers)
+    ≡ piece (get_or sentence i 0) (get_or numbers k 0)
+    ++ blanks_filled (drop (i + 1) sentence) (drop (taken_after (get_or sentence i 0) k) numbers)
 unfolding blanks_filled
 filled-drop sentence numbers i k h =
     let first : get_or (drop k numbers) 0 0 ≡ get_or numbers k 0 = get_or-drop k numbers 0 0 ∙ ap (λ n. get_or numbers n 0) (omega arith) in

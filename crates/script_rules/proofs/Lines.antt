@@ -114,7 +114,8 @@ unfolding noted_all
 begun [] n = absurd (n refl)
 begun (b ∷ l) n = all_some (noted blank_line b) l (noted_some blank_line b)
 
-heard_part : (ix : Index) (l : List ℕ) → NoNewline l → heard blank_line ix l ≡ record { text = []; line = noted_all blank_line l; index = ix }
+heard_part : (ix : Index) (l : List ℕ) → NoNewline l
+    → heard blank_line ix l ≡ record { text = []; line = noted_all blank_line l; index = ix }
 unfolding heard
 heard_part ix l n = ap (heard blank_line ix) (sym (append-nil l)) ∙ heard_line blank_line ix l [] n
 

@@ -97,7 +97,8 @@ pair_text c m d e = first (read_number most64 m) refl e
     second h rest w (read k end) q f = last h k rest end w (next-read most64 rest (omega arith) (omega arith) q) f
     second h rest w unread q f = inl (sym f)
 
-    first : (r : Read) → read_number most64 m ≡ r → read_then r (λ h rest. read_then (read_next most64 rest) (λ k end. alone (c h k) end)) ≡ d
+    first : (r : Read) → read_number most64 m ≡ r
+        → read_then r (λ h rest. read_then (read_next most64 rest) (λ k end. alone (c h k) end)) ≡ d
         → (d ≡ bad) ⊎ Two c m d
     first (read h rest) q f = second h rest (number_read most64 m (omega arith) (omega arith) q) (read_next most64 rest) refl f
     first unread q f = inl (sym f)

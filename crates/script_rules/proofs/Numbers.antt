@@ -154,7 +154,8 @@ number_read most (b ∷ l) {x} {r} n g e = go (picked (eqb b 48) e)
     digit ne (inl (d, f)) = nonzero (omega (arith, (digit_is b d).0)) (digit_is b d).1 (on_read most (b - 48) l n f)
     digit ne (inr (d, f)) = unread_not f
 
-    go : ((eqb b 48 ≡ true) × (read 0 l ≡ read x r)) ⊎ ((eqb b 48 ≡ false) × (pick (is_digit b) (read_on most (b - 48) l) unread ≡ read x r))
+    go : ((eqb b 48 ≡ true) × (read 0 l ≡ read x r))
+        ⊎ ((eqb b 48 ≡ false) × (pick (is_digit b) (read_on most (b - 48) l) unread ≡ read x r))
         → Written most (b ∷ l) x r
     go (inl (z, f)) =
         record { text = rw (← number_is f, ← rest_is f) (ap (λ (c : ℕ). c ∷ l) (eqb-true _ _ z)); bound = rw (← number_is f) (omega arith) }

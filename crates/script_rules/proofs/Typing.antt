@@ -46,7 +46,8 @@ unfolding typed digits
 digits_last p q zero x n h e = absurd (n refl)
 digits_last p q (suc k) x n h e = simp (lt-ltb _ _ h) e
 
-pub digits_more : (p q r : Paper) (most x : ℕ) → most ≢ 0 → 10 ≤ x → q ≡ typed p (digits (most - 1) (x / 10)) → r ≡ typed_one q (48 + x % 10)
+pub digits_more : (p q r : Paper) (most x : ℕ) → most ≢ 0 → 10 ≤ x → q ≡ typed p (digits (most - 1) (x / 10))
+    → r ≡ typed_one q (48 + x % 10)
     → r ≡ typed p (digits most x)
 unfolding digits
 digits_more p q r zero x n h e f = absurd (n refl)

@@ -131,7 +131,8 @@ pub record Claims : Type 0 where
   -- "An unended last line counts", and where none has begun nothing is printed
   pub last_line : (ix : Index) (l buffer : List ℕ) → NoNewline l → l ≢ [] → longest ≤ length buffer
       → let f = finishes (desk_of (heard blank_line ix l).line (heard blank_line ix l).index buffer) in
-      ((heard blank_line ix l).text ≡ []) × (printed f ≡ (carried_out ix (spoken l)).text) × (f.desk.index ≡ (carried_out ix (spoken l)).left)
+      ((heard blank_line ix l).text ≡ []) × (printed f ≡ (carried_out ix (spoken l)).text)
+      × (f.desk.index ≡ (carried_out ix (spoken l)).left)
   pub no_line_lem : (ix : Index) (buffer : List ℕ) → longest ≤ length buffer
       → (printed (finishes (desk_of blank_line ix buffer)) ≡ []) × ((finishes (desk_of blank_line ix buffer)).desk.index ≡ ix)
   -- the table: what each command prints, and what it leaves

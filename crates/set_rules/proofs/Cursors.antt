@@ -44,7 +44,8 @@ Under upper lower i k = (k < lower) × ((k ≡ i) ⊎ (k ≡ i + upper))
 pub record Right (lengths : List ℕ) (n base depth : ℕ) (x : List ℕ) (last : ℕ) : Type 0 where
   pub deep : base + depth < length lengths
   pub first : (get_or x 0 0 < get_or lengths base 0) ⊎ ((depth ≡ 0) × (get_or x 0 0 ≡ get_or lengths base 0))
-  pub level : (j : ℕ) → j < depth → Under (get_or lengths (base + j) 0) (get_or lengths (base + suc j) 0) (get_or x j 0) (get_or x (suc j) 0)
+  pub level : (j : ℕ) → j < depth
+      → Under (get_or lengths (base + j) 0) (get_or lengths (base + suc j) 0) (get_or x j 0) (get_or x (suc j) 0)
   pub known : (last ≡ null) ⊎ (last < n)
 
 level-under : (upper lower i k : ℕ) → level_fine upper lower i k ≡ true → Under upper lower i k

@@ -155,6 +155,9 @@ module _ {s : Set} (fit : Fit s) where
   held_run left k i v (list a) (as_list e u p h) m = rw (walked_list s (small fit) (length_at s k) i v e u p h m)
   held_run left k i v (tree h) (as_tree {t = t} g) m =
       rw (grown-fine fit (length_at s k) i h v t g m (rooted_most (slots_of s.names) s.cells (small fit) _ g.rooted))
+  held_run left k i v empty x m = elim x [ ]
+  held_run left k i v moved x m = elim x [ ]
+  held_run left k i v bad x m = elim x [ ]
 
   good_run : {p : Part} {left k i : ℕ} {may : Bool} {l : List ℕ} → Good s p left k i may l → (v : ℕ) → length l ≤ v
       → run p left k i may v ≡ some (v - length l)

@@ -121,7 +121,8 @@ module _ {s : Set} (fit : Fit s) where
     pub used_one : used s.cells x ≡ 1
     pub inside : x < slots_of s.names
 
-  good_member : {p : Part} {left k i : ℕ} {may : Bool} {l : List ℕ} → Good s p left k i may l → suc k + left ≡ tables_of s → i < length_at s k
+  good_member : {p : Part} {left k i : ℕ} {may : Bool} {l : List ℕ} → Good s p left k i may l → suc k + left ≡ tables_of s
+      → i < length_at s k
       → (x : ℕ) → 1 ≤ times x l → Member x
   unfolding times
   good_member (empties p g) t b x z = good_member g t b x z

@@ -61,7 +61,8 @@ module _ (s : Set) (base : ℕ) where
     unfolding advanced
     row_on x e (Onward.end z) = over refl (get_or-set_same x 0 (get_or x 0 0 + 1) 0 (omega arith) ∙ omega (arith, z))
     row_on x e (Onward.bin {l = a} {m} w g r) =
-        let z : get_or (set x 0 (get_or x 0 0 + 1)) 0 0 ≡ suc (get_or x 0 0) = get_or-set_same x 0 (get_or x 0 0 + 1) 0 (omega arith) ∙ omega arith in
+        let z : get_or (set x 0 (get_or x 0 0 + 1)) 0 0 ≡ suc (get_or x 0 0) =
+        get_or-set_same x 0 (get_or x 0 0 + 1) 0 (omega arith) ∙ omega arith in
         here {p = walk_point 0 (set x 0 (get_or x 0 0 + 1))} {l = a} {m = m} (rw (z, add-zero base) w) (rw (z, add-zero base) g)
         (row {x = set x 0 (get_or x 0 0 + 1)} {l = m} (rw z r))
 
@@ -120,7 +121,7 @@ module _ (s : Set) (fit : Fit s) (acc : Accepted s) (base : ℕ) where
   sees (suc t) p h (here w (Gives.of_list {a = a} e g) r) k =
       let z = ((ranges (slots_of s.names) (headers_in s) _).lists a).0 e in
       rw (at_list s base p h w e) (sees_list p h w g (omega (arith, z.3, small fit)) r)
-  sees (suc t) p h (here w (Gives.of_Tree {h = a} e g) r) k =
+  sees (suc t) p h (here w (Gives.of_tree {h = a} e g) r) k =
       let d = acc.headers.firsts (base + p.depth) (deepest p) a (record { table = h.deep; index = w }) e in
       rw (at_tree s base p h w e (first g d)) (sees_list p h w g d r)
     where

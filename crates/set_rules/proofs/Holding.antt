@@ -15,7 +15,7 @@ use Rattle.tree_rules.specs.Tree.{Tree, slots, times, Rooted}
 use Rattle.tree_rules.proofs.Counting.{times_head, times_rest, times_cases, length_most}
 use Rattle.tree_rules.proofs.Reaching.{rooted_most, rooted_unique}
 use Rattle.index_rules.proofs.Seeking.{seeks}
-use Rattle.set_rules.specs.Words.{Set, tables_of, length_at, root_at, count_at, Fit, Bin, list, tree, bini}
+use Rattle.set_rules.specs.Words.{Set, tables_of, length_at, root_at, count_at, Fit, Bin, empty, moved, bad, list, tree, bini}
 use Rattle.set_rules.specs.Accepted.{Accepted, BinThere, Listed, HeldIn, Unlike, Apart}
 use Rattle.set_rules.proofs.Fit.{small, ends, bini_less}
 use Rattle.set_rules.proofs.Lists.{apart_once, listed_inside, listed_unique}
@@ -141,6 +141,9 @@ module _ (s : Set) (fit : Fit s) (acc : Accepted s) (hash key : ℕ) where
         let g = tree_held k a (comes_in s t hash key there c) e in
         answers (at-bin s t hash key there c e)
         ∙ g.2.at slot (rw (rooted_unique (slots_of s.names) s.cells (small fit) (root_at s a) h g.1) at m) f
+    held_given c empty e x m f = elim x [ ]
+    held_given c moved e x m f = elim x [ ]
+    held_given c bad e x m f = elim x [ ]
 
     reached-given : {slot : ℕ} → Reached s t hash key slot → (whole s t hash key there).answer ≡ given slot
     reached-given r = held_given r.comes (home_bin s r.table hash) refl r.entry.holds r.entry.member r.has

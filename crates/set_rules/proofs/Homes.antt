@@ -26,7 +26,8 @@ module _ {s : Set} (fit : Fit s) (parents : ParentMoved s) where
       → bin_at s k (bini (length_at s k) hash) ≡ moved
   above_moved hash zero k b t d = absurd (omega arith)
   above_moved hash (suc l) k b t d =
-      go (moved_or_not (bin_at s l (bini (length_at s l) hash))) (ℕ_discrete k l) (λ c m. above_moved hash l k (omega arith) (omega arith) m)
+      go (moved_or_not (bin_at s l (bini (length_at s l) hash))) (ℕ_discrete k l)
+      (λ c m. above_moved hash l k (omega arith) (omega arith) m)
     where
       parent : bini (length_at s (suc l)) hash % length_at s l ≡ bini (length_at s l) hash
       parent = bini_up fit l t hash
@@ -35,7 +36,8 @@ module _ {s : Set} (fit : Fit s) (parents : ParentMoved s) where
           → (k ≢ l → bin_at s l (bini (length_at s l) hash) ≢ empty → bin_at s k (bini (length_at s k) hash) ≡ moved)
           → bin_at s k (bini (length_at s k) hash) ≡ moved
       go (no m) c again =
-          absurd (d (parents l (bini (length_at s (suc l)) hash) (record { table = t; index = bini_less fit (suc l) t hash }) (rw parent m)))
+          absurd
+          (d (parents l (bini (length_at s (suc l)) hash) (record { table = t; index = bini_less fit (suc l) t hash }) (rw parent m)))
       go (yes m) (yes c) again = rw c m
       go (yes m) (no c) again =
           again c (λ e. (let z : ◌≡◌ {A = Bin} empty moved = sym e ∙ m in let y : ◌≡◌ {A = ℕ} 0 1 = cc in omega arith))

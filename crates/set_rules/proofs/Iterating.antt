@@ -50,7 +50,8 @@ module _ (s : Set) (base : ℕ) where
   -- The state with another index at its depth, which is not the base table's.
   state-at : (d v : ℕ) (x : List ℕ) → length x ≡ 8 → suc d < 8
       → state_at s base (suc d) (set x (suc d) v) ≡ iter (base + suc d) v (get_or x 0 0) (frames s base (suc d) x)
-  state-at d v x e l = rw (get_or-set_same x (suc d) v 0 (omega arith), get_or-set_other x (suc d) 0 v 0 (omega arith), frames-set (suc d) v x)
+  state-at d v x e l =
+      rw (get_or-set_same x (suc d) v 0 (omega arith), get_or-set_other x (suc d) 0 v 0 (omega arith), frames-set (suc d) v x)
 
   abbrev back : ℕ → List ℕ → Iter
   back d x = recovered (frames s base d x) (length_at s base) (base + d) (get_or x d 0) (get_or x 0 0) (length_at s (base + d))
@@ -60,7 +61,11 @@ module _ (s : Set) (base : ℕ) where
   back_first x e =
       let z : length_at s (base + 0) ≡ length_at s base = ap (λ (k : ℕ). length_at s k) (add-zero base) in
       let l : length_at s (base + 0) ≤ get_or x 0 0 + length_at s base = omega arith in
-      rw (le-leb (length_at s (base + 0)) (get_or x 0 0 + length_at s base) l, get_or-set_same x 0 (get_or x 0 0 + 1) 0 (omega arith), add-one)
+      rw (
+        le-leb (length_at s (base + 0)) (get_or x 0 0 + length_at s base) l,
+        get_or-set_same x 0 (get_or x 0 0 + 1) 0 (omega arith),
+        add-one,
+      )
 
   -- What follows a bin that was read is the point after it.
   recovers : (d : ℕ) (x : List ℕ) → length x ≡ 8 → d < 8 → back d x ≡ state (advanced d s.lengths base x)

@@ -36,7 +36,8 @@ chain_listed (Chain.linked b p t) = Listed.onward b (chain_listed t)
 pub data Keeps (s : Set) : ℕ → ℕ → List ℕ → Type 0 where
   nothing : {k i : ℕ} → bin_at s k i ≡ empty → Keeps s k i []
   its : {k i : ℕ} {l : List ℕ} → HeldIn s (bin_at s k i) l → Keeps s k i l
-  parts : {k i : ℕ} {l m : List ℕ} → bin_at s k i ≡ moved → suc k < tables_of s → Keeps s (suc k) i l → Keeps s (suc k) (i + length_at s k) m
+  parts : {k i : ℕ} {l m : List ℕ} → bin_at s k i ≡ moved → suc k < tables_of s → Keeps s (suc k) i l
+      → Keeps s (suc k) (i + length_at s k) m
       → Keeps s k i (l ++ m)
 
 -- Those of the bins of table t, from bin i on.
@@ -53,6 +54,9 @@ module _ (s : Set) (fit : Fit s) (acc : Accepted s) where
       go (list a) e (HeldIn.listed g) =
           let v = acc.lists k i a p e in rw (listed_unique s (small fit) v.ends g) at (apart_once s (small fit) v.apart)
       go (tree a) e (HeldIn.grown r) = r.once
+      go empty e h = elim h [ ]
+      go moved e h = elim h [ ]
+      go bad e h = elim h [ ]
 
   entry_held : {k i x : ℕ} {l : List ℕ} → HeldIn s (bin_at s k i) l → EntryOf s k i x → 1 ≤ times x l
   entry_held h f = rw (holds_unique fit f.holds h) at f.member
@@ -192,7 +196,7 @@ module _ (s : Set) (fit : Fit s) (acc : Accepted s) where
   gives_bin k i p below moved e = below e
   gives_bin k i p below bad e = absurd (acc.none_bad k i p e)
   gives_bin k i p below (list a) e = let g = acc.lists k i a p e in (g.visits, Gives.of_list e g.ends)
-  gives_bin k i p below (tree h) e = let g = acc.chains k i h p e in (g.visits, Gives.of_Tree e (chain_listed g.linked))
+  gives_bin k i p below (tree h) e = let g = acc.chains k i h p e in (g.visits, Gives.of_tree e (chain_listed g.linked))
 
   both_given : {k i : ℕ} → bin_at s k i ≡ moved → suc k < tables_of s → (l : List ℕ) × Gives s (suc k) i l
       → (m : List ℕ) × Gives s (suc k) (i + length_at s k) m
@@ -239,7 +243,7 @@ module _ (s : Set) (fit : Fit s) (acc : Accepted s) where
   likened : {k i : ℕ} {l : List ℕ} → Gives s k i l → BinThere s k i → Likened k i l
   likened (Gives.of_none e) p = ([], Keeps.nothing e, λ x. refl)
   likened {k} {i} {l} (Gives.of_list e g) p = let h : HeldIn s (bin_at s k i) l = rw e (HeldIn.listed g) in (l, Keeps.its h, λ x. refl)
-  likened {k} {i} (Gives.of_Tree {h = h} e g) p =
+  likened {k} {i} (Gives.of_tree {h = h} e g) p =
       let t = acc.trees k i h p e in
       let o : HeldIn s (bin_at s k i) (slots t.tree) = rw e (HeldIn.grown t.rooted) in
       (slots t.tree, Keeps.its o, same_times (acc.chains k i h p e) g p o)

@@ -95,13 +95,16 @@ module _ (s : Set) (small : slots_of s.names ≤ null) where
   unlike_none x Unlike.last = refl
   unlike_none x (Unlike.other {y = y} {l} d u) = times_else x y l (λ e. d (ap (λ (j : ℕ). pair_of s.names j) e)) ∙ unlike_none x u
 
+  one_head : {x y : ℕ} (l : List ℕ) → x ≡ y → times y l ≡ 0 → times x (y ∷ l) ≤ 1
+  one_head {y = y} l e z = rw e (omega (arith, times_head y l, z))
+
   pub apart_once : {l : List ℕ} → Apart s.names l → (x : ℕ) → times x l ≤ 1
   unfolding times
   apart_once Apart.none x = omega arith
   apart_once (Apart.one {x = y} {l} u a) x = go (ℕ_discrete x y) (apart_once a x)
     where
       go : Dec (x ≡ y) → times x l ≤ 1 → times x (y ∷ l) ≤ 1
-      go (yes e) o = rw e (omega (arith, times_head y l, unlike_none y u))
+      go (yes e) o = one_head l e (unlike_none y u)
       go (no d) o = omega (arith, times_else x y l d)
 
   pub listed_inside : {y : ℕ} {l : List ℕ} → Listed (slots_of s.names) s.cells y l → (x : ℕ) → 1 ≤ times x l → x < slots_of s.names

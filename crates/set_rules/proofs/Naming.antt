@@ -130,11 +130,13 @@ unfolding bins_before
 begins_more l zero k b = absurd (omega arith)
 begins_more l (suc t) k b = go (ℕ_discrete k t) (λ d. begins_more l t k (omega arith))
   where
-    go : Dec (k ≡ t) → (k ≢ t → bins_before l k + get_or l k 0 ≤ bins_before l t) → bins_before l k + get_or l k 0 ≤ bins_before l t + get_or l t 0
+    go : Dec (k ≡ t) → (k ≢ t → bins_before l k + get_or l k 0 ≤ bins_before l t)
+        → bins_before l k + get_or l k 0 ≤ bins_before l t + get_or l t 0
     go (yes e) rest = rw e (omega arith)
     go (no d) rest = omega (arith, rest d)
 
-pub begins_there : (l : List ℕ) (t p : ℕ) → p < bins_before l t → (k : ℕ) × (i : ℕ) × (k < t) × (i < get_or l k 0) × (bins_before l k + i ≡ p)
+pub begins_there : (l : List ℕ) (t p : ℕ) → p < bins_before l t
+    → (k : ℕ) × (i : ℕ) × (k < t) × (i < get_or l k 0) × (bins_before l k + i ≡ p)
 unfolding bins_before
 begins_there l zero p b = absurd (omega arith)
 begins_there l (suc t) p b = go (dec_le (bins_before l t) p) (λ c. begins_there l t p c)

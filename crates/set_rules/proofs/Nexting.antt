@@ -52,7 +52,8 @@ zeroed_advanced lengths base (suc d) x e l z =
         → ((j : ℕ) → (advanced d lengths base (set x (suc d) 0)).depth < j
         → get_or (advanced d lengths base (set x (suc d) 0)).indexes j 0 ≡ 0)
         → (j : ℕ) → (advanced (suc d) lengths base x).depth < j → get_or (advanced (suc d) lengths base x).indexes j 0 ≡ 0
-    go (yes k) again = rw (advanced_lt lengths base d x k) (λ j m. get_or-set_other x (suc d) j (on lengths base d x) 0 (omega arith) ∙ z j m)
+    go (yes k) again =
+        rw (advanced_lt lengths base d x k) (λ j m. get_or-set_other x (suc d) j (on lengths base d x) 0 (omega arith) ∙ z j m)
     go (no n) again = rw (advanced_ge lengths base d x (omega arith)) again
 
 module _ (s : Set) (base : ℕ) (from : WalkPoint) (good : InTables s.lengths base from) (zero-from : Zeroed from) where

@@ -105,7 +105,8 @@ module _ {s : Set} (fit : Fit s) (len i : ℕ) where
   tree_home_lem (suc depth) Hangs.none b h = refl
   tree_home_lem zero (Hangs.some {c = c} {l} {i = x} {r} w a b) m h = absurd (omega (arith, length_node c l x r))
   tree_home_lem (suc depth) (Hangs.some {c = c} {l} {i = x} {r} w a b) m h =
-      let f = tree_home_lem depth a (omega (arith, length_node c l x r)) (λ y z. h y (omega (arith, times_append y (slots l) (x ∷ slots r)))) in
+      let f = tree_home_lem depth a (omega (arith, length_node c l x r))
+      (λ y z. h y (omega (arith, times_append y (slots l) (x ∷ slots r)))) in
       let g =
       tree_home_lem depth b (omega (arith, length_node c l x r))
       (λ y z. h y (omega (arith, times_append y (slots l) (x ∷ slots r), times_rest y x (slots r)))) in

@@ -142,7 +142,8 @@ module _ (lengths : List ℕ) (base : ℕ) where
         let a = left_within 0 x (w 0 (omega arith)) in
         let b : left lengths base 0 x ≤ get_or lengths base 0 * under (length lengths - base) = left-top x in
         omega (arith, a, b)
-    left_most (suc d) x h w = go (dec_lt (on d x) (get_or lengths (base + suc d) 0)) (left_most d x (omega arith) (λ j k. w j (omega arith)))
+    left_most (suc d) x h w =
+        go (dec_lt (on d x) (get_or lengths (base + suc d) 0)) (left_most d x (omega arith) (λ j k. w j (omega arith)))
       where
         go : Dec (on d x < get_or lengths (base + suc d) 0)
             → under (length lengths - (base + d)) + later lengths base d x ≤ get_or lengths base 0 * under (length lengths - base)

@@ -14,7 +14,7 @@ use Rattle.tree_rules.proofs.Counting.{exactly_length}
 use Rattle.tree_rules.proofs.Reaching.{hangs_stand, hangs_inside}
 use Rattle.index_rules.specs.Sound.{used}
 use Rattle.index_rules.proofs.Rules.{used_hued}
-use Rattle.set_rules.specs.Words.{Set, Fit, tables_of, Bin, list, tree, bin_at}
+use Rattle.set_rules.specs.Words.{Set, Fit, tables_of, Bin, empty, moved, bad, list, tree, bin_at}
 use Rattle.set_rules.specs.Accepted.{Accepted, EntryOf, HeldIn}
 use Rattle.set_rules.proofs.Fit.{small}
 use Rattle.set_rules.proofs.Lists.{listed_inside, listed_unique}
@@ -47,6 +47,9 @@ module _ (s : Set) (fit : Fit s) (acc : Accepted s) where
           used_hued s.cells x black (g.plain x (rw (listed_unique s (small fit) h g.ends) at m)).states
       go (tree a) e (HeldIn.grown r) m =
           let d = hangs_stand (slots_of s.names) s.cells r.hangs m in used_hued s.cells x d.hue d.words.hued
+      go empty e h m = elim h [ ]
+      go moved e h m = elim h [ ]
+      go bad e h m = elim h [ ]
 
   entry_inside : {k i x : ℕ} → EntryOf s k i x → x < slots_of s.names
   entry_inside {k} {i} {x} f = go f.holds f.member

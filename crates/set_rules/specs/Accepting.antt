@@ -26,7 +26,8 @@ is_list_slot cells x =
 
 -- Slots x and y have one pair.
 unfoldable pub same_pair : List ℕ → ℕ → ℕ → Bool
-same_pair names x y = eqb (name_of names x hash_part) (name_of names y hash_part) and eqb (name_of names x key_part) (name_of names y key_part)
+same_pair names x y =
+    eqb (name_of names x hash_part) (name_of names y hash_part) and eqb (name_of names x key_part) (name_of names y key_part)
 
 -- The pair of slot x is that of no slot from the link y by next, and these are at most v.
 unfoldable pub unlike : ℕ → List ℕ → List ℕ → ℕ → ℕ → Bool

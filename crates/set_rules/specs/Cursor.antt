@@ -59,7 +59,8 @@ level_fine upper lower i k = ltb k lower and pick (eqb k i) true (eqb k (i + upp
 unfoldable pub levels_fine : ℕ → List ℕ → ℕ → List ℕ → Bool
 levels_fine zero lengths base x = true
 levels_fine (suc d) lengths base x =
-    level_fine (get_or lengths (base + d) 0) (get_or lengths (base + suc d) 0) (get_or x d 0) (get_or x (suc d) 0) and levels_fine d lengths base x
+    level_fine (get_or lengths (base + d) 0) (get_or lengths (base + suc d) 0) (get_or x d 0) (get_or x (suc d) 0)
+    and levels_fine d lengths base x
 
 -- The base index is below the base length, or at depth 0 the end.
 unfoldable pub base_fine : ℕ → ℕ → ℕ → Bool

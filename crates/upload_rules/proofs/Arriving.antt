@@ -39,7 +39,8 @@ entries_at_append from [] k = (from, refl)
 entries_at_append from (p ∷ l) k =
     let a = entries_at_append (from + length (pair_bytes p)) l k in (a.0, ap (λ (x : List Entry). entry p.hash p.key from ∷ x) a.1)
 
-entries_of_append : (k from : ℕ) (ss ts : List (List Pair)) → (fs : List Entry) × (entries_of k from (ss ++ ts) ≡ entries_of k from ss ++ fs)
+entries_of_append : (k from : ℕ) (ss ts : List (List Pair))
+    → (fs : List Entry) × (entries_of k from (ss ++ ts) ≡ entries_of k from ss ++ fs)
 unfolding entries_of
 entries_of_append k from [] ts = (entries_of k from ts, refl)
 entries_of_append k from (s ∷ ss) ts =

@@ -8,7 +8,8 @@ use Rattle.slots.specs.Answers.{Answer, refused}
 use Rattle.index_rules.specs.Index.{Index}
 use Rattle.endian.specs.Bytes.{Bytes, nothing, another}
 use Rattle.upload_rules.specs.Reader.{Note, unsaid, said, Reader, FitReader, fits_reader, is_whole, note_answer, reader_answer}
-use Rattle.upload_rules.specs.Reading.{Session, ReadOutcome, read_outcome, turned_down, byte_came, byte_read, bytes_read, end_came, end_read}
+use Rattle.upload_rules.specs.Reading.{Session, ReadOutcome, read_outcome, turned_down, byte_came, byte_read, bytes_read, end_came}
+use Rattle.upload_rules.specs.Reading.{end_read}
 use Rattle.upload_rules.specs.Reading.{read_chunk, read_end, read_chunks, joined_bytes}
 use Rattle.upload_rules.proofs.Ranges.{pick_both, in_range_lem, range_in, bytes_range, end_range}
 
@@ -127,7 +128,8 @@ again_out d m e = (chunk_out d m e, end_out d e)
 again_by : {o p : ReadOutcome} (m : List ℕ) → o ≡ p → Again p.left p m → Again o.left o m
 again_by m e g = rw e g
 
-pub chunk_again : (d : Session) (l m : List ℕ) → Bytes l → (read_chunk d l).answer.number ≢ 0 → Again (read_chunk d l).left (read_chunk d l) m
+pub chunk_again : (d : Session) (l m : List ℕ) → Bytes l → (read_chunk d l).answer.number ≢ 0
+    → Again (read_chunk d l).left (read_chunk d l) m
 chunk_again d l m k n = go (either d.reader)
   where
     go : Either d.reader → Again (read_chunk d l).left (read_chunk d l) m

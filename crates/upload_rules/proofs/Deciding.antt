@@ -170,7 +170,8 @@ module _ (ix : Index) (fits : FitIndex ix) (h : Sound ix.live) (words : Places (
       refusing : (r : Answer) → r.number ≢ 0 → ins.answer ≡ r
           → ((rest : List ℕ) → Reason ix h (part_bytes (within ss c ps held) ++ (b ∷ rest)) r) → Next (within ss c ps held) b
       refusing r z y why =
-          halts r why (note_of_lem (last_refuses ix fits h words f b e sp a (λ x. z (ap (λ (q : Answer). q.number) (sym y) ∙ x))) (ap said y))
+          halts r why
+          (note_of_lem (last_refuses ix fits h words f b e sp a (λ x. z (ap (λ (q : Answer). q.number) (sym y) ∙ x))) (ap said y))
 
       slot_there : (x : ℕ) → Stands x a.taken.left.sound.tree → pair_of a.index.live.names x ≡ p → (rest : List ℕ)
           → PresentIn ix h (part_bytes (within ss c ps held) ++ (b ∷ rest)) x

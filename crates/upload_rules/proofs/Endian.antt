@@ -29,7 +29,8 @@ eight a b c d e f g h =
     let x1 : name_byte 0 a ≡ 256 ^ 7 * a = omega arith in
     let x2 : name_byte (name_byte 0 a) b ≡ 256 ^ 6 * (a + 256 * b) = rw x1 (omega arith) in
     let x3 : name_byte (name_byte (name_byte 0 a) b) c ≡ 256 ^ 5 * (a + 256 * (b + 256 * c)) = rw x2 (omega arith) in
-    let x4 : name_byte (name_byte (name_byte (name_byte 0 a) b) c) d ≡ 256 ^ 4 * (a + 256 * (b + 256 * (c + 256 * d))) = rw x3 (omega arith) in
+    let x4 : name_byte (name_byte (name_byte (name_byte 0 a) b) c) d ≡ 256 ^ 4 * (a + 256 * (b + 256 * (c + 256 * d))) =
+    rw x3 (omega arith) in
     let x5 : name_byte (name_byte (name_byte (name_byte (name_byte 0 a) b) c) d) e
     ≡ 256 ^ 3 * (a + 256 * (b + 256 * (c + 256 * (d + 256 * e)))) =
     rw x4 (omega arith) in

@@ -89,7 +89,8 @@ module _ (ss : List (List Pair)) where
   unfolding part_entries
   entries_whole s c =
       let n = header_length (suc (length ss)) c in
-      let z : 0 + length (sections_bytes 1 ss) + 3 ≡ length (sections_bytes 1 ss) + length (header_bytes (suc (length ss)) c) = omega arith in
+      let z : 0 + length (sections_bytes 1 ss) + 3 ≡ length (sections_bytes 1 ss) + length (header_bytes (suc (length ss)) c) =
+      omega arith in
       entries_of_one 1 0 ss s ∙ ap (λ (a : ℕ). entries_of 1 0 ss ++ entries_at a s) z
 
   module _ (c : ℕ) (ps : List Pair) (held : List ℕ) where

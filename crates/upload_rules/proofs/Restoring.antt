@@ -32,7 +32,8 @@ unfolding after
 after_one [] c ix = refl
 after_one (d ∷ cs) c ix = after_one cs c (called d ix).left
 
-pub allowed_one : (hash key : ℕ) {m p : ℕ} {cs : List Call} → p < 4294967296 → Allowed m cs → Allowed m (cs ++ (insert_call hash key p ∷ []))
+pub allowed_one : (hash key : ℕ) {m p : ℕ} {cs : List Call} → p < 4294967296 → Allowed m cs
+    → Allowed m (cs ++ (insert_call hash key p ∷ []))
 allowed_one hash key l nothing = inserting l nothing
 allowed_one hash key l (inserting s a) = inserting s (allowed_one hash key l a)
 allowed_one hash key l (removing a) = removing (allowed_one hash key l a)
@@ -84,7 +85,7 @@ module _ (ix : Index) (fit : FitIndex ix) (h : Sound ix.live) (words : Places (c
       let h = ((c.accepted x).0 e).1.0 in
       (c.done x e h).5.count
 
-  step_run : {r : Reader} {e : Session} (cs : List Call) → Allowed mark cs → r.mark ≡ mark
+  step_run : {r : Reader} (cs : List Call) {e : Session} → Allowed mark cs → r.mark ≡ mark
       → length_of (after cs ix).lines ≡ mark + r.taken → ByteStep r (after cs ix) e → Run e
   step_run cs a q w (moves {s} n m k) = running {r = s} cs a n (m ∙ q) (omega arith)
   step_run cs a q w (takes {s} hash key p x l e n m k) =
@@ -106,7 +107,7 @@ module _ (ix : Index) (fit : FitIndex ix) (h : Sound ix.live) (words : Places (c
   pub bytes_run : {d : Session} {l : List ℕ} → Bytes l → FitReader d.reader → Run d → Run (bytes_read d l)
   unfolding bytes_read
   bytes_run nothing k u = u
-  bytes_run {d} (another {b} s j) k u = bytes_run j (byte_range d b s k) (byte_run b k u)
+  bytes_run {d = d} (another {b} s j) k u = bytes_run {d = byte_read d b} j (byte_range d b s k) (byte_run b k u)
 
   start_run : Run (new_session ix)
   unfolding after

@@ -18,7 +18,8 @@ use Rattle.index_rules.specs.Calls.{Places}
 use Rattle.index_rules.proofs.Inserting.{insert_claims}
 use Rattle.upload_rules.specs.Upload.{sections_bytes, entries_of}
 use Rattle.upload_rules.specs.Reader.{Reader, unsaid, noting}
-use Rattle.upload_rules.specs.Reading.{Session, session, turned_down, owing, kind_came, came_of, last_came, byte_came, byte_read, bytes_read}
+use Rattle.upload_rules.specs.Reading.{Session, session, turned_down, owing, kind_came, came_of, last_came, byte_came, byte_read}
+use Rattle.upload_rules.specs.Reading.{bytes_read}
 use Rattle.upload_rules.specs.Reading.{new_session}
 use Rattle.upload_rules.specs.Parts.{UploadPart, between, kinded, counting, within, part_bytes, part_entries}
 use Rattle.upload_rules.proofs.Cutting.{bytes_read_append, byte_open}

@@ -58,7 +58,8 @@ sections_length k (s ∷ ss) =
 pub pairs_one : (l : List Pair) (p : Pair) → pairs_bytes (l ++ (p ∷ [])) ≡ pairs_bytes l ++ pair_bytes p
 unfolding pairs_bytes
 pairs_one [] p = append-nil (pair_bytes p)
-pairs_one (q ∷ l) p = ap (λ (x : List ℕ). pair_bytes q ++ x) (pairs_one l p) ∙ sym (append_assoc (pair_bytes q) (pairs_bytes l) (pair_bytes p))
+pairs_one (q ∷ l) p = ap (λ (x : List ℕ). pair_bytes q ++ x) (pairs_one l p)
+    ∙ sym (append_assoc (pair_bytes q) (pairs_bytes l) (pair_bytes p))
 
 pub sections_one : (k : ℕ) (ss : List (List Pair)) (s : List Pair)
     → sections_bytes k (ss ++ (s ∷ [])) ≡ sections_bytes k ss ++ section_bytes (k + length ss) s
@@ -66,7 +67,8 @@ unfolding sections_bytes
 sections_one k [] s = let z : k + 0 ≡ k = omega arith in rw z (append-nil (section_bytes k s))
 sections_one k (t ∷ ss) s =
     let z : suc k + length ss ≡ k + suc (length ss) = omega arith in
-    ap (λ (x : List ℕ). section_bytes k t ++ x) (sections_one (suc k) ss s ∙ ap (λ (j : ℕ). sections_bytes (suc k) ss ++ section_bytes j s) z)
+    ap (λ (x : List ℕ). section_bytes k t ++ x)
+    (sections_one (suc k) ss s ∙ ap (λ (j : ℕ). sections_bytes (suc k) ss ++ section_bytes j s) z)
     ∙ sym (append_assoc (section_bytes k t) (sections_bytes (suc k) ss) _)
 
 pub entries_at_one : (from : ℕ) (l : List Pair) (p : Pair)

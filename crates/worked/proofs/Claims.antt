@@ -21,7 +21,8 @@ use Rattle.redblack.specs.Removal.{replaced, lowered, traded, replacement, splic
 use Rattle.redblack.specs.Rotate.{hung, recounted, turned, rotated}
 use Rattle.redblack.specs.Climbing.{climbed, swapped}
 use Rattle.index_rules.specs.Live.{Live, unsized_of, Fit, root_of, count_of, fits_unsized, fits}
-use Rattle.index_rules.specs.Sound.{Sound, sound, is_cleared, slot_fine, slots_fine, rule1, rule2, rule3, rule4, rule5, rule6, rule7, free_fine}
+use Rattle.index_rules.specs.Sound.{Sound, sound, is_cleared, slot_fine, slots_fine, rule1, rule2, rule3, rule4, rule5, rule6, rule7}
+use Rattle.index_rules.specs.Sound.{free_fine}
 use Rattle.index_rules.specs.Sound.{frees_fine, rule8}
 use Rattle.index_rules.specs.Find.{finds}
 use Rattle.index_rules.specs.Index.{Index, FitIndex, index, outcome, length_of, whole_lines, fits_journal, fits_index, lined, appended}
@@ -72,24 +73,24 @@ unfolding walks tables list_slots cell name_of bins_before doubling doubled fit_
 walk_order = refl
 
 tables-accepted : accepts tables ≡ given 1
-unfolding tables list_slots cell name_of tally links_in is_cleared slot_fine slots_fine bins_before doubling doubled fit_tables setFits bin_of bini
-    is_home is_list_slot same_pair unlike list_slot_fine list_fine may_stand own_fine bin_asks below_fine bin_fine table_fine is_blank headers_fine all_held
-    accepted accepts
+unfolding tables list_slots cell name_of tally links_in is_cleared slot_fine slots_fine bins_before doubling doubled fit_tables setFits
+    bin_of bini is_home is_list_slot same_pair unlike list_slot_fine list_fine may_stand own_fine bin_asks below_fine bin_fine
+    table_fine is_blank headers_fine all_held accepted accepts
 tables-accepted = refl
 
 walk_done : (nexts tables (stepped 6 tables (starts tables 0).cursor)).answer ≡ nothing
-unfolding tables list_slots cell bins_before doubling doubled fit_tables setFits bin_of starts level_fine levels_fine base_fine fine kept advanced
-    sought under steps_on nexts stepped
+unfolding tables list_slots cell bins_before doubling doubled fit_tables setFits bin_of starts level_fine levels_fine base_fine fine
+    kept advanced sought under steps_on nexts stepped
 walk_done = refl
 
 pub claims : Claims
-unfolding empty zeros free_slots drawn drawn_from chain_of chain_from cell write name_of rename roomy chained tally links_in decided looked
-    searched found stands reached follows risen all_calm levelled with_parts has_size slots_below rises coloured level all_sized capped outer_red
-    inner_red dark_sib by_sib deletion_turn balanced_deletion descended hooked inserted spotted raised straightened lifted insertion_turn
-    insertion_turns balanced_insertion replaced lowered traded replacement spliced detached dropped leftmost removed hung recounted turned
-    rotated climbed swapped sum after whole_lines fits_journal fits_index lined appended free_from lowest_free sought_in seated grown inserts
-    fits_unsized fits unchained wiped shrunk removal_of where_present after_remove removes is_cleared slot_fine slots_fine rule1 rule2 rule3 rule4
-    rule5 rule6 rule7 free_fine frees_fine rule8 sound
+unfolding empty zeros free_slots drawn drawn_from chain_of chain_from cell write name_of rename roomy chained tally links_in decided
+    looked searched found stands reached follows risen all_calm levelled with_parts has_size slots_below rises coloured level all_sized
+    capped outer_red inner_red dark_sib by_sib deletion_turn balanced_deletion descended hooked inserted spotted raised straightened
+    lifted insertion_turn insertion_turns balanced_insertion replaced lowered traded replacement spliced detached dropped leftmost
+    removed hung recounted turned rotated climbed swapped sum after whole_lines fits_journal fits_index lined appended free_from
+    lowest_free sought_in seated grown inserts fits_unsized fits unchained wiped shrunk removal_of where_present after_remove removes
+    is_cleared slot_fine slots_fine rule1 rule2 rule3 rule4 rule5 rule6 rule7 free_fine frees_fine rule8 sound
 claims =
     record {
       empty_find = empty_find;
