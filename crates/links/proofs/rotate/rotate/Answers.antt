@@ -20,12 +20,12 @@ returns-then-r c =
 
 pub shape_of-cells : goal.shape_of-cells
 shape_of-cells c =
-    c.put-5.auto.0
-    ∙ c.put-4.auto.0
-    ∙ c.hang-top.auto.0
-    ∙ c.put-3.auto.0
-    ∙ c.put-2.auto.0
-    ∙ c.put.auto.0
+    c.put-5.auto.cells
+    ∙ c.put-4.auto.cells
+    ∙ c.hang-top.auto.cells
+    ∙ c.put-3.auto.cells
+    ∙ c.put-2.auto.cells
+    ∙ c.put.auto.cells
 
 pub returns : goal.returns
 returns c =

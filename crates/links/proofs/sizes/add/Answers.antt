@@ -4,4 +4,4 @@ use Rattle.links.proofs.sizes.add.Goals as goal
 
 pub returns : goal.returns
 unfolding sum
-returns c = c.wrapping_add_u32.ensures
+returns c = c.wrapping_add_u32.ensures.value

@@ -6,16 +6,16 @@ use Rattle.links.proofs.unlink.trade.Goals as goal
 
 pub shape_of-cells : goal.shape_of-cells
 shape_of-cells c =
-    c.replace-top.auto.0
-    ∙ c.put-8.auto.0
-    ∙ c.put-7.auto.0
-    ∙ c.put-6.auto.0
-    ∙ c.put-5.auto.0
-    ∙ c.put-4.auto.0
-    ∙ c.put-3.auto.0
-    ∙ c.lower.auto.0
-    ∙ c.put-2.auto.0
-    ∙ c.put.auto.0
+    c.replace-top.auto.cells
+    ∙ c.put-8.auto.cells
+    ∙ c.put-7.auto.cells
+    ∙ c.put-6.auto.cells
+    ∙ c.put-5.auto.cells
+    ∙ c.put-4.auto.cells
+    ∙ c.put-3.auto.cells
+    ∙ c.lower.auto.cells
+    ∙ c.put-2.auto.cells
+    ∙ c.put.auto.cells
 
 pub returns : goal.returns
 returns c =
