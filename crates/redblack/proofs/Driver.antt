@@ -4,14 +4,14 @@ use mathlib.Core.Bool.{Bool, true, false, not}
 use Prim.Native.Nat.{ℕ, zero, suc}
 use lib.Dec.{eqb, ltb}
 use borrow.Author.Tests.{eqb-true}
-use Rattle.slots.specs.Words.{pick, null, state, parent, left, right, black, red, Colour, code, fields}
+use Rattle.slots.specs.Words.{pick, null, state, parent, left, right, Colour, code, fields}
 use Rattle.slots.proofs.Laws.{cell_across}
-use Rattle.redblack.specs.Links.{Links, read, stored, rooted, painted, is_red, colour_of}
+use Rattle.redblack.specs.Links.{Links, read, stored, painted, is_red, colour_of}
 use Rattle.redblack.specs.Removal.{replaced, lowered, traded, leftmost}
 use Rattle.tree_rules.specs.Source.{is-null}
-use Rattle.redblack.specs.Source.{Memory, WildMemory, memory, load, to_field, set_root}
+use Rattle.redblack.specs.Source.{WildMemory, memory, load, to_field}
 use Rattle.redblack.specs.Driver.{smallest, lower, rehung, trade}
-use Rattle.redblack.proofs.Guards.{Short, short_stored, short_painted, short_pick, short_rooted, load_null, store-null, eqb_swap}
+use Rattle.redblack.proofs.Guards.{Short, short_stored, short_painted, short_pick, store-null, eqb_swap}
 use Rattle.redblack.proofs.Guards.{guard_store}
 use Rattle.redblack.proofs.Source.{hue_word}
 

@@ -9,12 +9,12 @@ use lib.ListN.{length}
 use lib.Seq.{set_out}
 use lib.Dec.{eqb}
 use borrow.Author.Tests.{eqb-true, eqb-false, eq-eqb, ne_eqb}
-use Rattle.slots.specs.Words.{pick, null, state, parent, Colour, code, cell, write}
+use Rattle.slots.specs.Words.{pick, null, state, parent, Colour, code, write}
 use Rattle.slots.proofs.Laws.{length-write, cell-null}
 use Rattle.redblack.specs.Links.{Links, read, stored, rooted, painted, is_red, resized}
 use Rattle.redblack.specs.Rotate.{hung, turned, rotated}
 use Rattle.tree_rules.specs.Source.{is-null}
-use Rattle.redblack.specs.Source.{Memory, WildMemory, memory, load, red_of, to_field}
+use Rattle.redblack.specs.Source.{WildMemory, memory, load, red_of, to_field}
 
 -- The words end before slot null.
 pub record Short (s : Links) : Type 0 where

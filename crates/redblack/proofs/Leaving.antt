@@ -8,7 +8,7 @@ use native.Mathlib.Omega.{arith}
 use lib.ListN.{length}
 use lib.Dec.{eqb}
 use Rattle.slots.specs.Words.{null, parent, Colour, Side, black, red, leftward, rightward}
-use Rattle.redblack.specs.Links.{Links, read, stored, painted}
+use Rattle.redblack.specs.Links.{Links, read, stored}
 use Rattle.redblack.specs.Sided.{Sided, Way, top, plug, Site, bare, fork, frame}
 use Rattle.redblack.specs.Balance.{dark, rosy, void}
 use Rattle.redblack.proofs.Ends.{Part, black_part, red_part}
@@ -17,7 +17,6 @@ use Rattle.redblack.specs.Climbing.{weighed_out}
 use Rattle.redblack.specs.Sizes.{weight, Sized}
 use Rattle.redblack.proofs.Reading.{solid}
 use Rattle.redblack.proofs.Frames.{cell_of, this_of, way_cell, inward, turn, whole, site_of}
-use Rattle.redblack.proofs.Paint.{painting}
 use Rattle.redblack.proofs.Depth.{depth}
 use Rattle.redblack.proofs.Parts.{part_in, part_turn, part_reslot}
 use Rattle.redblack.proofs.Deletion.{deletion}

@@ -12,13 +12,13 @@ use borrow.Author.Tests.{eq-eqb, ne_eqb}
 use Rattle.slots.specs.Words.{null, state, parent, left, right, code, Colour, Side, other, toward, black, red, leftward, rightward}
 use Rattle.slots.proofs.Laws.{length-write}
 use Rattle.redblack.specs.Links.{Links, read, stored, is_red}
-use Rattle.redblack.specs.Sided.{Sided, Way, top, upper, plug, slots, count, Cap, Site, bare, fork, none, home}
+use Rattle.redblack.specs.Sided.{Sided, Way, upper, plug, slots, count, Cap, Site, bare, fork, none, home}
 use Rattle.redblack.specs.Balance.{Wants, void, dark, rosy}
 use Rattle.redblack.specs.Climbing.{weighed_out}
 use Rattle.redblack.specs.Deletion.{balanced_deletion}
 use Rattle.redblack.specs.Removal.{replaced, replacement, spliced, detached, dropped}
 use Rattle.redblack.specs.Kept.{Agree}
-use Rattle.redblack.proofs.Ends.{Part, Outcome, black_part, red_part, up}
+use Rattle.redblack.proofs.Ends.{Part, Outcome, black_part, red_part}
 use Rattle.redblack.proofs.Reading.{reads, roomy_cap, recap, solid}
 use Rattle.redblack.proofs.Frames.{hit_same, apart, count-upper, upper-count, cell_of, this_of, agree_trans, Moved, site_of, whole}
 use Rattle.redblack.proofs.Frames.{rehang, root_else, not_root}

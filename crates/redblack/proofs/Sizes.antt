@@ -6,7 +6,6 @@ use native.Mathlib.Omega.{arith}
 use Rattle.slots.specs.Words.{left, Side, other, toward, red, leftward}
 use Rattle.redblack.specs.Links.{Links, painted}
 use Rattle.tree_rules.specs.Tree.{Tree, leaf, node, slots, times, Rising}
-use Rattle.redblack.specs.Sided
 use Rattle.redblack.specs.Sided.{Sided, Way, plug, count, count_way, Site, fork}
 use Rattle.redblack.specs.Rotate.{rotated}
 use Rattle.redblack.specs.Insertion.{balanced_insertion}

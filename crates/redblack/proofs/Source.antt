@@ -5,12 +5,10 @@
 use mathlib.Core.Path.{◌≡◌, refl, ap, ◌∙◌, sym}
 use Prim.{Unit, tt}
 use mathlib.Core.Bool.{Bool, true, false, not, ◌&&◌, ◌||◌}
-use mathlib.Core.List.{List}
-use Prim.Native.Nat.{ℕ, zero, suc, ◌*◌, ◌≤◌}
-use lib.ListN.{length}
+use Prim.Native.Nat.{ℕ, zero, suc}
 use lib.Dec.{eqb}
-use borrow.Author.Tests.{eqb-true, eqb-false, ne_eqb}
-use Rattle.slots.specs.Words.{pick, null, state, parent, left, right, black, red, code, cell}
+use borrow.Author.Tests.{eqb-true, eqb-false}
+use Rattle.slots.specs.Words.{pick, null, state, parent, left, right, black, red, code}
 use Rattle.redblack.specs.Links.{Links, read, stored, rooted, painted, is_red, colour_of, Turn, done, more}
 use Rattle.redblack.specs.Rotate.{hung, turned, rotated}
 use Rattle.redblack.specs.Insertion.{raised, straightened, lifted, insertion_turn, insertion_turns, balanced_insertion}

@@ -1,23 +1,22 @@
 -- The trade, said of the plain tree: p and its successor have changed places, and every place has kept its colour.
-use mathlib.Core.Path.{◌≡◌, refl, ap, ap₂, ◌∙◌, sym}
+use mathlib.Core.Path.{◌≡◌, refl, ap, ◌∙◌, sym}
 use mathlib.Core.Logic.{◌≢◌}
-use mathlib.Core.List.{List, [], ◌∷◌, ◌++◌}
+use mathlib.Core.List.{[], ◌∷◌, ◌++◌}
 use mathlib.Core.Bool.{false}
 use Prim.Native.Nat.{ℕ, ◌+◌, ◌≤◌}
 use native.Mathlib.Omega.{arith}
-use native.Mathlib.Decide.{ℕ_discrete}
 use lib.Dec.{eqb}
 use borrow.Author.Tests.{eq-eqb, ne_eqb}
-use Rattle.slots.specs.Words.{null, pick, left, right, Colour, Side, leftward, rightward}
+use Rattle.slots.specs.Words.{null, left, right, Colour, leftward, rightward}
 use Rattle.tree_rules.specs.Tree.{Tree, node, slots as listed, NextInOrder}
 use Rattle.tree_rules.proofs.Reaching.{rooted_unique}
 use Rattle.redblack.specs.Links.{Links, read}
-use Rattle.redblack.specs.Sided.{Sided, Way, top, plug, slots, hit, count, count_way, Site, bare, fork, frame}
-use Rattle.redblack.specs.Removal.{traded, dropped, leftmost, removed}
+use Rattle.redblack.specs.Sided.{Sided, Way, top, plug, hit, count, count_way, Site, bare, fork, frame}
+use Rattle.redblack.specs.Removal.{traded, dropped, removed}
 use Rattle.redblack.specs.Holding.{Holds, RedBlackTree, Stands, instead, switched, plain}
 use Rattle.redblack.proofs.Ends.{Part}
 use Rattle.redblack.proofs.Reading.{solid}
-use Rattle.redblack.proofs.Frames.{hit_same, hit_ne, apart, cell_of, this_of, way_cell, inward, turn, whole}
+use Rattle.redblack.proofs.Frames.{hit_same, apart, cell_of, this_of, way_cell, inward, turn, whole}
 use Rattle.redblack.proofs.Lists.{next_two}
 use Rattle.redblack.proofs.Parts.{part_in, part_turn}
 use Rattle.redblack.proofs.Trade.{count_way_append, traded_site}

@@ -8,7 +8,7 @@ use native.Mathlib.Omega.{arith}
 use lib.ListN.{length, get_or, set, get_or-eq_default}
 use lib.Seq.{get_or-set_same, get_or-set_other}
 use Rattle.slots.specs.Words.{null, Colour, Side, leftward, rightward}
-use Rattle.slots.proofs.Laws.{pick_eq, pick_ne}
+use Rattle.slots.proofs.Laws.{pick_ne}
 use Rattle.redblack.specs.Links.{Links, size_at}
 use Rattle.slots.specs.Words.{sum}
 use Rattle.tree_rules.specs.Tree.{slots}

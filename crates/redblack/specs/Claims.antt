@@ -1,9 +1,9 @@
 -- What crate `redblack` proves of its models, in one record. Every statement of the crate stands here.
-use Rattle.std.specs.Prelude.{◌≡◌, ◌≢◌, ◌⊎◌, ◌↔◌, List, [], ◌∷◌, true, ℕ, suc, ◌*◌, ◌<◌, ◌≤◌, length, get_or}
+use Rattle.std.specs.Prelude.{◌≡◌, ◌≢◌, ◌⊎◌, ◌↔◌, List, [], ◌∷◌, true, ℕ, suc, ◌*◌, ◌<◌, ◌≤◌, length}
 use Rattle.slots.specs.Words.{null, place, state, parent, left, right, prev, next, Colour, black, red, code, Side, other, toward}
 use Rattle.slots.specs.Words.{leftward, rightward}
 use Rattle.slots.specs.Pairs.{pair, pair_of}
-use Rattle.redblack.specs.Links.{Links, read, painted, size_at, is_red, done}
+use Rattle.redblack.specs.Links.{Links, read, painted, is_red, done}
 use Rattle.redblack.specs.Rotate.{rotated}
 use Rattle.redblack.specs.Insertion.{insertion_turn, balanced_insertion}
 use Rattle.redblack.specs.Deletion.{deletion_turn, balanced_deletion}

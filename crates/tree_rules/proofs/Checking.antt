@@ -6,7 +6,7 @@ use mathlib.Core.Bool.{false≢true}
 use native.Mathlib.Decide.{ℕ_discrete}
 use borrow.Author.Tests.{eqb-false}
 use Rattle.slots.specs.Words.{null, pick, parent, left, right, prev, next, cell}
-use Rattle.slots.specs.Answers.{Answer, some, none, nothing, refused}
+use Rattle.slots.specs.Answers.{Answer, some, nothing, refused}
 use Rattle.slots.proofs.Laws.{some_is}
 use Rattle.tree_rules.specs.Find.{slots_of}
 use Rattle.tree_rules.specs.Check.{points_back, is_child, left_hash, right_hash, not_all_red, test, first_from, first_failing, Walk, passed}

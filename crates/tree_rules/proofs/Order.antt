@@ -1,5 +1,5 @@
 -- A rising list: what stands before a slot has a lower pair, what stands after a higher one, and its parts rise.
-use Rattle.std.proofs.Common.{◌≡◌, ℕ, ◌≤◌, List, [], ◌∷◌, ◌++◌, arith}
+use Rattle.std.proofs.Common.{ℕ, ◌≤◌, List, [], ◌∷◌, ◌++◌, arith}
 use Rattle.slots.specs.Pairs.{Pair, pair_of, Less}
 use Rattle.tree_rules.specs.Tree.{times, Below, Rising, empty, rise}
 use Rattle.tree_rules.proofs.Counting.{times_append, times_head, times_cases}

@@ -2,16 +2,16 @@
 -- Parts: a turn of the search, and the search; the asserts at a node are our tests; the first that fails, or what follows; our walk is the
 -- walk of the source; an answer of the check says which walk it was.
 use Prim.{Unit, tt}
-use Rattle.std.proofs.Common.{◌≡◌, ℕ, zero, suc, ◌+◌, ◌-◌, Bool, true, false, not, ◌&&◌, ◌||◌, eqb, ltb, leb, ◌≢◌, List, sym, refl, ap, ◌∙◌, arith, ltb-false, ne_eqb, eqb-true}
+use Rattle.std.proofs.Common.{◌≡◌, ℕ, zero, suc, ◌+◌, ◌-◌, Bool, true, false, not, ◌&&◌, ◌||◌, eqb, ltb, leb, ◌≢◌, List, refl, ap, ◌∙◌, arith, ltb-false, ne_eqb}
 use borrow.Author.Tests.{eqb-false}
-use Rattle.slots.specs.Words.{null, pick, state, parent, left, right, prev, next, cell, name_of, hash_part, key_part}
+use Rattle.slots.specs.Words.{null, pick, parent, left, right, prev, next, cell, name_of, hash_part, key_part}
 use Rattle.slots.specs.Answers.{Value, Answer, none, some, given, nothing, refused}
-use Rattle.tree_rules.specs.Find.{Look, here, on, decided, looked, looked_then, slots_of, searched, found}
+use Rattle.tree_rules.specs.Find.{Look, here, on, decided, looked, slots_of, searched}
 use Rattle.tree_rules.specs.Check.{points_back, is_child, left_hash, right_hash, red_slot, not_all_red, test, first_from, first_failing}
 use Rattle.tree_rules.specs.Check.{links_in, Walk, passed, failed, strayed, onward, walked, walk_answer, checked}
-use Rattle.tree_rules.specs.Source.{Wild, load, name, is-null, red_of, cmp, Less, Equal, Greater, FindTurn, returns, again}
-use Rattle.tree_rules.specs.Source.{unreachable, find_body, turn_of, FindRun, returned, running, ReturnsSame, looping, find_tree_node}
-use Rattle.tree_rules.specs.Source.{CheckRun, passes, fails, unended, ◌⨾◌, assert, when, check_invariants}
+use Rattle.tree_rules.specs.Source.{Wild, load, name, is-null, red_of, cmp}
+use Rattle.tree_rules.specs.Source.{find_body, turn_of, FindRun, returned, running, ReturnsSame, find_tree_node}
+use Rattle.tree_rules.specs.Source.{CheckRun, passes, fails, ◌⨾◌, assert, when, check_invariants}
 
 -- A turn of the search: one of two different keys is the greater, so `unreachable!` is not reached.
 pub body_is : (w : Wild) (names cells : List ℕ) (p hash key : ℕ) → eqb p null ≡ false

@@ -1,6 +1,6 @@
 -- The "pair at position k in order, counted from 0, and the position of a pair": one way down each, by the sizes of left subtrees.
 use Rattle.std.specs.Prelude.{ℕ, zero, suc, ◌+◌, ◌-◌, List, ◌==◌, nat_lt}
-use Rattle.slots.specs.Words.{null, pick, left, right, cell, name_of, hash_part, key_part, ◌and◌, sum}
+use Rattle.slots.specs.Words.{null, pick, left, right, cell, name_of, hash_part, key_part, sum}
 use Rattle.slots.specs.Pairs.{before}
 use Rattle.slots.specs.Answers.{Value, some, none}
 use Rattle.tree_rules.specs.Sizes.{size_word}
