@@ -12,8 +12,8 @@ use Rattle.set_rules.specs.Accepting.{bin_asks, below_fine, bin_fine, table_fine
 use Rattle.set_rules.specs.Lookup.{has_pair, sought_in_list, forwarded, lookups_fit}
 use Rattle.file_rules.specs.Layout.{slot_width, slot_field, field_of, section_words, most_of, can_hold}
 use Rattle.file_rules.specs.Loader.{next_width, slot_long, words_long, begun_long, wholes_long, taken_of}
-use Rattle.file_rules.specs.Loading.{load_refused, after_words, may_count, word_came, with_byte, byte_stored, byte_loaded, cut_out}
-use Rattle.file_rules.specs.Loading.{rests_zeroed}
+use Rattle.file_rules.specs.Loading.{load_refused, after_words, may_count, word_came, with_byte}
+use Rattle.file_rules.specs.Loading.{byte_stored, byte_loaded, cut_out, rests_zeroed}
 use Rattle.file_rules.specs.Loading.{end_judged, end_loaded}
 use Rattle.figure_rules.specs.Totals.{no_totals, words_fit, fits_totals}
 use Rattle.figure_rules.specs.Tally.{with_more, row_word, entry_tallied, slot_looks, slot_tallied, slots_tallied, bin_tallied, bins_tallied}

@@ -10,8 +10,8 @@ use Rattle.upload_rules.specs.Reading.{joined_bytes}
 use Rattle.set_rules.specs.Words.{Set, Fit}
 use Rattle.set_rules.specs.Accepted.{Accepted}
 use Rattle.set_rules.specs.Held.{EntryFrom}
-use Rattle.figure_rules.specs.Totals.{total_at, sets_in, refused_in, entries_in, lists_in, trees_in, looks_in, row_in, counted_in}
-use Rattle.figure_rules.specs.Totals.{most_sets}
+use Rattle.figure_rules.specs.Totals.{total_at, sets_in, refused_in, entries_in, lists_in}
+use Rattle.figure_rules.specs.Totals.{trees_in, looks_in, row_in, counted_in, most_sets}
 use Rattle.figure_rules.specs.Totals.{FitTotals, no_totals, RowsAgree}
 use Rattle.figure_rules.specs.Added.{own_search, looks_of, over_entries, EntriesOnce, sum_over, Added, RefusedOnly, Sifted, Week}
 use Rattle.figure_rules.specs.Added.{Reordered}
