@@ -24,7 +24,8 @@ row_lines : ℕ → List ℕ → ℕ → List (List ℕ) → List (List ℕ)
 row_lines zero t i rest = rest
 row_lines (suc n) t i rest = row_line t i ∷ row_lines n t (suc i) rest
 
-rows_joined : (n : ℕ) (t : List ℕ) (i : ℕ) (rest : List (List ℕ)) → joined_bytes (row_lines n t i rest) ≡ rows_text n t i ++ joined_bytes rest
+rows_joined : (n : ℕ) (t : List ℕ) (i : ℕ) (rest : List (List ℕ))
+    → joined_bytes (row_lines n t i rest) ≡ rows_text n t i ++ joined_bytes rest
 unfolding row_lines rows_text joined_bytes blanks_filled piece is_blank
 rows_joined zero t i rest = refl
 rows_joined (suc n) t i rest =

@@ -10,7 +10,8 @@ use Rattle.upload_rules.specs.Reading.{joined_bytes}
 use Rattle.set_rules.specs.Words.{Set, Fit}
 use Rattle.set_rules.specs.Accepted.{Accepted}
 use Rattle.set_rules.specs.Held.{EntryFrom}
-use Rattle.figure_rules.specs.Totals.{total_at, sets_in, refused_in, entries_in, lists_in, trees_in, looks_in, row_in, counted_in, most_sets}
+use Rattle.figure_rules.specs.Totals.{total_at, sets_in, refused_in, entries_in, lists_in}
+use Rattle.figure_rules.specs.Totals.{trees_in, looks_in, row_in, counted_in, most_sets}
 use Rattle.figure_rules.specs.Totals.{FitTotals, no_totals, RowsAgree}
 use Rattle.figure_rules.specs.Added.{own_search, looks_of, over_entries, EntriesOnce, sum_over, Added, RefusedOnly, Sifted, Week}
 use Rattle.figure_rules.specs.Added.{Reordered}
@@ -40,7 +41,8 @@ pub record Tallies (s : Set) (t : List ℕ) : Type 0 where
   pub seventeen : (tallies s t ≡ tally_outcome (refused 17) t) ↔ (FitTotals t × (counted_in t ≡ most_sets))
   pub answers_seventeen : (tallies s t).answer ≡ refused 17 → FitTotals t × (counted_in t ≡ most_sets)
   -- else "1 where the set is counted as accepted, 0 where as refused", and each word exactly
-  pub taken : FitTotals t → counted_in t < most_sets → Fit s → Accepted s → ((tallies s t).answer ≡ given 1) × Added s t (tallies s t).totals
+  pub taken : FitTotals t → counted_in t < most_sets → Fit s → Accepted s
+      → ((tallies s t).answer ≡ given 1) × Added s t (tallies s t).totals
   pub turned : FitTotals t → counted_in t < most_sets → (Fit s → Accepted s → ⊥)
       → ((tallies s t).answer ≡ given 0) × RefusedOnly t (tallies s t).totals
   -- "What is in range stays in range"

@@ -224,7 +224,8 @@ filled_own t u s c l h (suc j) m k n = go (ℕ_discrete k j) (λ n. filled_own t
         rw e (field_same (filled_in t u s j) s j (field_in u (field_of s j)) c room (omega arith))
     go (no d) before = field_apart (filled_in t u s j) s j (field_in u (field_of s j)) s k l l (λ z y. d (sym y)) ∙ before (omega arith)
 
-pub filled-other : (t u : Set) (s j i k : ℕ) → s < 4 → i < 4 → s ≢ i → field_in (filled_in t u s j) (field_of i k) ≡ field_in t (field_of i k)
+pub filled-other : (t u : Set) (s j i k : ℕ) → s < 4 → i < 4 → s ≢ i
+    → field_in (filled_in t u s j) (field_of i k) ≡ field_in t (field_of i k)
 unfolding filled_in
 filled-other t u s zero i k l m n = refl
 filled-other t u s (suc j) i k l m n =

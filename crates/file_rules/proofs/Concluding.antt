@@ -78,7 +78,8 @@ module _ (t : Set) {l : List ℕ} (k : Bytes l) where
   pub came_whole : (s : Set) → WholeFile t l s → came ≡ loading (between_words 4 0 (counts_in s)) (filled_to t s (counts_in s) 4)
   came_whole s w = ap (bytes_loaded (loading new_loader t)) w.is ∙ set_runs s t w.loadable
 
-  whole_end : (s : Set) (w : WholeFile t l s) → end_loaded came ≡ end_judged (between_words 4 0 (counts_in s)) (filled_to t s (counts_in s) 4)
+  whole_end : (s : Set) (w : WholeFile t l s)
+      → end_loaded came ≡ end_judged (between_words 4 0 (counts_in s)) (filled_to t s (counts_in s) 4)
   whole_end s w = ap end_loaded (came_whole s w) ∙ end_open (loading (between_words 4 0 (counts_in s)) (filled_to t s (counts_in s) 4)) refl
 
   open_number : came.loader.note ≡ unsaid → (load_whole t l).answer.number ≡ end_number (end_judged came.loader came.set)

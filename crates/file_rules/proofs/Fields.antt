@@ -102,7 +102,8 @@ names_cells : ofNames ≡ ofCells → ⊥
 names_cells e = let z : ◌≡◌ {A = ℕ} 0 1 = cc in omega arith
 
 -- Two words of slots in one place are the same word.
-slot_tells : (i f k g : ℕ) → f < 9 → g < 9 → (slot_field i f).slice ≡ (slot_field k g).slice → (slot_field i f).index ≡ (slot_field k g).index
+slot_tells : (i f k g : ℕ) → f < 9 → g < 9 → (slot_field i f).slice ≡ (slot_field k g).slice
+    → (slot_field i f).index ≡ (slot_field k g).index
     → 9 * i + f ≡ 9 * k + g
 unfolding slot_field
 slot_tells i zero k zero l m e h = omega arith

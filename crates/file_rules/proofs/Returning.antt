@@ -25,7 +25,8 @@ use Rattle.file_rules.specs.File.{Wide, slot_bytes, slots_bytes, set_section, se
 use Rattle.file_rules.specs.Layout.{Slice, ofLengths, ofBins, ofHeads, ofNames, ofCells, slice_in, slot_width, slot_field, field_of}
 use Rattle.file_rules.specs.Layout.{section_words, field_in}
 use Rattle.file_rules.specs.Loader.{Loader, loader_of, new_loader, note_in, taken_of}
-use Rattle.file_rules.specs.Loading.{Loading, loading, load_outcome, may_count, bytes_loaded, cut_out, rest_zeroed, rests_zeroed, end_judged}
+use Rattle.file_rules.specs.Loading.{Loading, loading, load_outcome, may_count, bytes_loaded}
+use Rattle.file_rules.specs.Loading.{cut_out, rest_zeroed, rests_zeroed, end_judged}
 use Rattle.file_rules.specs.Loading.{end_loaded, load_whole}
 use Rattle.file_rules.specs.Faults.{Larger, Loadable, MayHold}
 use Rattle.file_rules.specs.Left.{padding, padded}

@@ -24,7 +24,10 @@ slot_length s i = simp (length-append, little-length)
 pub slots_length : (s : Set) (n : ℕ) → length (slots_bytes s n) ≡ 41 * n
 unfolding slots_bytes
 slots_length s zero = refl
-slots_length s (suc n) = let a = slots_length s n in let b = slot_length s n in length-append (slots_bytes s n) (slot_bytes s n) ∙ omega arith
+slots_length s (suc n) =
+    let a = slots_length s n in
+    let b = slot_length s n in
+    length-append (slots_bytes s n) (slot_bytes s n) ∙ omega arith
 
 -- The number that save answers is that of the bytes.
 pub size_is : (s : Set) → length s.heads ≡ 3 * headers_in s → length (set_bytes s) ≡ set_size s
@@ -32,7 +35,8 @@ unfolding set_front set_section set_size
 size_is s e = simp (length-append, little-length, words_bytes_length, slots_length) (omega arith)
 
 module _ (s : Set) (out : List ℕ) where
-  pub save_done : Fit s → Accepted s → set_size s ≤ length out → saves s out ≡ saved (given (set_size s)) (set_bytes s ++ drop (set_size s) out)
+  pub save_done : Fit s → Accepted s → set_size s ≤ length out
+      → saves s out ≡ saved (given (set_size s)) (set_bytes s ++ drop (set_size s) out)
   unfolding saves
   save_done f a l = simp ((fits_exactly s).1 f, le-leb (set_size s) (length out) l, accepted_yes f a)
 

@@ -37,7 +37,8 @@ row_bytes t s x h (suc j) l =
 row_whole : (t : Set) (s : ℕ) (x : Slice) → ((j : ℕ) → field_of s j ≡ field x j 4)
     → fields_bytes t s (length (slice_in t x)) ≡ words_bytes 4 (slice_in t x)
 row_whole t s x h =
-    row_bytes t s x h (length (slice_in t x)) (omega arith) ∙ ap (words_bytes 4) (take_all (length (slice_in t x)) (slice_in t x) (omega arith))
+    row_bytes t s x h (length (slice_in t x)) (omega arith)
+        ∙ ap (words_bytes 4) (take_all (length (slice_in t x)) (slice_in t x) (omega arith))
 
 -- A slot's nine words.
 pub slot_word : (i f j : ℕ) → j ≡ 9 * i + f → f < 9 → field_of 3 j ≡ slot_field i f
@@ -67,8 +68,8 @@ slot_bytes_lem t i m e =
     let w6 = slot_word i 6 (suc (suc (suc (suc (suc (suc m)))))) (omega arith) (omega arith) in
     let w7 = slot_word i 7 (suc (suc (suc (suc (suc (suc (suc m))))))) (omega arith) (omega arith) in
     let w8 = slot_word i 8 (suc (suc (suc (suc (suc (suc (suc (suc m)))))))) (omega arith) (omega arith) in
-    (λ k. ((((((((fields_bytes t 3 m ++ word_out t (w0 k)) ++ word_out t (w1 k)) ++ word_out t (w2 k)) ++ word_out t (w3 k)) ++ word_out t (w4 k))
-    ++ word_out t (w5 k)) ++ word_out t (w6 k)) ++ word_out t (w7 k)) ++ word_out t (w8 k))
+    (λ k. ((((((((fields_bytes t 3 m ++ word_out t (w0 k)) ++ word_out t (w1 k)) ++ word_out t (w2 k)) ++ word_out t (w3 k))
+    ++ word_out t (w4 k)) ++ word_out t (w5 k)) ++ word_out t (w6 k)) ++ word_out t (w7 k)) ++ word_out t (w8 k))
     ∙ nine (fields_bytes t 3 m) _ _ _ _ _ _ _ _ _
 
 slots_bytes_lem : (t : Set) (n : ℕ) → fields_bytes t 3 (9 * n) ≡ slots_bytes t n

@@ -127,8 +127,8 @@ start_goes t =
         later = λ s l m. by_four (λ (k : ℕ). count_taken new_loader k ≡ 0) refl refl refl refl s l;
       };
       room =
-          λ e. by_four (λ (s : ℕ). can_hold t s (count_taken new_loader s) ≡ true) (none_held t 0 (omega arith)) (none_held t 1 (omega arith))
-          (none_held t 2 (omega arith)) (none_held t 3 (omega arith));
+          λ e. by_four (λ (s : ℕ). can_hold t s (count_taken new_loader s) ≡ true) (none_held t 0 (omega arith))
+          (none_held t 1 (omega arith)) (none_held t 2 (omega arith)) (none_held t 3 (omega arith));
     }
 
 -- The answer of what is left.

@@ -1,5 +1,6 @@
 -- The loader's eight words, their ranges, and what it answers.
-use Rattle.std.specs.Prelude.{◌≡◌, Bool, true, List, [], ◌∷◌, ℕ, zero, suc, ◌+◌, ◌*◌, ◌/◌, ◌%◌, ◌^◌, ◌<◌, ◌≤◌, length, get_or, eqb, ltb, leb}
+use Rattle.std.specs.Prelude.{◌≡◌, Bool, true, List, [], ◌∷◌, ℕ, zero, suc, ◌+◌, ◌*◌, ◌/◌, ◌%◌, ◌^◌, ◌<◌, ◌≤◌}
+use Rattle.std.specs.Prelude.{length, get_or, eqb, ltb, leb}
 use Rattle.slots.specs.Words.{pick, ◌and◌}
 use Rattle.slots.specs.Answers.{Answer}
 use Rattle.upload_rules.specs.Reader.{Note, unsaid, said, note_answer}

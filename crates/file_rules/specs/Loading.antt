@@ -1,6 +1,7 @@
 -- What start, chunk and end of the loader do: bytes are taken one after the other, a word is written at its last byte, and on a refusal
 -- the slices are zeroed.
-use Rattle.std.specs.Prelude.{◌≡◌, Bool, true, List, [], ◌∷◌, ◌++◌, ℕ, zero, suc, ◌+◌, ◌-◌, ◌*◌, ◌/◌, ◌%◌, ◌^◌, length, set, take, replicate, eqb, ltb, leb}
+use Rattle.std.specs.Prelude.{◌≡◌, Bool, true, List, [], ◌∷◌, ◌++◌, ℕ, zero, suc, ◌+◌, ◌-◌, ◌*◌, ◌/◌, ◌%◌, ◌^◌}
+use Rattle.std.specs.Prelude.{length, set, take, replicate, eqb, ltb, leb}
 use Rattle.slots.specs.Words.{pick, ◌and◌}
 use Rattle.slots.specs.Answers.{Answer, given, refused}
 use Rattle.upload_rules.specs.Reader.{unsaid, is_open}

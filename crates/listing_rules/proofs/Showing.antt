@@ -17,6 +17,7 @@ use Rattle.set_rules.specs.Words.{Set, Fit}
 use Rattle.set_rules.specs.Accepted.{Accepted}
 use Rattle.set_rules.specs.Held.{EntryFrom}
 use Rattle.set_rules.specs.Cursor.{Cursor}
+use Rattle.set_rules.specs.Walk.{nexts}
 use Rattle.set_rules.specs.Whole.{Listing, done, step}
 use Rattle.set_rules.proofs.Claims as set-rules
 use Rattle.listing_rules.specs.Lines.{slot_line, walk_lines, counts_line, set_text}
@@ -55,7 +56,7 @@ module _ (s : Set) where
   walked_lines zero (done e) h = refl
   walked_lines (suc n) (done e) h = rw e
   walked_lines zero (step e r) h = absurd (omega arith)
-  walked_lines (suc n) (step e r) h = rw (e, walked_lines n r (omega arith))
+  walked_lines {c = c} (suc n) (step e r) h = rw (e, walked_lines {c = (nexts s c).cursor} n r (omega arith))
 
   module _ (fit : Fit s) (acc : Accepted s) where
     placed : (l : List ℕ) → ((x : ℕ) → 1 ≤ times x l → EntryFrom s 0 x) → PlacedLines s l (slot_lines l)

@@ -31,7 +31,8 @@ pub record SetShown (s : Set) (text : List ℕ) : Type 0 where
 
 pub record Claims : Type 0 where
   -- an accepted file shows its set, and so does the file of an accepted set
-  pub accepted : (t : Set) (l : List ℕ) → Bytes l → (s : Set) → WholeFile t l s → Fit s → Accepted s → SetShown s (load_text (load_whole t l))
+  pub accepted : (t : Set) (l : List ℕ) → Bytes l → (s : Set) → WholeFile t l s → Fit s → Accepted s
+      → SetShown s (load_text (load_whole t l))
   pub saved : (s : Set) → Fit s → Wide s → Accepted s → (t : Set) → Larger s t → SetShown s (load_text (load_whole t (set_bytes s)))
   -- "Of a file that is refused it prints `no` and the number", whatever its fault
   pub refused : (t : Set) (l : List ℕ) → Bytes l → (n : ℕ) → 1 ≤ n → LoadVerdict t l n → load_text (load_whole t l) ≡ word_line "no " n

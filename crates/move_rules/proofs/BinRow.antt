@@ -19,7 +19,8 @@ unfolding bins_before
 later l zero k b = absurd (omega arith)
 later l (suc t) k b = go (ℕ_discrete k t) (λ d. later l t k (omega arith))
   where
-    go : Dec (k ≡ t) → (k ≢ t → bins_before l k + get_or l k 0 ≤ bins_before l t) → bins_before l k + get_or l k 0 ≤ bins_before l t + get_or l t 0
+    go : Dec (k ≡ t) → (k ≢ t → bins_before l k + get_or l k 0 ≤ bins_before l t)
+        → bins_before l k + get_or l k 0 ≤ bins_before l t + get_or l t 0
     go (yes e) rest = rw e (omega arith)
     go (no d) rest = omega (arith, rest d)
 

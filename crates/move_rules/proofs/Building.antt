@@ -116,7 +116,9 @@ module _ (names : List ℕ) where
   grows_all (suc v) small (ended {i = p} e) w = rw (eq-eqb p null e) Grows.no_more
   grows_all zero small (onward c g) w = absurd (omega arith)
   grows_all {s} (suc v) small (onward {i = x} {l} c g) w =
-      rw (ne_eqb x null (omega arith)) (by_one (grows_all v small (listed_next (λ k. joined-next s x k) g) (omega arith)))
+      rw (ne_eqb x null (omega arith))
+      (by_one
+      (grows_all {s = joined names s x} {p = cell s.cells x next} v small (listed_next (λ k. joined-next s x k) g) (omega arith)))
 
   stays : {s : Links} {t : Tree} → Holds (slots_of names) s t → RedBlackTree t → Rising names (slots t)
       → (u : Tree) × Joined names s s t u []
@@ -145,7 +147,9 @@ module _ (names : List ℕ) where
       let y = join_one x h b r c (λ y z. m y x z first) in
       let w = y.1 in
       let strung = listed_next (λ k. joined-next s x k) g in
-      let rest = join_all v strung (omega arith) w.holds w.balanced w.rising tail (left y.0 w.counts) in
+      let rest =
+          join_all {s = joined names s x} {t = y.0} {p = cell s.cells x next} v strung (omega arith) w.holds w.balanced w.rising tail
+          (left y.0 w.counts) in
       let z = rest.1 in
       rw (ne_eqb x null (omega (arith, h.small))) (
         rest.0,

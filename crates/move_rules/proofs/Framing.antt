@@ -13,7 +13,7 @@ use Rattle.tree_rules.specs.Tree.{Tree, slots, times, Rooted, Shaped}
 use Rattle.tree_rules.specs.Chain.{Chain}
 use Rattle.tree_rules.proofs.Counting.{times_head, times_rest, times_cases}
 use Rattle.index_rules.proofs.Frames.{hangs_frame, chain_frame}
-use Rattle.set_rules.specs.Words.{Set, Fit, root_at, first_at, count_at, Bin, empty, moved, list, tree, bin_at}
+use Rattle.set_rules.specs.Words.{Set, Fit, root_at, first_at, count_at, Bin, empty, moved, bad, list, tree, bin_at}
 use Rattle.set_rules.specs.Accepted.{BinThere, Listed, ended, onward, HeldIn, listed, grown, EntryOf, GoodList, GoodLists, GoodTrees}
 use Rattle.set_rules.specs.Accepted.{ListSlot}
 use Rattle.set_rules.specs.Whole.{Gives}
@@ -45,17 +45,18 @@ gives_lists (Gives.of_moved e c x y) n = absurd (n e)
 abbrev pub Untouched : List ℕ → List ℕ → ℕ → Type 0
 Untouched c d x = (f : ℕ) → ltb f fields ≡ true → cell d x f ≡ cell c x f
 
-pub listed_frame : {n i : ℕ} {c d l : List ℕ} → ((x : ℕ) → 1 ≤ times x l → Untouched c d x) → Listed n c i l → Listed n d i l
+pub listed_frame : {n : ℕ} {c : List ℕ} {i : ℕ} {d l : List ℕ} → ((x : ℕ) → 1 ≤ times x l → Untouched c d x) → Listed n c i l
+    → Listed n d i l
 listed_frame w (ended e) = ended e
 listed_frame w (onward {i} {l} b r) =
     onward {l = l} b (rw (w i (omega (arith, times_head i l)) next refl) (listed_frame (λ x m. w x (omega (arith, times_rest x i l))) r))
 
 -- The same list where next stays.
-pub listed_next : {n i : ℕ} {c d l : List ℕ} → ((x : ℕ) → cell d x next ≡ cell c x next) → Listed n c i l → Listed n d i l
+pub listed_next : {n : ℕ} {c : List ℕ} {i : ℕ} {d l : List ℕ} → ((x : ℕ) → cell d x next ≡ cell c x next) → Listed n c i l → Listed n d i l
 listed_next w (ended e) = ended e
 listed_next w (onward {i} {l} b r) = onward {l = l} b (rw (w i) (listed_next w r))
 
-pub listed_in : {n i : ℕ} {cells l : List ℕ} → Listed n cells i l → (x : ℕ) → 1 ≤ times x l → x < n
+pub listed_in : {n : ℕ} {cells : List ℕ} {i : ℕ} {l : List ℕ} → Listed n cells i l → (x : ℕ) → 1 ≤ times x l → x < n
 unfolding times
 listed_in (ended e) x z = absurd (omega arith)
 listed_in (onward {i} {l} b r) x z = times_cases x i l z (λ e. omega arith) (λ y. listed_in r x y)
@@ -90,7 +91,7 @@ list_slot_frame x w p =
       prevs = w prev refl ∙ p.prevs;
     }
 
-pub chain_listed : {n q i : ℕ} {cells l : List ℕ} → Chain n cells q i l → Listed n cells i l
+pub chain_listed : {n : ℕ} {cells : List ℕ} {q i : ℕ} {l : List ℕ} → Chain n cells q i l → Listed n cells i l
 chain_listed (chainEnded e) = ended e
 chain_listed (chainLinked w p c) = onward w (chain_listed c)
 
@@ -147,6 +148,9 @@ module _ (s : Set) (bins heads cells : List ℕ) where
       good_held : BinThere s k i → (b : Bin) → bin_at s k i ≡ b → {l : List ℕ} → HeldIn t b l → (m : List ℕ) × HeldIn s b m
       good_held p (list a) q (listed d) = let g = lists k i a p q in (g.visits, listed g.ends)
       good_held p (tree h) q (grown d) = let g = trees k i h p q in (slots g.tree, grown g.rooted)
+      good_held p empty q h = elim h [ ]
+      good_held p moved q h = elim h [ ]
+      good_held p bad q h = elim h [ ]
 
       pub entry_back : {x : ℕ} → EntryOf t k i x → EntryOf s k i x
       entry_back {x} f =

@@ -18,20 +18,20 @@ use Rattle.tree_rules.proofs.Counting.{times_head, times_rest}
 use Rattle.index_rules.proofs.Frames.{chain_frame}
 use Rattle.redblack.proofs.Kept.{place_aside, prev_aside, next_aside}
 use Rattle.redblack.specs.Links.{Links, lent_links}
-use Rattle.set_rules.specs.Words.{Set, Fit, length_at, headers_in, root_at, first_at, count_at, Bin, empty, moved, list, tree, bin_at, bin_of}
-use Rattle.set_rules.specs.Words.{bini}
+use Rattle.set_rules.specs.Words.{Set, Fit, length_at, headers_in, root_at, first_at, count_at}
+use Rattle.set_rules.specs.Words.{Bin, empty, moved, list, tree, bin_at, bin_of, bini}
 use Rattle.set_rules.specs.Accepted.{BinThere, Listed, Unlike, Apart, EntryOf}
 use Rattle.set_rules.proofs.Fit.{small, slots_are, headers_are}
 use Rattle.set_rules.proofs.Naming.{ranges}
 use Rattle.move_rules.specs.Passes.{plained, backed}
-use Rattle.move_rules.specs.Moving.{rewritten, place_of, most_listed, list_head, tree_head, list_laid, tree_grown, tree_heads, tree_laid}
-use Rattle.move_rules.specs.Moving.{half_laid}
+use Rattle.move_rules.specs.Moving.{rewritten, place_of, most_listed, list_head, tree_head}
+use Rattle.move_rules.specs.Moving.{list_laid, tree_grown, tree_heads, tree_laid, half_laid}
 use Rattle.move_rules.specs.Moved.{Form, as_none, as_few, as_many, Planted}
 use Rattle.move_rules.proofs.Rows.{head_of}
 use Rattle.move_rules.proofs.Building.{Distinct, Built, built_all, grows_all}
 use Rattle.move_rules.proofs.Framing.{BinLists, Untouched, SameHeader, listed_next}
-use Rattle.move_rules.proofs.BinRow.{headed_long, headed_root, headed_first, headed-count, headed_else, fit_over}
-use Rattle.move_rules.proofs.BinRow.{written_range, written_here, written_else}
+use Rattle.move_rules.proofs.BinRow.{headed_long, headed_root, headed_first, headed-count, headed_else}
+use Rattle.move_rules.proofs.BinRow.{fit_over, written_range, written_here, written_else}
 use Rattle.move_rules.proofs.Lining.{Lined, plain_list, Backed, backed_chain}
 use Rattle.move_rules.proofs.Laying.{Sits, nothing, as_list, as_tree, Lays, laid_loose, laid_entries, laid_lists}
 use Rattle.move_rules.proofs.Loose.{Loose}

@@ -18,7 +18,8 @@ use Rattle.tree_rules.proofs.Counting.{times_head, times_cases}
 use Rattle.tree_rules.proofs.Reaching.{hangs_stand}
 use Rattle.index_rules.specs.Sound.{Cleared}
 use Rattle.index_rules.proofs.Building.{hangs_links, chain_links}
-use Rattle.set_rules.specs.Words.{Set, Fit, length_at, headers_in, root_at, first_at, count_at, Bin, empty, moved, bad, list, tree, bin_at, bini}
+use Rattle.set_rules.specs.Words.{Set, Fit, length_at, headers_in, root_at, first_at, count_at}
+use Rattle.set_rules.specs.Words.{Bin, empty, moved, bad, list, tree, bin_at, bini}
 use Rattle.set_rules.specs.Accepted.{slotted, BinThere, Listed, ended, onward, HeldIn, listed, grown, EntryOf, NoneBad, SlotWords}
 use Rattle.set_rules.specs.Accepted.{LastUnmoved}
 use Rattle.set_rules.specs.Accepted.{ParentMoved, EntriesHome, HeadsOnce, GoodList, GoodLists, Headers, GoodTrees, GoodChain, GoodChains}
@@ -72,11 +73,11 @@ hue_words : {n : ℕ} {cells : List ℕ} {x : ℕ} (c : Colour) → cell cells x
 hue_words black e l = record { states = omega arith; busy = omega arith; links = l }
 hue_words red e l = record { states = omega arith; busy = omega arith; links = l }
 
-pub list_links : {n i : ℕ} {cells l : List ℕ} (x : ℕ) → Listed n cells i l → 1 ≤ times x l
+pub list_links : {n : ℕ} {cells : List ℕ} {i : ℕ} {l : List ℕ} (x : ℕ) → Listed n cells i l → 1 ≤ times x l
     → (cell cells x next ≡ null) ⊎ (cell cells x next < n)
 unfolding times
 list_links x (ended e) m = absurd (omega arith)
-list_links {n} {cells = cells} x (onward {i} {l} b r) m = times_cases x i l m (λ e. rw e (head r)) (λ z. list_links x r z)
+list_links {n} {cells} x (onward {i} {l} b r) m = times_cases x i l m (λ e. rw e (head r)) (λ z. list_links x r z)
   where
     head : {j : ℕ} {k : List ℕ} → Listed n cells j k → (j ≡ null) ⊎ (j < n)
     head (ended e) = inl e

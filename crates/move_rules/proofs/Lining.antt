@@ -108,10 +108,10 @@ threads (suc v) names len i cells a b long small (Listed.ended {i = x} e) h once
 threads zero names len i cells a b long small (Listed.onward w r) h once p q = absurd (omega arith)
 threads {n} (suc v) names len i cells a b long small (Listed.onward {i = x} {l} w r) h once p q =
     go (is_home names len i x) refl
-    (threads v names len i (write cells a next x) x b (length-write cells a next x ∙ long) small (rest_listed a x r (past p)) (omega arith)
-    rest_once (fresh b q) (past_more l q))
-    (threads v names len i (write cells b next x) a x (length-write cells b next x ∙ long) small (rest_listed b x r (past q)) (omega arith)
-    rest_once (past_more l p) (fresh a p))
+    (threads {p = cell cells x next} v names len i (write cells a next x) x b (length-write cells a next x ∙ long) small
+    (rest_listed a x r (past p)) (omega arith) rest_once (fresh b q) (past_more l q))
+    (threads {p = cell cells x next} v names len i (write cells b next x) a x (length-write cells b next x ∙ long) small
+    (rest_listed b x r (past q)) (omega arith) rest_once (past_more l p) (fresh a p))
   where
     rest_once : (k : ℕ) → times k l ≤ 1
     rest_once k = omega (arith, once k, times_rest k x l)
@@ -200,8 +200,8 @@ plain_list zero cells long small (Listed.onward w r) h once = absurd (omega arit
 plain_list (suc v) cells long small (Listed.onward {i = x} {l} w r) h once =
     rw (ne_eqb x null (omega arith))
     (line_one cells x l long w once
-    (plain_list v (plain_slot cells x) (plain_long cells x long w ∙ long) small (listed_next (plain-next cells x long w) r) (omega arith)
-    (λ k. omega (arith, once k, times_rest k x l))))
+    (plain_list {p = cell cells x next} v (plain_slot cells x) (plain_long cells x long w ∙ long) small
+    (listed_next (plain-next cells x long w) r) (omega arith) (λ k. omega (arith, once k, times_rest k x l))))
 
 -- The prevs of a chain.
 pub record Backed (n : ℕ) (cells : List ℕ) (q : ℕ) (l made : List ℕ) : Type 0 where
@@ -244,5 +244,5 @@ backed_chain zero cells q long small (Listed.onward w r) h once = absurd (omega 
 backed_chain (suc v) cells q long small (Listed.onward {i = x} {l} w r) h once =
     rw (ne_eqb x null (omega arith))
     (back_one cells q x l long w once
-    (backed_chain v (write cells x prev q) x (length-write cells x prev q ∙ long) small
+    (backed_chain {p = cell cells x next} v (write cells x prev q) x (length-write cells x prev q ∙ long) small
     (listed_next (λ k. cell_across cells x prev q k next refl refl refl) r) (omega arith) (λ k. omega (arith, once k, times_rest k x l))))

@@ -15,7 +15,8 @@ use Rattle.slots.proofs.Laws.{cell-null}
 use Rattle.tree_rules.specs.Check.{LinksNamed}
 use Rattle.tree_rules.specs.Find.{slots_of}
 use Rattle.tree_rules.specs.Tree.{times}
-use Rattle.set_rules.specs.Words.{Set, Fit, tables_of, length_at, headers_in, root_at, first_at, count_at, Bin, empty, moved, tree, bin_at, bini}
+use Rattle.set_rules.specs.Words.{Set, Fit, tables_of, length_at, headers_in, root_at, first_at, count_at}
+use Rattle.set_rules.specs.Words.{Bin, empty, moved, tree, bin_at, bini}
 use Rattle.set_rules.specs.Held.{EntryFrom}
 use Rattle.set_rules.specs.Cursor.{Cursor, BadCursor}
 use Rattle.set_rules.specs.Walk.{nexts}
@@ -215,8 +216,9 @@ module _ {s : Set} (fit : Fit s) (acc : Accepted s) {k i : ℕ} (p : BinThere s 
     apart_headers {g} c e = c.other (large d.form e) (d.named g e)
 
     pub whole_done : (most_listed < length (high_half s k i) → HighChosen fit acc p (high_header s k i))
-        → Done halfway (λ x. EntryOf s k i x × (times x (low_half s k i) ≡ 0)) (suc k) (i + length_at s k) (high_half s k i) (high_header s k i)
-        (both_laid s k i)
+        → Done halfway (λ x. EntryOf s k i x × (times x (low_half s k i) ≡ 0)) (suc k) (i + length_at s k) (high_half s k i)
+          (high_header s k i)
+          (both_laid s k i)
     unfolding both_laid
     whole_done e =
         subst

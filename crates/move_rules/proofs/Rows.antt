@@ -36,8 +36,8 @@ unfolding followed
 followed_is zero small (ended e) b = refl
 followed_is (suc v) small (ended {i} e) b = rw (eq-eqb i null e)
 followed_is zero small (onward w r) b = absurd (omega arith)
-followed_is (suc v) small (onward {i} {l} w r) b =
-    rw (ne_eqb i null (omega arith)) (ap (λ (m : List ℕ). i ∷ m) (followed_is v small r (omega arith)))
+followed_is {cells = cells} (suc v) small (onward {i} {l} w r) b =
+    rw (ne_eqb i null (omega arith)) (ap (λ (m : List ℕ). i ∷ m) (followed_is {p = cell cells i next} v small r (omega arith)))
 
 module _ (names : List ℕ) (len j : ℕ) where
   -- One slot more is counted where it is at home, and not where it is not.
@@ -56,8 +56,8 @@ module _ (names : List ℕ) (len j : ℕ) where
   count-is zero small (ended e) b = refl
   count-is (suc v) small (ended {i} e) b = rw (eq-eqb i null e)
   count-is zero small (onward w r) b = absurd (omega arith)
-  count-is (suc v) small (onward {i} {l} w r) b =
-      rw (ne_eqb i null (omega arith)) (counts_one i l (count-is v small r (omega arith)))
+  count-is {cells = cells} (suc v) small (onward {i} {l} w r) b =
+      rw (ne_eqb i null (omega arith)) (counts_one i l (count-is {p = cell cells i next} v small r (omega arith)))
 
   pub first_is : {n p : ℕ} {cells l : List ℕ} (v : ℕ) → n ≤ null → Listed n cells p l → length l ≤ v
       → first_home v names cells len j p ≡ head_of (homed names len j l)
@@ -66,7 +66,7 @@ module _ (names : List ℕ) (len j : ℕ) where
   first_is (suc v) small (ended {i} e) b = rw (eq-eqb i null e)
   first_is zero small (onward w r) b = absurd (omega arith)
   first_is {cells = cells} (suc v) small (onward {i} {l} w r) b =
-      go (is_home names len j i) refl (first_is v small r (omega arith))
+      go (is_home names len j i) refl (first_is {p = cell cells i next} v small r (omega arith))
     where
       go : (b : Bool) → is_home names len j i ≡ b → first_home v names cells len j (cell cells i next) ≡ head_of (homed names len j l)
           → first_home (suc v) names cells len j i ≡ head_of (homed names len j (i ∷ l))

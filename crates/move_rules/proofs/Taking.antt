@@ -14,7 +14,8 @@ use Rattle.slots.specs.Words.{null, state, free, cell, Colour, black, red, code}
 use Rattle.tree_rules.specs.Find.{slots_of}
 use Rattle.tree_rules.specs.Tree.{slots, times}
 use Rattle.tree_rules.proofs.Reaching.{hangs_stand, hangs_inside}
-use Rattle.set_rules.specs.Words.{Set, Fit, tables_of, length_at, headers_in, root_at, first_at, count_at, Bin, empty, moved, bad, list, tree}
+use Rattle.set_rules.specs.Words.{Set, Fit, tables_of, length_at, headers_in, root_at, first_at, count_at}
+use Rattle.set_rules.specs.Words.{Bin, empty, moved, bad, list, tree}
 use Rattle.set_rules.specs.Words.{bin_at}
 use Rattle.set_rules.specs.Accepted.{BinThere, HeldIn, listed, grown, EntryOf}
 use Rattle.set_rules.specs.Accepted.{ParentMoved, EntriesHome, Headers, InOne, Accepted}
@@ -222,6 +223,9 @@ module _ {s : Set} (fit : Fit s) (acc : Accepted s) {k i : ℕ} (p : BinThere s 
       go (tree h) f (grown d) z =
           let w = hangs_stand (slots_of s.names) s.cells d.hangs z in
           (hangs_inside (slots_of s.names) s.cells d.hangs z, hue_busy w.hue w.words.hued)
+      go empty f h z = elim h [ ]
+      go moved f h z = elim h [ ]
+      go bad f h z = elim h [ ]
 
   pub taken_loose : Loose t (EntryOf s k i)
   taken_loose =

@@ -5,7 +5,8 @@ use Rattle.tree_rules.specs.Find.{slots_of}
 use Rattle.tree_rules.specs.Tree.{times}
 use Rattle.redblack.specs.Links.{Links, read}
 use Rattle.redblack.specs.Hanging.{inserted, spotted}
-use Rattle.set_rules.specs.Words.{Set, Fit, tables_of, length_at, headers_in, root_at, first_at, count_at, Bin, empty, moved, list, tree, bin_at}
+use Rattle.set_rules.specs.Words.{Set, Fit, tables_of, length_at, headers_in, root_at, first_at, count_at}
+use Rattle.set_rules.specs.Words.{Bin, empty, moved, list, tree, bin_at}
 use Rattle.set_rules.specs.Words.{bini}
 use Rattle.set_rules.specs.Accepted.{BinThere, EntryOf, Accepted}
 use Rattle.set_rules.specs.Lookup.{lookups}
@@ -54,7 +55,8 @@ pub data Form (l : List ℕ) : Bin → Type 0 where
 pub data Grows (names : List ℕ) : Links → List ℕ → Links → Type 0 where
   no_more : {s : Links} → Grows names s [] s
   one_more_lem : {s r : Links} {x : ℕ} {l : List ℕ}
-      → Grows names (inserted (slots_of names) s x (spotted (slots_of names) names s (name_of names x hash_part) (name_of names x key_part))) l r
+      → Grows names
+        (inserted (slots_of names) s x (spotted (slots_of names) names s (name_of names x hash_part) (name_of names x key_part))) l r
       → Grows names s (x ∷ l) r
 
 -- "a tree built by inserting in listing order": the slots l, inserted in their order into an empty tree, have the words that they have
