@@ -1,15 +1,28 @@
-use Rattle.std.proofs.Common.{rules, ◌≡◌, ◌+◌, ◌*◌, ◌<◌, length, ℕ, ◌-◌, ◌≤◌, ◌/◌, ◌%◌, Bool, true, false, nat_eq, nat_lt, List, [], ◌∷◌, ◌++◌, slice_index_or, slice_set, bit_and, bit_or, Fits, w8, w32, w64, Bor, MutBor}
-use Rattle.slots.specs.Words.{cell}
-use Rattle.tree.specs.Check.{walk_of, checked_of}
-use Rattle.tree_rules.specs.Check.{points_back, is_child, left_hash, right_hash, not_all_red, first_failing}
-use Rattle.tree_rules.specs.Check.{test as holds}
-use Rattle.tree_rules.specs.Check.{in_range, links_in, walked, checked}
+-- The tests in a row come to what the model asks one after the other.
+use Rattle.std.proofs.Common.{arith}
+use Rattle.std.proofs.lemmas.Grind.{common_steps}
+use Rattle.tree_rules.specs.Check.{red_slot, not_all_red}
 use Rattle.tree.proofs.check.not_all_red.Goals as goal
+use Rattle.tree.proofs.check.not_all_red.Goals.{then-not-is_red, else-not-is_red, then-l, else-l, then-r, else-r}
 
--- src/check.rt:44:1
 pub returns-then-not-is_red-2 : goal.returns-then-not-is_red-2
-returns-then-not-is_red-2 c = ?
+unfolding not_all_red
+returns-then-not-is_red-2 c =
+    elim c.if-not-is_red.branch [
+      then-not-is_red w ↦ grind (arith, common_steps)
+      | else-not-is_red w ↦ elim c.if-l.branch [
+        then-l v ↦ grind (arith, common_steps)
+        | else-l v ↦ elim c.if-r.branch [ then-r u ↦ grind (arith, common_steps) | else-r u ↦ grind (arith, common_steps) ]
+      ]
+    ]
 
--- src/check.rt:44:1
 pub returns-else-not-is_red-2 : goal.returns-else-not-is_red-2
-returns-else-not-is_red-2 c = ?
+unfolding not_all_red
+returns-else-not-is_red-2 c =
+    elim c.if-not-is_red.branch [
+      then-not-is_red w ↦ grind (arith, common_steps)
+      | else-not-is_red w ↦ elim c.if-l.branch [
+        then-l v ↦ grind (arith, common_steps)
+        | else-l v ↦ elim c.if-r.branch [ then-r u ↦ grind (arith, common_steps) | else-r u ↦ grind (arith, common_steps) ]
+      ]
+    ]
