@@ -44,8 +44,7 @@ returns-then-not-rising t c =
     let v : Visit a.names.now a.cells.now a.q a.i a.depth a.visits = search rules in
     let lefts : part_of c.if-l.lefts ≡ judged a.names.now a.cells.now a.sizes.now a.i a.last c.get-l.result (a.depth - 1) (a.visits - 1)
         = elim c.if-l.branch [ then-l w ↦ search (rules, walk_null) | else-l w ↦ search rules ] in
-    walk_falls a.names.now a.cells.now a.sizes.now a.q a.last a.i a.depth a.visits v c.get-l.ensures
-    (ap part_of (sym c.in-Obeys.is) ∙ lefts) c.follow-rising.ensures c.if-not-rising.true
+    search (rules, walk_falls)
 
 pub returns-in_default-rights : goal.returns-in_default-rights
 returns-in_default-rights t c =
@@ -56,7 +55,8 @@ returns-in_default-rights t c =
     let rights : part_of c.if-r.rights ≡ judged a.names.now a.cells.now a.sizes.now a.i a.i c.get-r.result (a.depth - 1) c.in-Obeys.rest
         = elim c.if-r.branch [ then-r w ↦ search (rules, walk_null) | else-r w ↦ search rules ] in
     walk_right_breaks a.names.now a.cells.now a.sizes.now a.q a.last a.i a.depth a.visits v c.get-l.ensures
-    (ap part_of (sym c.in-Obeys.is) ∙ lefts) c.follow-rising.ensures c.if-not-rising.false c.get-r.ensures (ap part_of (sym c.in_default-rights.is) ∙ rights)
+    (ap part_of (sym c.in-Obeys.is) ∙ lefts) c.follow-rising.ensures c.if-not-rising.false c.get-r.ensures
+    (ap part_of (sym c.in_default-rights.is) ∙ rights)
 
 pub returns-then-a-b : goal.returns-then-a-b
 returns-then-a-b t c =
