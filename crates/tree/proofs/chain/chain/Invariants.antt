@@ -1,6 +1,6 @@
 -- The loop's invariant: the walk from here, with the visits that are left, comes to what the whole walk comes to.
 use mathlib.Core.Path.{◌≡◌}
-use Prim.Native.Nat.{◌<◌, ◌≤◌, ◌-◌, ◌^◌}
+use Prim.Native.Nat.{◌<◌, ◌≤◌, ◌^◌}
 use Rattle.slots.specs.Words.{null}
 use Rattle.tree_rules.specs.Chain.{chained}
 use Rattle.tree.proofs.chain.chain.Given as goal

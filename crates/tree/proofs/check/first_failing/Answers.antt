@@ -1,7 +1,5 @@
 use mathlib.Core.Path.{refl, sym, ◌∙◌}
-use Prim.Native.Nat.{◌-◌}
 use native.Mathlib.Omega.{arith}
-use borrow.Author.Tests.{not-false, not-true}
 use Rattle.tree_rules.specs.Check.{first_failing}
 use Rattle.tree.proofs.Testing.{holds_on, fails_here, all_held_lem}
 use Rattle.tree.proofs.check.first_failing.Goals as goal
@@ -13,12 +11,12 @@ loop-t-init c = (refl, omega arith)
 pub returns-then-not-fine : goal.returns-then-not-fine
 returns-then-not-fine c =
     let l = c.loop-t in
-    sym (fails_here _ _ _ _ c.loop-t-test.true (sym c.test-fine.ensures ∙ not-true c.test-fine.result c.if-not-fine.true-raw)) ∙ l.invariant.0
+    sym (fails_here _ _ _ _ c.loop-t-test.true (sym c.test-fine.ensures ∙ c.if-not-fine.true)) ∙ l.invariant.0
 
 pub loop-t-preserved : goal.loop-t-preserved
 loop-t-preserved c =
     let l = c.loop-t in (
-      sym (holds_on _ _ _ _ c.loop-t-test.true (sym c.test-fine.ensures ∙ not-false c.test-fine.result c.if-not-fine.false-raw)) ∙ l.invariant.0,
+      sym (holds_on _ _ _ _ c.loop-t-test.true (sym c.test-fine.ensures ∙ c.if-not-fine.false)) ∙ l.invariant.0,
       omega (arith, c.loop-t-test.true),
     )
 

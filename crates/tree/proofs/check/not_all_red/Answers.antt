@@ -1,7 +1,7 @@
 -- The tests in a row come to what the model asks one after the other.
 use Rattle.std.proofs.Common.{arith}
 use Rattle.std.proofs.lemmas.Grind.{common_steps}
-use Rattle.tree_rules.specs.Check.{red_slot, not_all_red}
+use Rattle.tree_rules.specs.Check.{not_all_red}
 use Rattle.tree.proofs.check.not_all_red.Goals as goal
 use Rattle.tree.proofs.check.not_all_red.Goals.{then-not-is_red, else-not-is_red, then-l, else-l, then-r, else-r}
 

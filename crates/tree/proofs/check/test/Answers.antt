@@ -1,5 +1,5 @@
 -- The number of the test picks the reading that decides it; past the seventh it is the last.
-use mathlib.Core.Path.{◌∙◌, sym}
+use Rattle.std.proofs.Common.{rules}
 use Rattle.tree_rules.specs.Check.{test}
 use Rattle.tree.proofs.Testing.{last_test}
 use Rattle.tree.proofs.check.test.Goals as goal
@@ -33,8 +33,4 @@ unfolding test
 returns-in-7 c = rw c.in-7.is c.right_hash.ensures
 
 pub returns-in_default : goal.returns-in_default
-returns-in_default c =
-    let r = c.in_default.in_default-own.rest in
-    c.not_all_red.ensures
-    ∙ sym
-    (last_test _ _ _ _ r.0.0.0.0.0.0.1 r.0.0.0.0.0.1 r.0.0.0.0.1 r.0.0.0.1 r.0.0.1 r.0.1 r.1)
+returns-in_default c = search (rules, last_test)

@@ -14,8 +14,18 @@ returns-then-right-eq-NULL c =
 
 pub returns-then-key-own : goal.returns-then-key-own
 returns-then-key-own c =
-    simp (ne_eqb _ _ c.if-own-key.false, ne_eqb _ _ c.if-left-eq-NULL.false, ne_eqb _ _ c.if-right-eq-NULL.false, lt-ltb _ _ c.if-key-own.true)
+    simp (
+      ne_eqb _ _ c.if-own-key.false,
+      ne_eqb _ _ c.if-left-eq-NULL.false,
+      ne_eqb _ _ c.if-right-eq-NULL.false,
+      lt-ltb _ _ c.if-key-own.true,
+    )
 
 pub returns : goal.returns
 returns c =
-    simp (ne_eqb _ _ c.if-own-key.false, ne_eqb _ _ c.if-left-eq-NULL.false, ne_eqb _ _ c.if-right-eq-NULL.false, le-ltb _ _ c.if-key-own.false)
+    simp (
+      ne_eqb _ _ c.if-own-key.false,
+      ne_eqb _ _ c.if-left-eq-NULL.false,
+      ne_eqb _ _ c.if-right-eq-NULL.false,
+      le-ltb _ _ c.if-key-own.false,
+    )

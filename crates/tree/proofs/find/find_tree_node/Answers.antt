@@ -1,5 +1,4 @@
 use mathlib.Core.Path.{sym, ap, ◌∙◌}
-use Prim.Native.Nat.{◌-◌}
 use Rattle.tree_rules.specs.Find.{found}
 use Rattle.tree_rules.proofs.Looks.{tree_runs}
 use Rattle.tree.specs.Find.{seen_of}

@@ -36,7 +36,7 @@ returns-in_default t c =
     let v : Visit a.names.now a.cells.now a.q a.i a.depth a.visits = search rules in
     let lefts : part_of c.if-l.lefts ≡ judged a.names.now a.cells.now a.sizes.now a.i a.last c.get-l.result (a.depth - 1) (a.visits - 1)
         = elim c.if-l.branch [ then-l w ↦ search (rules, walk_null) | else-l w ↦ search rules ] in
-    walk_left_breaks a.names.now a.cells.now a.sizes.now a.q a.last a.i a.depth a.visits v c.get-l.ensures (ap part_of (sym c.in_default.is) ∙ lefts)
+    search (rules, walk_left_breaks)
 
 pub returns-then-not-rising : goal.returns-then-not-rising
 returns-then-not-rising t c =
@@ -44,8 +44,7 @@ returns-then-not-rising t c =
     let v : Visit a.names.now a.cells.now a.q a.i a.depth a.visits = search rules in
     let lefts : part_of c.if-l.lefts ≡ judged a.names.now a.cells.now a.sizes.now a.i a.last c.get-l.result (a.depth - 1) (a.visits - 1)
         = elim c.if-l.branch [ then-l w ↦ search (rules, walk_null) | else-l w ↦ search rules ] in
-    walk_falls a.names.now a.cells.now a.sizes.now a.q a.last a.i a.depth a.visits v c.get-l.ensures (ap part_of (sym c.in-Obeys.is) ∙ lefts)
-    c.follow-rising.ensures c.if-not-rising.true
+    search (rules, walk_falls)
 
 pub returns-in_default-rights : goal.returns-in_default-rights
 returns-in_default-rights t c =
@@ -55,8 +54,9 @@ returns-in_default-rights t c =
         = elim c.if-l.branch [ then-l w ↦ search (rules, walk_null) | else-l w ↦ search rules ] in
     let rights : part_of c.if-r.rights ≡ judged a.names.now a.cells.now a.sizes.now a.i a.i c.get-r.result (a.depth - 1) c.in-Obeys.rest
         = elim c.if-r.branch [ then-r w ↦ search (rules, walk_null) | else-r w ↦ search rules ] in
-    walk_right_breaks a.names.now a.cells.now a.sizes.now a.q a.last a.i a.depth a.visits v c.get-l.ensures (ap part_of (sym c.in-Obeys.is) ∙ lefts)
-    c.follow-rising.ensures c.if-not-rising.false c.get-r.ensures (ap part_of (sym c.in_default-rights.is) ∙ rights)
+    walk_right_breaks a.names.now a.cells.now a.sizes.now a.q a.last a.i a.depth a.visits v c.get-l.ensures
+    (ap part_of (sym c.in-Obeys.is) ∙ lefts) c.follow-rising.ensures c.if-not-rising.false c.get-r.ensures
+    (ap part_of (sym c.in_default-rights.is) ∙ rights)
 
 pub returns-then-a-b : goal.returns-then-a-b
 returns-then-a-b t c =
@@ -67,8 +67,9 @@ returns-then-a-b t c =
     let rights : part_of c.if-r.rights ≡ judged a.names.now a.cells.now a.sizes.now a.i a.i c.get-r.result (a.depth - 1) c.in-Obeys.rest
         = elim c.if-r.branch [ then-r w ↦ search (rules, walk_null) | else-r w ↦ search rules ] in
     let w : BothParts a.names.now a.cells.now a.sizes.now a.q a.last a.i a.depth a.visits
-        = both_parts a.names.now a.cells.now a.sizes.now a.q a.last a.i a.depth a.visits v c.get-l.ensures (ap part_of (sym c.in-Obeys.is) ∙ lefts)
-        c.follow-rising.ensures c.if-not-rising.false c.get-r.ensures (ap part_of (sym c.in-Obeys-rights.is) ∙ rights) in
+        = both_parts a.names.now a.cells.now a.sizes.now a.q a.last a.i a.depth a.visits v c.get-l.ensures
+        (ap part_of (sym c.in-Obeys.is) ∙ lefts) c.follow-rising.ensures c.if-not-rising.false c.get-r.ensures
+        (ap part_of (sym c.in-Obeys-rights.is) ∙ rights) in
     walk_uneven w c.if-a-b.true
 
 pub overflow_sub-visits-2 : goal.overflow_sub-visits-2
@@ -80,8 +81,9 @@ overflow_sub-visits-2 t c =
     let rights : part_of c.if-r.rights ≡ judged a.names.now a.cells.now a.sizes.now a.i a.i c.get-r.result (a.depth - 1) c.in-Obeys.rest
         = elim c.if-r.branch [ then-r w ↦ search (rules, walk_null) | else-r w ↦ search rules ] in
     let w : BothParts a.names.now a.cells.now a.sizes.now a.q a.last a.i a.depth a.visits
-        = both_parts a.names.now a.cells.now a.sizes.now a.q a.last a.i a.depth a.visits v c.get-l.ensures (ap part_of (sym c.in-Obeys.is) ∙ lefts)
-        c.follow-rising.ensures c.if-not-rising.false c.get-r.ensures (ap part_of (sym c.in-Obeys-rights.is) ∙ rights) in
+        = both_parts a.names.now a.cells.now a.sizes.now a.q a.last a.i a.depth a.visits v c.get-l.ensures
+        (ap part_of (sym c.in-Obeys.is) ∙ lefts) c.follow-rising.ensures c.if-not-rising.false c.get-r.ensures
+        (ap part_of (sym c.in-Obeys-rights.is) ∙ rights) in
     omega (arith, w.first, w.second)
 
 pub returns-then-not-sized : goal.returns-then-not-sized
@@ -93,8 +95,9 @@ returns-then-not-sized t c =
     let rights : part_of c.if-r.rights ≡ judged a.names.now a.cells.now a.sizes.now a.i a.i c.get-r.result (a.depth - 1) c.in-Obeys.rest
         = elim c.if-r.branch [ then-r w ↦ search (rules, walk_null) | else-r w ↦ search rules ] in
     let w : BothParts a.names.now a.cells.now a.sizes.now a.q a.last a.i a.depth a.visits
-        = both_parts a.names.now a.cells.now a.sizes.now a.q a.last a.i a.depth a.visits v c.get-l.ensures (ap part_of (sym c.in-Obeys.is) ∙ lefts)
-        c.follow-rising.ensures c.if-not-rising.false c.get-r.ensures (ap part_of (sym c.in-Obeys-rights.is) ∙ rights) in
+        = both_parts a.names.now a.cells.now a.sizes.now a.q a.last a.i a.depth a.visits v c.get-l.ensures
+        (ap part_of (sym c.in-Obeys.is) ∙ lefts) c.follow-rising.ensures c.if-not-rising.false c.get-r.ensures
+        (ap part_of (sym c.in-Obeys-rights.is) ∙ rights) in
     walk_missized w c.if-a-b.false c.has_size-sized.ensures c.if-not-sized.true
 
 pub returns-then-red : goal.returns-then-red
@@ -106,8 +109,9 @@ returns-then-red t c =
     let rights : part_of c.if-r.rights ≡ judged a.names.now a.cells.now a.sizes.now a.i a.i c.get-r.result (a.depth - 1) c.in-Obeys.rest
         = elim c.if-r.branch [ then-r w ↦ search (rules, walk_null) | else-r w ↦ search rules ] in
     let w : BothParts a.names.now a.cells.now a.sizes.now a.q a.last a.i a.depth a.visits
-        = both_parts a.names.now a.cells.now a.sizes.now a.q a.last a.i a.depth a.visits v c.get-l.ensures (ap part_of (sym c.in-Obeys.is) ∙ lefts)
-        c.follow-rising.ensures c.if-not-rising.false c.get-r.ensures (ap part_of (sym c.in-Obeys-rights.is) ∙ rights) in
+        = both_parts a.names.now a.cells.now a.sizes.now a.q a.last a.i a.depth a.visits v c.get-l.ensures
+        (ap part_of (sym c.in-Obeys.is) ∙ lefts) c.follow-rising.ensures c.if-not-rising.false c.get-r.ensures
+        (ap part_of (sym c.in-Obeys-rights.is) ∙ rights) in
     walk_red w c.if-a-b.false c.has_size-sized.ensures c.if-not-sized.false c.is_red-red.ensures c.if-red.true
 
 pub overflow_add-result : goal.overflow_add-result
@@ -119,8 +123,9 @@ overflow_add-result t c =
     let rights : part_of c.if-r.rights ≡ judged a.names.now a.cells.now a.sizes.now a.i a.i c.get-r.result (a.depth - 1) c.in-Obeys.rest
         = elim c.if-r.branch [ then-r w ↦ search (rules, walk_null) | else-r w ↦ search rules ] in
     let w : BothParts a.names.now a.cells.now a.sizes.now a.q a.last a.i a.depth a.visits
-        = both_parts a.names.now a.cells.now a.sizes.now a.q a.last a.i a.depth a.visits v c.get-l.ensures (ap part_of (sym c.in-Obeys.is) ∙ lefts)
-        c.follow-rising.ensures c.if-not-rising.false c.get-r.ensures (ap part_of (sym c.in-Obeys-rights.is) ∙ rights) in
+        = both_parts a.names.now a.cells.now a.sizes.now a.q a.last a.i a.depth a.visits v c.get-l.ensures
+        (ap part_of (sym c.in-Obeys.is) ∙ lefts) c.follow-rising.ensures c.if-not-rising.false c.get-r.ensures
+        (ap part_of (sym c.in-Obeys-rights.is) ∙ rights) in
     omega (arith, w.shallow, c.if-depth-eq0.false, c.ranges.depth)
 
 pub returns : goal.returns
@@ -132,6 +137,7 @@ returns t c =
     let rights : part_of c.if-r.rights ≡ judged a.names.now a.cells.now a.sizes.now a.i a.i c.get-r.result (a.depth - 1) c.in-Obeys.rest
         = elim c.if-r.branch [ then-r w ↦ search (rules, walk_null) | else-r w ↦ search rules ] in
     let w : BothParts a.names.now a.cells.now a.sizes.now a.q a.last a.i a.depth a.visits
-        = both_parts a.names.now a.cells.now a.sizes.now a.q a.last a.i a.depth a.visits v c.get-l.ensures (ap part_of (sym c.in-Obeys.is) ∙ lefts)
-        c.follow-rising.ensures c.if-not-rising.false c.get-r.ensures (ap part_of (sym c.in-Obeys-rights.is) ∙ rights) in
+        = both_parts a.names.now a.cells.now a.sizes.now a.q a.last a.i a.depth a.visits v c.get-l.ensures
+        (ap part_of (sym c.in-Obeys.is) ∙ lefts) c.follow-rising.ensures c.if-not-rising.false c.get-r.ensures
+        (ap part_of (sym c.in-Obeys-rights.is) ∙ rights) in
     walk_black w c.if-a-b.false c.has_size-sized.ensures c.if-not-sized.false c.is_red-red.ensures c.if-red.false

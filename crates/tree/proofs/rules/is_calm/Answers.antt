@@ -1,10 +1,9 @@
 -- Each way out closes by the reads and the tests that led there.
-use borrow.Author.Tests.{not-true}
 use Rattle.slots.proofs.Laws.{not_is}
 use Rattle.tree.proofs.rules.is_calm.Goals as goal
 
 pub returns-then-not-is_red : goal.returns-then-not-is_red
-returns-then-not-is_red c = rw (← c.is_red.ensures, not-true c.is_red.result c.if-not-is_red.true-raw)
+returns-then-not-is_red c = rw (← c.is_red.ensures, c.if-not-is_red.true)
 
 pub returns-then-not-is_red-2 : goal.returns-then-not-is_red-2
 returns-then-not-is_red-2 c =
