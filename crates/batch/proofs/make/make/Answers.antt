@@ -9,7 +9,7 @@ overflow_cast-place c =
     omega (
       arith,
       small a.calls.now a.k c.call_word-kind.ensures c.call_word-hash.ensures c.call_word-key.ensures c.call_word-place.ensures
-          c.requires.1 (omega (arith, c.if-kind-eq-INSERT.true)),
+          c.requires.k_value (omega (arith, c.if-kind-eq-INSERT.true)),
     )
 
 pub returns-then-kind-eq-INSERT : goal.returns-then-kind-eq-INSERT
@@ -32,7 +32,7 @@ overflow_cast-place-2 c =
     omega (
       arith,
       small a.calls.now a.k c.call_word-kind.ensures c.call_word-hash.ensures c.call_word-key.ensures c.call_word-place.ensures
-          c.requires.1 c.if-kind-eq-REMOVE.false,
+          c.requires.k_value c.if-kind-eq-REMOVE.false,
     )
 
 pub returns : goal.returns

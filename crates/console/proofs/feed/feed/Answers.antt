@@ -8,15 +8,15 @@ use borrow.Author.Rules.{rules}
 use Rattle.console.proofs.feed.feed.Goals as goal
 
 pub returns-then-out-lt-LONGEST : goal.returns-then-out-lt-LONGEST
-returns-then-out-lt-LONGEST c = (feeds_short _ _ c.if-out-lt-LONGEST.true, search rules)
+returns-then-out-lt-LONGEST c = record { out_after = feeds_short _ _ c.if-out-lt-LONGEST.true; bounds = search rules }
 
 pub returns-then-out-written-lt-LONGEST : goal.returns-then-out-written-lt-LONGEST
 returns-then-out-written-lt-LONGEST c =
-    let a = c.args in (
-      feeding_full a.chunk.now c.loop-i.i _ c.loop-i-test.true c.if-out-written-lt-LONGEST.true ∙ c.loop-i.invariant.0
-          ∙ feeds_long a.chunk.now _ c.if-out-lt-LONGEST.false,
-      search rules,
-    )
+    let a = c.args in record {
+      out_after = feeding_full a.chunk.now c.loop-i.i _ c.loop-i-test.true c.if-out-written-lt-LONGEST.true ∙ c.loop-i.invariant.0
+          ∙ feeds_long a.chunk.now _ c.if-out-lt-LONGEST.false;
+      bounds = search rules;
+    }
 
 pub loop-i-preserved : goal.loop-i-preserved
 loop-i-preserved c =
@@ -31,7 +31,7 @@ loop-i-preserved c =
       search rules,
       search rules,
       search rules,
-      c.take_byte-step.auto.1.1.1.1.1.0 ∙ c.loop-i.invariant.6,
+      c.take_byte-step.auto.out ∙ c.loop-i.invariant.6,
       search rules,
       search rules,
       search rules,
@@ -39,8 +39,8 @@ loop-i-preserved c =
 
 pub returns : goal.returns
 returns c =
-    let a = c.args in (
-      feeding-over a.chunk.now c.loop-i.i _ c.loop-i-test.false ∙ c.loop-i.invariant.0
-          ∙ feeds_long a.chunk.now _ c.if-out-lt-LONGEST.false,
-      search rules,
-    )
+    let a = c.args in record {
+      out_after = feeding-over a.chunk.now c.loop-i.i _ c.loop-i-test.false ∙ c.loop-i.invariant.0
+          ∙ feeds_long a.chunk.now _ c.if-out-lt-LONGEST.false;
+      bounds = search rules;
+    }

@@ -17,4 +17,4 @@ unfolding is_blank
 returns-in-37 c = ap is_blank (sym c.in-37.is)
 
 pub returns-in_default : goal.returns-in_default
-returns-in_default c = let r = c.in_default.rest in no_blank _ r.0.0.1 r.0.1 r.1
+returns-in_default c = let r = c.in_default.in_default-own.rest in no_blank _ r.0.0.1 r.0.1 r.1

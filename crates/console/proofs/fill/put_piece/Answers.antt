@@ -22,5 +22,5 @@ returns-in-37 c =
 
 pub returns-in_default : goal.returns-in_default
 returns-in_default c =
-    let r = c.in_default.rest in
+    let r = c.in_default.in_default-own.rest in
     one_byte _ _ _ r.0.0.1 r.0.1 r.1 c.put_byte.ensures

@@ -5,4 +5,4 @@ use Rattle.dump.proofs.answer.answer.Goals as goal
 
 pub returns : goal.returns
 returns c =
-    let told = c.tell_bytes.ensures in (told, text_within _ _ told (omega arith))
+    let told = c.tell_bytes.ensures in record { result_after = told; bounds = text_within _ _ told (omega arith) }

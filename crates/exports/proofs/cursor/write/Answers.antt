@@ -6,9 +6,9 @@ use Rattle.exports.proofs.cursor.write.Goals as goal
 
 pub shape_of-words : goal.shape_of-words
 shape_of-words c =
-    c.put_word-11.auto.0 ∙ c.put_word-10.auto.0 ∙ c.put_word-9.auto.0 ∙ c.put_word-8.auto.0 ∙ c.put_word-7.auto.0
-    ∙ c.put_word-6.auto.0 ∙ c.put_word-5.auto.0 ∙ c.put_word-4.auto.0 ∙ c.put_word-3.auto.0 ∙ c.put_word-2.auto.0
-    ∙ c.put_word.auto.0
+    c.put_word-11.auto.words ∙ c.put_word-10.auto.words ∙ c.put_word-9.auto.words ∙ c.put_word-8.auto.words ∙ c.put_word-7.auto.words
+    ∙ c.put_word-6.auto.words ∙ c.put_word-5.auto.words ∙ c.put_word-4.auto.words ∙ c.put_word-3.auto.words ∙ c.put_word-2.auto.words
+    ∙ c.put_word.auto.words
 
 pub returns : goal.returns
 returns c =

@@ -6,9 +6,9 @@ use Rattle.exports.proofs.uploads.write_words.Goals as goal
 
 pub shape_of-words : goal.shape_of-words
 shape_of-words c =
-    c.put_wide-8.auto.0 ∙ c.put_wide-7.auto.0 ∙ c.put_wide-6.auto.0 ∙ c.put_wide-5.auto.0 ∙ c.put_wide-4.auto.0
-    ∙ c.put_wide-3.auto.0 ∙ c.put_wide-2.auto.0
-    ∙ c.put_wide.auto.0
+    c.put_wide-8.auto.words ∙ c.put_wide-7.auto.words ∙ c.put_wide-6.auto.words ∙ c.put_wide-5.auto.words ∙ c.put_wide-4.auto.words
+    ∙ c.put_wide-3.auto.words ∙ c.put_wide-2.auto.words
+    ∙ c.put_wide.auto.words
 
 pub returns : goal.returns
 returns c =

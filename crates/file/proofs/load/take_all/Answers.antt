@@ -33,11 +33,11 @@ loop-at-smaller c =
 pub loop-at-preserved : goal.loop-at-preserved
 loop-at-preserved c = (
   going_on c.loop-at.invariant.0 (from_place c.args.chunk.now c.loop-at.at) c.step-next.ensures,
-  c.step-next.auto.0 ∙ c.loop-at.invariant.1,
-  c.step-next.auto.1.0 ∙ c.loop-at.invariant.2,
-  c.step-next.auto.1.1.0 ∙ c.loop-at.invariant.3,
-  c.step-next.auto.1.1.1.0 ∙ c.loop-at.invariant.4,
-  c.step-next.auto.1.1.1.1.0 ∙ c.loop-at.invariant.5,
+  c.step-next.auto.lengths ∙ c.loop-at.invariant.1,
+  c.step-next.auto.bins ∙ c.loop-at.invariant.2,
+  c.step-next.auto.heads ∙ c.loop-at.invariant.3,
+  c.step-next.auto.names ∙ c.loop-at.invariant.4,
+  c.step-next.auto.cells ∙ c.loop-at.invariant.5,
 )
 
 pub shape_of-lengths : goal.shape_of-lengths

@@ -14,4 +14,4 @@ unfolding most_of
 returns-in-1 c = rw c.in-1.is (refl, omega arith)
 
 pub returns-in_default : goal.returns-in_default
-returns-in_default c = let n = c.in_default.rest in (most_past _ n.0.1 n.1, omega arith)
+returns-in_default c = let n = c.in_default.in_default-own.rest in (most_past _ n.0.1 n.1, omega arith)

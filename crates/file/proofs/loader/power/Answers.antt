@@ -25,6 +25,6 @@ returns-in-6 c = rw c.in-6.is
 
 pub returns-in_default : goal.returns-in_default
 returns-in_default c =
-    let n = c.in_default.rest in
+    let n = c.in_default.in_default-own.rest in
     power_last _ c.requires n.0.0.0.0.0.0.1 n.0.0.0.0.0.1 n.0.0.0.0.1 n.0.0.0.1 n.0.0.1
     n.0.1 n.1

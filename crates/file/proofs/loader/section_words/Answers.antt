@@ -18,4 +18,4 @@ unfolding section_words
 returns-in-2 c = rw c.in-2.is (refl, omega arith)
 
 pub returns-in_default : goal.returns-in_default
-returns-in_default c = let n = c.in_default.rest in (words_past _ _ n.0.0.1 n.0.1 n.1, omega arith)
+returns-in_default c = let n = c.in_default.in_default-own.rest in (words_past _ _ n.0.0.1 n.0.1 n.1, omega arith)

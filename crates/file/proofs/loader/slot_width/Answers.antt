@@ -16,4 +16,4 @@ unfolding slot_width
 returns-in-3 c = rw c.in-3.is
 
 pub returns-in_default : goal.returns-in_default
-returns-in_default c = let n = c.in_default.rest in width_past _ n.0.0.1 n.0.1 n.1
+returns-in_default c = let n = c.in_default.in_default-own.rest in width_past _ n.0.0.1 n.0.1 n.1

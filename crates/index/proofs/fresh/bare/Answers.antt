@@ -12,9 +12,9 @@ loop-k-preserved c =
           c.put_pair.ensures c.wipe.ensures c.put_word.ensures
           ∙ c.loop-k.invariant.0,
       omega arith,
-      c.put_pair.auto.0 ∙ c.loop-k.invariant.2,
-      c.wipe.auto.0 ∙ c.loop-k.invariant.3,
-      c.put_word.auto.0 ∙ c.loop-k.invariant.4,
+      c.put_pair.auto.names ∙ c.loop-k.invariant.2,
+      c.wipe.auto.cells ∙ c.loop-k.invariant.3,
+      c.put_word.auto.words ∙ c.loop-k.invariant.4,
     )
 
 pub returns : goal.returns

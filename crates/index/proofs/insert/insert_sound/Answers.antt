@@ -1,5 +1,6 @@
 -- A refusal leaves all as it is; else the tree grows by the slot and the journal by a line, as the model says.
 use mathlib.Core.Path.{sym, ap, ◌∙◌}
+use borrow.Enum.Refused.{opened}
 use Rattle.index.proofs.Room.{grown-is, appended-is}
 use Rattle.index.specs.Calls.{inserted_of}
 use Rattle.index.proofs.Asking.{kept, done, names_most, count-below, lines_most}
@@ -9,7 +10,7 @@ use Rattle.index.proofs.insert.insert_sound.Goals as goal
 pub returns-in_default : goal.returns-in_default
 returns-in_default c =
     let a = c.args in
-    kept _ _ _ (settled a.floor _ a.hash a.key a.place) _ (not_at c.ask-asked.result c.in_default.keys2)
+    kept _ _ _ (settled a.floor _ a.hash a.key a.place) _ (not_at c.ask-asked.result (opened c.in_default.in_default-own.keys2))
     (c.ask-asked.ensures a.place)
 
 pub returns : goal.returns

@@ -11,7 +11,7 @@ loop-c-preserved c =
     let a = c.args in (
       blank_on c.loop-c.lines a.m c.loop-c.c c.loop-c-test.true c.put_line.ensures ∙ c.loop-c.invariant.0,
       omega arith,
-      c.put_line.auto.0 ∙ c.loop-c.invariant.2,
+      c.put_line.auto.lines ∙ c.loop-c.invariant.2,
     )
 
 pub returns : goal.returns

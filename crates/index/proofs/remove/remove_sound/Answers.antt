@@ -1,5 +1,6 @@
 -- A refusal leaves all as it is; else the journal takes the line of the removal and the slot goes, as the model says.
 use mathlib.Core.Path.{sym, ap, ◌∙◌}
+use borrow.Enum.Refused.{opened}
 use Rattle.index_rules.specs.Checked.{removes_sound}
 use Rattle.index.proofs.Room.{shrunk-is, appended-is}
 use Rattle.index.specs.Calls.{presence_of}
@@ -12,7 +13,7 @@ pub returns-in_default : goal.returns-in_default
 unfolding removes_sound
 returns-in_default c =
     let a = c.args in
-    kept _ _ _ (settled _ a.hash a.key) _ (not_at c.present-asked.result c.in_default.keys2) (c.present-asked.ensures _)
+    kept _ _ _ (settled _ a.hash a.key) _ (not_at c.present-asked.result (opened c.in_default.in_default-own.keys2)) (c.present-asked.ensures _)
 
 pub returns : goal.returns
 unfolding removes_sound

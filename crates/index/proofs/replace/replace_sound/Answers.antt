@@ -1,5 +1,6 @@
 -- A refusal leaves all as it is; else the slot has the new place and the journal takes a line with both, as the model says.
 use mathlib.Core.Path.{sym, ap, ◌∙◌}
+use borrow.Enum.Refused.{opened}
 use Rattle.index_rules.specs.Checked.{replaces_sound}
 use Rattle.index.proofs.Room.{appended-is}
 use Rattle.index.specs.Calls.{presence_of}
@@ -12,7 +13,7 @@ pub returns-in_default : goal.returns-in_default
 unfolding replaces_sound
 returns-in_default c =
     let a = c.args in
-    kept _ _ _ (settled _ a.hash a.key a.place) _ (not_at c.present-asked.result c.in_default.keys2) (c.present-asked.ensures _)
+    kept _ _ _ (settled _ a.hash a.key a.place) _ (not_at c.present-asked.result (opened c.in_default.in_default-own.keys2)) (c.present-asked.ensures _)
 
 pub returns : goal.returns
 unfolding replaces_sound

@@ -11,12 +11,12 @@ use Rattle.index.proofs.sound.rule7.Goals as goal
 
 pub returns-then-not-occupied : goal.returns-then-not-occupied
 unfolding rule7
-returns-then-not-occupied c =
+returns-then-not-occupied c sizes =
     rw (← c.word-first.ensures, ← c.not_free-occupied.ensures, not-true c.not_free-occupied.result c.if-not-occupied.true-raw)
 
 pub returns-in_default : goal.returns-in_default
 unfolding rule7
-returns-in_default c =
+returns-in_default c sizes =
     rw (
       ← c.word-first.ensures,
       ← c.not_free-occupied.ensures,
@@ -40,7 +40,7 @@ overflow_sub-result c =
 
 pub returns : goal.returns
 unfolding rule7
-returns c =
+returns c sizes =
     rw (
       ← c.word-first.ensures,
       ← c.not_free-occupied.ensures,

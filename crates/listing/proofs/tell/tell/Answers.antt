@@ -13,11 +13,11 @@ returns-then-answer-ne0 c =
     let a = c.args in
     let s = lent_set a.lengths.now a.bins.now a.heads.now a.names.now a.cells.now in
     let told = c.fill.ensures ∙ ap (typed _) (no_told (loaded_of a.load s) c.answer-answer.ensures c.if-answer-ne0.true) in
-    (told, text_within _ _ told (omega arith))
+    record { result_after = told; bounds = text_within _ _ told (omega arith) }
 
 pub returns : goal.returns
 returns c =
     let a = c.args in
     let s = lent_set a.lengths.now a.bins.now a.heads.now a.names.now a.cells.now in
     let told = c.tell_cut.ensures ∙ ap (typed _) (yes_told (loaded_of a.load s) c.answer-answer.ensures c.if-answer-ne0.false) in
-    (told, text_within _ _ told (omega arith))
+    record { result_after = told; bounds = text_within _ _ told (omega arith) }

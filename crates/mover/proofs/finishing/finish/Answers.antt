@@ -1,6 +1,7 @@
 -- Where the set does not fit or is not accepted every move is refused; else the tables have their turn.
 use mathlib.Core.Path.{refl, ap, sym, ◌∙◌}
 use borrow.Author.Tests.{not-true}
+use borrow.Enum.Refused.{opened}
 use Rattle.set_rules.specs.Words.{lent_set}
 use Rattle.sets.specs.Verdicts.{accept_of}
 use Rattle.mover.proofs.Moves.{yes_accepts}
@@ -18,7 +19,7 @@ returns-in_default c =
     let a = c.args in
     let s = lent_set a.lengths.now a.bins.now a.heads.now a.names.now a.cells.now in
     let fit = sym c.fit_set-fit.ensures ∙ c.if-not-fit.false in
-    c.stop_first-in_default.ensures s refl (all_damaged s c.accept-judged.result fit c.accept-judged.ensures c.in_default.keys2)
+    c.stop_first-in_default.ensures s refl (all_damaged s c.accept-judged.result fit c.accept-judged.ensures (opened c.in_default.in_default-own.keys2))
 
 pub finish_tables-requires : goal.finish_tables-requires
 finish_tables-requires c =

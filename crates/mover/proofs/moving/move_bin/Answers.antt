@@ -1,6 +1,7 @@
 -- Each way out is one of the model's.
 use mathlib.Core.Path.{ap, sym, ◌∙◌}
 use borrow.Author.Tests.{not-false, not-true}
+use borrow.Enum.Refused.{opened}
 use Rattle.set_rules.specs.Words.{lent_set}
 use Rattle.sets.specs.Verdicts.{accept_of}
 use Rattle.mover.proofs.Moves.{unfit_moves, table_moves, damaged_moves, yes_accepts}
@@ -25,7 +26,7 @@ returns-in_default c =
     damaged_moves s a.table a.bin (sym c.fit_set-fit.ensures ∙ not-false c.fit_set-fit.result c.if-not-fit.false-raw) c.if-lengths-table.false
     c.accept-judged.result
     c.accept-judged.ensures
-    c.in_default.keys2
+    (opened c.in_default.in_default-own.keys2)
 
 pub move_accepted-requires : goal.move_accepted-requires
 move_accepted-requires c =

@@ -4,12 +4,12 @@ use Rattle.night.proofs.breach.breach3.Goals as goal
 
 pub returns-then-astray : goal.returns-then-astray
 unfolding breach3
-returns-then-astray c =
+returns-then-astray c names sizes =
     rw (← c.misrooted-astray.ensures, c.if-astray.true, ← c.misseated.ensures)
 
 pub returns-then-not-left : goal.returns-then-not-left
 unfolding breach3
-returns-then-not-left c =
+returns-then-not-left c names sizes =
     rw (
       ← c.misrooted-astray.ensures,
       c.if-astray.false,
@@ -20,7 +20,7 @@ returns-then-not-left c =
 
 pub returns-then-not-right : goal.returns-then-not-right
 unfolding breach3
-returns-then-not-right c =
+returns-then-not-right c names sizes =
     rw (
       ← c.misrooted-astray.ensures,
       c.if-astray.false,
@@ -33,7 +33,7 @@ returns-then-not-right c =
 
 pub returns-then-same : goal.returns-then-same
 unfolding breach3
-returns-then-same c =
+returns-then-same c names sizes =
     rw (
       ← c.misrooted-astray.ensures,
       c.if-astray.false,
@@ -48,7 +48,7 @@ returns-then-same c =
 
 pub returns : goal.returns
 unfolding breach3
-returns c =
+returns c names sizes =
     rw (
       ← c.misrooted-astray.ensures,
       c.if-astray.false,

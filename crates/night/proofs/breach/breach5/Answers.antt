@@ -5,15 +5,15 @@ use Rattle.night.proofs.breach.breach5.Goals as goal
 
 pub returns-then-i-root : goal.returns-then-i-root
 unfolding breach5
-returns-then-i-root c =
+returns-then-i-root c names sizes =
     rw (← c.word-root.ensures, eq-eqb _ _ c.if-i-root.true)
 
 pub returns-then-left : goal.returns-then-left
 unfolding breach5
-returns-then-left c =
+returns-then-left c names sizes =
     rw (← c.word-root.ensures, ne_eqb _ _ c.if-i-root.false, ← c.get-l.ensures, ← c.is_red-left.ensures, c.if-left.true)
 
 pub returns : goal.returns
 unfolding breach5
-returns c =
+returns c names sizes =
     rw (← c.word-root.ensures, ne_eqb _ _ c.if-i-root.false, ← c.get-l.ensures, ← c.is_red-left.ensures, c.if-left.false, ← c.get-r.ensures)

@@ -4,12 +4,12 @@ use Rattle.night.proofs.breach.breach7.Goals as goal
 
 pub returns-then-behind : goal.returns-then-behind
 unfolding breach7
-returns-then-behind c =
+returns-then-behind c names sizes =
     rw (← c.get-p.ensures, ← c.get-x.ensures, ← c.misfirst-behind.ensures, c.if-behind.true)
 
 pub returns-then-not-before : goal.returns-then-not-before
 unfolding breach7
-returns-then-not-before c =
+returns-then-not-before c names sizes =
     rw (
       ← c.get-p.ensures,
       ← c.get-x.ensures,
@@ -22,7 +22,7 @@ returns-then-not-before c =
 
 pub returns-then-not-after : goal.returns-then-not-after
 unfolding breach7
-returns-then-not-after c =
+returns-then-not-after c names sizes =
     rw (
       ← c.get-p.ensures,
       ← c.get-x.ensures,
@@ -37,7 +37,7 @@ returns-then-not-after c =
 
 pub returns : goal.returns
 unfolding breach7
-returns c =
+returns c names sizes =
     rw (
       ← c.get-p.ensures,
       ← c.get-x.ensures,

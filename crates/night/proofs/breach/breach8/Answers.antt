@@ -6,10 +6,10 @@ use Rattle.night.proofs.breach.breach8.Goals as goal
 
 pub returns-then-state-eq-FREE : goal.returns-then-state-eq-FREE
 unfolding breach8 held_number
-returns-then-state-eq-FREE c =
+returns-then-state-eq-FREE c head =
     rw (← c.word-size.ensures, ← c.get-state.ensures, eq-eqb _ _ c.if-state-eq-FREE.true)
 
 pub returns : goal.returns
 unfolding breach8 held_number
-returns c =
+returns c head =
     rw (← c.word-size.ensures, ← c.get-state.ensures, ne_eqb _ _ c.if-state-eq-FREE.false, ← c.number_below-m.ensures)

@@ -29,6 +29,6 @@ returns-in-7 c = c.breach7.ensures _ _ ∙ at_slot7 _ _ c.in-7.is
 
 pub returns-in_default : goal.returns-in_default
 returns-in_default c =
-    let r = c.in_default.rest in
+    let r = c.in_default.in_default-own.rest in
     c.breach8.ensures _
     ∙ at_slot8 _ _ r.0.0.0.0.0.0.1 r.0.0.0.0.0.1 r.0.0.0.0.1 r.0.0.0.1 r.0.0.1 r.0.1 r.1

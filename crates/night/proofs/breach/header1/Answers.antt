@@ -5,12 +5,12 @@ use Rattle.night.proofs.breach.header1.Goals as goal
 
 pub returns-then-not-rooted : goal.returns-then-not-rooted
 unfolding header1
-returns-then-not-rooted c =
+returns-then-not-rooted c sizes =
     rw (← c.word-root.ensures, ← c.in_range-rooted.ensures, not-true c.in_range-rooted.result c.if-not-rooted.true-raw)
 
 pub returns-then-not-begun : goal.returns-then-not-begun
 unfolding header1
-returns-then-not-begun c =
+returns-then-not-begun c sizes =
     rw (
       ← c.word-root.ensures,
       ← c.in_range-rooted.ensures,
@@ -22,7 +22,7 @@ returns-then-not-begun c =
 
 pub returns : goal.returns
 unfolding header1
-returns c =
+returns c sizes =
     rw (
       ← c.word-root.ensures,
       ← c.in_range-rooted.ensures,

@@ -4,10 +4,10 @@ use Rattle.night.proofs.breach.header2.Goals as goal
 
 pub returns-then-rooted : goal.returns-then-rooted
 unfolding header2
-returns-then-rooted c =
+returns-then-rooted c names cells sizes =
     rw (← c.word-root.ensures, ← c.word-count.ensures, ← c.null_if_none-rooted.ensures, c.if-rooted.true, ← c.word-first.ensures)
 
 pub returns : goal.returns
 unfolding header2
-returns c =
+returns c names cells sizes =
     rw (← c.word-root.ensures, ← c.word-count.ensures, ← c.null_if_none-rooted.ensures, c.if-rooted.false)

@@ -5,17 +5,17 @@ use Rattle.night.proofs.breach.misseated.Goals as goal
 
 pub returns-then-i-root : goal.returns-then-i-root
 unfolding misseated
-returns-then-i-root c =
+returns-then-i-root c names sizes =
     rw (← c.get-p.ensures, ← c.word-root.ensures, eq-eqb _ _ c.if-i-root.true)
 
 pub returns-then-p : goal.returns-then-p
 unfolding misseated
-returns-then-p c =
+returns-then-p c names sizes =
     rw (← c.get-p.ensures, ← c.word-root.ensures, ne_eqb _ _ c.if-i-root.false, eq-eqb _ _ c.if-p.true)
 
 pub returns : goal.returns
 unfolding misseated
-returns c =
+returns c names sizes =
     rw (
       ← c.get-p.ensures,
       ← c.word-root.ensures,

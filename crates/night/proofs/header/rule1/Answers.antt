@@ -6,7 +6,7 @@ use Rattle.night.proofs.header.rule1.Goals as goal
 
 pub returns-then-not-fine : goal.returns-then-not-fine
 unfolding rule1
-returns-then-not-fine c =
+returns-then-not-fine c sizes =
     let a = c.args in
     rw (
       ← (c.slots_fine-fine.ensures ∙ any_header a.names.now a.cells.now a.head.now sizes _ _),
@@ -15,7 +15,7 @@ returns-then-not-fine c =
 
 pub returns-then-not-rooted : goal.returns-then-not-rooted
 unfolding rule1
-returns-then-not-rooted c =
+returns-then-not-rooted c sizes =
     let a = c.args in
     rw (
       ← (c.slots_fine-fine.ensures ∙ any_header a.names.now a.cells.now a.head.now sizes _ _),
@@ -27,7 +27,7 @@ returns-then-not-rooted c =
 
 pub returns-then-not-begun : goal.returns-then-not-begun
 unfolding rule1
-returns-then-not-begun c =
+returns-then-not-begun c sizes =
     let a = c.args in
     rw (
       ← (c.slots_fine-fine.ensures ∙ any_header a.names.now a.cells.now a.head.now sizes _ _),
@@ -42,7 +42,7 @@ returns-then-not-begun c =
 
 pub returns : goal.returns
 unfolding rule1
-returns c =
+returns c sizes =
     let a = c.args in
     rw (
       ← (c.slots_fine-fine.ensures ∙ any_header a.names.now a.cells.now a.head.now sizes _ _),

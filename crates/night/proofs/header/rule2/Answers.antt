@@ -4,7 +4,7 @@ use Rattle.night.proofs.header.rule2.Goals as goal
 
 pub returns-then-not-rooted : goal.returns-then-not-rooted
 unfolding rule2
-returns-then-not-rooted c =
+returns-then-not-rooted c names cells sizes =
     rw (
       ← c.word-root.ensures,
       ← c.word-first.ensures,
@@ -15,7 +15,7 @@ returns-then-not-rooted c =
 
 pub returns : goal.returns
 unfolding rule2
-returns c =
+returns c names cells sizes =
     rw (
       ← c.word-root.ensures,
       ← c.word-first.ensures,

@@ -23,11 +23,11 @@ save_slot-kept-requires c =
 pub loop-i-preserved : goal.loop-i-preserved
 loop-i-preserved c =
     turn_on c.loop-i.invariant c.loop-i-test.true c.save_slot-kept.ensures.0
-    c.save_slot-kept.auto.1.1.0
-    c.save_slot-kept.auto.1.1.1.0
-    c.save_slot-kept.auto.1.1.1.1.0
-    c.save_slot-kept.auto.1.1.1.1.1.0
-    c.save_slot-kept.auto.1.1.1.1.1.1.0
+    c.save_slot-kept.auto.names2
+    c.save_slot-kept.auto.cells2
+    c.save_slot-kept.auto.head2
+    c.save_slot-kept.auto.sizes2
+    c.save_slot-kept.auto.report
     c.save_slot-kept.ensures.1
 
 pub returns : goal.returns

@@ -6,13 +6,13 @@ pub returns-then-state-eq-FREE : goal.returns-then-state-eq-FREE
 returns-then-state-eq-FREE c = (
   slot_free _ _ _ _ _ _ c.get-state.ensures c.if-state-eq-FREE.true c.put_word.ensures,
   sources_stay _ _ _ _ _ c.put_word.ensures
-      c.requires.1.1.1.1.sources,
+      c.requires.slot_ready.sources,
 )
 
 pub returns-then-state-gt-RED : goal.returns-then-state-gt-RED
 returns-then-state-gt-RED c = (
   slot_unknown _ _ _ _ _ _ c.get-state.ensures c.if-state-eq-FREE.false c.if-state-gt-RED.true c.put_word-then-state-gt-RED.ensures,
-  sources_stay _ _ _ _ _ c.put_word-then-state-gt-RED.ensures c.requires.1.1.1.1.sources,
+  sources_stay _ _ _ _ _ c.put_word-then-state-gt-RED.ensures c.requires.slot_ready.sources,
 )
 
 pub save_pair-requires : goal.save_pair-requires

@@ -6,10 +6,10 @@ use Rattle.night.proofs.slot.misfirst.Goals as goal
 
 pub returns-then-i-first : goal.returns-then-i-first
 unfolding misfirst
-returns-then-i-first c =
+returns-then-i-first c names sizes =
     rw (← c.word-first.ensures, eq-eqb _ _ c.if-i-first.true, ← c.get-p.ensures, not_is)
 
 pub returns : goal.returns
 unfolding misfirst
-returns c =
+returns c names sizes =
     rw (← c.word-first.ensures, ne_eqb _ _ c.if-i-first.false)

@@ -6,10 +6,10 @@ use Rattle.night.proofs.slot.misrooted.Goals as goal
 
 pub returns-then-i-root : goal.returns-then-i-root
 unfolding misrooted
-returns-then-i-root c =
+returns-then-i-root c names sizes =
     rw (← c.get-p.ensures, ← c.word-root.ensures, eq-eqb _ _ c.if-i-root.true, not_is)
 
 pub returns : goal.returns
 unfolding misrooted
-returns c =
+returns c names sizes =
     rw (← c.get-p.ensures, ← c.word-root.ensures, ne_eqb _ _ c.if-i-root.false, ← c.one_child-child.ensures, not_is)

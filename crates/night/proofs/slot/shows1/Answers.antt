@@ -7,12 +7,12 @@ use Rattle.night.proofs.slot.shows1.Goals as goal
 
 pub returns-then-not-named : goal.returns-then-not-named
 unfolding shows1 slot_fine is_cleared
-returns-then-not-named c =
+returns-then-not-named c head sizes =
     rw (← c.links_in-named.ensures, not-true c.links_in-named.result c.if-not-named.true-raw)
 
 pub returns-then-state-eq-FREE : goal.returns-then-state-eq-FREE
 unfolding shows1 slot_fine is_cleared
-returns-then-state-eq-FREE c =
+returns-then-state-eq-FREE c head sizes =
     rw (
       ← c.links_in-named.ensures,
       c.if-not-named.false,
@@ -24,7 +24,7 @@ returns-then-state-eq-FREE c =
 
 pub returns-then-state-le-RED : goal.returns-then-state-le-RED
 unfolding shows1 slot_fine is_cleared
-returns-then-state-le-RED c =
+returns-then-state-le-RED c head sizes =
     rw (
       ← c.links_in-named.ensures,
       c.if-not-named.false,
@@ -35,7 +35,7 @@ returns-then-state-le-RED c =
 
 pub returns : goal.returns
 unfolding shows1 slot_fine is_cleared
-returns c =
+returns c head sizes =
     rw (
       ← c.links_in-named.ensures,
       c.if-not-named.false,

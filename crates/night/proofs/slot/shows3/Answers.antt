@@ -6,12 +6,12 @@ use Rattle.night.proofs.slot.shows3.Goals as goal
 
 pub returns-then-not-used : goal.returns-then-not-used
 unfolding shows3
-returns-then-not-used c =
+returns-then-not-used c sizes =
     rw (← c.is_used-used.ensures, not-true c.is_used-used.result c.if-not-used.true-raw)
 
 pub returns-then-astray : goal.returns-then-astray
 unfolding shows3
-returns-then-astray c =
+returns-then-astray c sizes =
     let a = c.args in
     rw (
       ← c.is_used-used.ensures,
@@ -22,7 +22,7 @@ returns-then-astray c =
 
 pub returns-then-not-left : goal.returns-then-not-left
 unfolding shows3
-returns-then-not-left c =
+returns-then-not-left c sizes =
     let a = c.args in
     rw (
       ← c.is_used-used.ensures,
@@ -35,7 +35,7 @@ returns-then-not-left c =
 
 pub returns-then-not-right : goal.returns-then-not-right
 unfolding shows3
-returns-then-not-right c =
+returns-then-not-right c sizes =
     let a = c.args in
     rw (
       ← c.is_used-used.ensures,
@@ -50,7 +50,7 @@ returns-then-not-right c =
 
 pub returns-then-same : goal.returns-then-same
 unfolding shows3
-returns-then-same c =
+returns-then-same c sizes =
     let a = c.args in
     rw (
       ← c.is_used-used.ensures,
@@ -67,7 +67,7 @@ returns-then-same c =
 
 pub returns : goal.returns
 unfolding shows3
-returns c =
+returns c sizes =
     let a = c.args in
     rw (
       ← c.is_used-used.ensures,

@@ -6,17 +6,17 @@ use Rattle.night.proofs.slot.shows4.Goals as goal
 
 pub returns-then-not-used : goal.returns-then-not-used
 unfolding shows4
-returns-then-not-used c =
+returns-then-not-used c head sizes =
     rw (← c.is_used-used.ensures, not-true c.is_used-used.result c.if-not-used.true-raw)
 
 pub returns-then-j : goal.returns-then-j
 unfolding shows4
-returns-then-j c =
+returns-then-j c head sizes =
     rw (← c.is_used-used.ensures, c.if-not-used.false, ← c.next_slot-j.ensures, eq-eqb _ _ c.if-j.true)
 
 pub returns : goal.returns
 unfolding shows4
-returns c =
+returns c head sizes =
     rw (
       ← c.is_used-used.ensures,
       c.if-not-used.false,

@@ -6,11 +6,11 @@ use Rattle.night.proofs.slot.shows6.Goals as goal
 
 pub returns-then-not-used : goal.returns-then-not-used
 unfolding shows6
-returns-then-not-used c = rw (← c.is_used-used.ensures, not-true c.is_used-used.result c.if-not-used.true-raw)
+returns-then-not-used c head sizes = rw (← c.is_used-used.ensures, not-true c.is_used-used.result c.if-not-used.true-raw)
 
 pub returns-in_default : goal.returns-in_default
 unfolding shows6
-returns-in_default c =
+returns-in_default c head sizes =
     rw (
       ← c.is_used-used.ensures,
       c.if-not-used.false,
@@ -21,7 +21,7 @@ returns-in_default c =
 
 pub returns-in_default-rights : goal.returns-in_default-rights
 unfolding shows6
-returns-in_default-rights c =
+returns-in_default-rights c head sizes =
     rw (
       ← c.is_used-used.ensures,
       c.if-not-used.false,
@@ -35,7 +35,7 @@ returns-in_default-rights c =
 
 pub returns : goal.returns
 unfolding shows6
-returns c =
+returns c head sizes =
     rw (
       ← c.is_used-used.ensures,
       c.if-not-used.false,

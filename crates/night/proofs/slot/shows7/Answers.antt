@@ -6,12 +6,12 @@ use Rattle.night.proofs.slot.shows7.Goals as goal
 
 pub returns-then-not-used : goal.returns-then-not-used
 unfolding shows7
-returns-then-not-used c =
+returns-then-not-used c sizes =
     rw (← c.is_used-used.ensures, not-true c.is_used-used.result c.if-not-used.true-raw)
 
 pub returns-then-behind : goal.returns-then-behind
 unfolding shows7
-returns-then-behind c =
+returns-then-behind c sizes =
     let a = c.args in
     rw (
       ← c.is_used-used.ensures,
@@ -22,7 +22,7 @@ returns-then-behind c =
 
 pub returns-then-not-before : goal.returns-then-not-before
 unfolding shows7
-returns-then-not-before c =
+returns-then-not-before c sizes =
     let a = c.args in
     rw (
       ← c.is_used-used.ensures,
@@ -35,7 +35,7 @@ returns-then-not-before c =
 
 pub returns-then-not-after : goal.returns-then-not-after
 unfolding shows7
-returns-then-not-after c =
+returns-then-not-after c sizes =
     let a = c.args in
     rw (
       ← c.is_used-used.ensures,
@@ -50,7 +50,7 @@ returns-then-not-after c =
 
 pub returns : goal.returns
 unfolding shows7
-returns c =
+returns c sizes =
     let a = c.args in
     rw (
       ← c.is_used-used.ensures,

@@ -6,7 +6,7 @@ use Rattle.reader.proofs.steps.take.Goals as goal
 
 pub turn_down-reader-requires : goal.turn_down-reader-requires
 turn_down-reader-requires c =
-    passes_of c.requires.1
+    passes_of c.requires.ready
 
 pub returns-then-r-eq4 : goal.returns-then-r-eq4
 returns-then-r-eq4 c =
@@ -14,7 +14,7 @@ returns-then-r-eq4 c =
 
 pub take_kind-requires : goal.take_kind-requires
 take_kind-requires c =
-    ((let s = c.requires.0.sections in omega arith), c.requires.1)
+    record { section_bound = (let s = c.requires.fit_reader.sections in omega arith); ready = c.requires.ready }
 
 pub returns-then-r-eq0 : goal.returns-then-r-eq0
 returns-then-r-eq0 c =
@@ -22,27 +22,27 @@ returns-then-r-eq0 c =
 
 pub take_count-reader-requires : goal.take_count-reader-requires
 take_count-reader-requires c =
-    let s = c.requires.0.sections in
+    let s = c.requires.fit_reader.sections in
     omega arith
 
 pub returns-then-r-lt3 : goal.returns-then-r-lt3
 returns-then-r-lt3 c =
-    record { same = came_count _ _ _ c.if-r-eq4.false c.if-r-eq0.false c.if-r-lt3.true c.take_count-reader.ensures; ready = c.requires.1 }
+    record { same = came_count _ _ _ c.if-r-eq4.false c.if-r-eq0.false c.if-r-lt3.true c.take_count-reader.ensures; ready = c.requires.ready }
 
 pub take_entry-reader-requires : goal.take_entry-reader-requires
 take_entry-reader-requires c =
-    c.requires.0.bytes
+    c.requires.fit_reader.bytes
 
 pub returns-then-r-lt18 : goal.returns-then-r-lt18
 returns-then-r-lt18 c =
     record {
       same = came_entry _ _ _ c.if-r-eq4.false c.if-r-eq0.false c.if-r-lt3.false c.if-r-lt18.true c.take_entry-reader.ensures;
-      ready = c.requires.1;
+      ready = c.requires.ready;
     }
 
 pub take_last-requires : goal.take_last-requires
 take_last-requires c =
-    (c.requires.0, (c.if-r-lt3.false, c.requires.1))
+    record { fit_reader = c.requires.fit_reader; le_got = c.if-r-lt3.false; ready = c.requires.ready }
 
 pub returns : goal.returns
 returns c =

@@ -5,11 +5,11 @@ use Rattle.reader.proofs.steps.take_kind.Goals as goal
 
 pub returns-then-b-r : goal.returns-then-b-r
 returns-then-b-r c =
-    record { same = kind_right _ _ _ c.if-b-r.true c.unsaid-reader.ensures; ready = c.requires.1 }
+    record { same = kind_right _ _ _ c.if-b-r.true c.unsaid-reader.ensures; ready = c.requires.ready }
 
 pub turn_down-reader-requires : goal.turn_down-reader-requires
 turn_down-reader-requires c =
-    passes_of c.requires.1
+    passes_of c.requires.ready
 
 pub returns : goal.returns
 returns c =

@@ -2,6 +2,7 @@
 use mathlib.Core.Path.{ap}
 use native.Mathlib.Omega.{arith}
 use borrow.Author.Tests.{not-true, not-false}
+use borrow.Enum.Refused.{opened}
 use Rattle.index.specs.Calls.{inserted_of}
 use Rattle.index.specs.declared.insert.Inserted.{Inserted}
 use Rattle.index.proofs.Inserting.{not_at}
@@ -12,37 +13,37 @@ use Rattle.reader.proofs.steps.take_last.Goals as goal
 
 pub overflow_mul-place : goal.overflow_mul-place
 overflow_mul-place c =
-    let h = few_taken c.requires.0 in
-    let s = c.requires.0.sections in
+    let h = few_taken c.requires.fit_reader in
+    let s = c.requires.fit_reader.sections in
     omega arith
 
 pub overflow_add-place : goal.overflow_add-place
 overflow_add-place c =
-    let h = few_taken c.requires.0 in
-    let s = c.requires.0.sections in
+    let h = few_taken c.requires.fit_reader in
+    let s = c.requires.fit_reader.sections in
     omega arith
 
 pub overflow_mul-place-2 : goal.overflow_mul-place-2
 overflow_mul-place-2 c =
-    let h = few_taken c.requires.0 in
-    let s = c.requires.0.sections in
+    let h = few_taken c.requires.fit_reader in
+    let s = c.requires.fit_reader.sections in
     omega arith
 
 pub overflow_add-place-2 : goal.overflow_add-place-2
 overflow_add-place-2 c =
-    let h = few_taken c.requires.0 in
-    let s = c.requires.0.sections in
+    let h = few_taken c.requires.fit_reader in
+    let s = c.requires.fit_reader.sections in
     omega arith
 
 pub overflow_cast-place : goal.overflow_cast-place
 overflow_cast-place c =
-    let h = few_taken c.requires.0 in
-    let s = c.requires.0.sections in
+    let h = few_taken c.requires.fit_reader in
+    let s = c.requires.fit_reader.sections in
     omega arith
 
 pub enter-entered-requires : goal.enter-entered-requires
 enter-entered-requires c =
-    c.requires.1.1
+    c.requires.ready
 
 pub returns-then-not-entered : goal.returns-then-not-entered
 returns-then-not-entered c =
@@ -57,7 +58,7 @@ turn_down-reader-requires c =
 pub returns-in_default : goal.returns-in_default
 returns-in_default c =
     step_down
-    (last_refused _ _ _ c.name_byte-key.ensures c.enter-entered.ensures.same (not_at c.enter-entered.result.inserted c.in_default.keys2)
+    (last_refused _ _ _ c.name_byte-key.ensures c.enter-entered.ensures.same (not_at c.enter-entered.result.inserted (opened c.in_default.in_default-own.keys2))
     c.of_inserted-reply.ensures c.turn_down-reader.ensures)
 
 pub returns : goal.returns

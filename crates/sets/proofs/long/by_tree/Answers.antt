@@ -1,6 +1,7 @@
 use mathlib.Core.Path.{sym, ◌∙◌}
 use borrow.Author.Rules.{rules}
 use borrow.Author.Tests.{not-false, not-true}
+use borrow.Enum.Refused.{opened}
 use Rattle.sets.proofs.Hanging.{begun, passed, spent, not_home, answer_none, answer_else, repeated, hung}
 use Rattle.sets.proofs.long.by_tree.Goals as goal
 
@@ -32,7 +33,7 @@ returns-in_default c =
     let a = c.args in
     repeated a.names.now a.cells.now a.bins a.i a.first a.visits c.requires c.loop-x.invariant.0
     c.loop-x-test.true c.if-left-eq0.false c.name-hash.ensures c.type_inv.links.ensures
-    (answer_else c.find_tree_node-found.result c.find_tree_node-found.ensures c.in_default.keys2)
+    (answer_else c.find_tree_node-found.result c.find_tree_node-found.ensures (opened c.in_default.in_default-own.keys2))
 
 pub loop-x-preserved : goal.loop-x-preserved
 loop-x-preserved c =

@@ -29,7 +29,7 @@ pub loop-at-preserved : goal.loop-at-preserved
 loop-at-preserved c =
     let piece = c.args.piece.now in
     let inv = c.loop-at.invariant in
-    let kept = c.step-next.auto.1 in (
+    let kept = c.step-next.auto.bins in (
       going_on inv.0 (from_place piece c.loop-at.at) c.step-next.ensures,
       kept.0 ∙ inv.1,
       kept.1.0 ∙ inv.2,

@@ -24,11 +24,11 @@ await_set-stream-requires c =
 
 pub shape_of-lengths : goal.shape_of-lengths
 shape_of-lengths c =
-    c.await_set-stream.auto.1.1.0 ∙ c.chunk-load.auto.1.0
+    c.await_set-stream.auto.heads ∙ c.chunk-load.auto.1.0
 
 pub shape_of-bins : goal.shape_of-bins
 shape_of-bins c =
-    c.await_set-stream.auto.1.1.1.0 ∙ c.chunk-load.auto.1.1.0
+    c.await_set-stream.auto.names ∙ c.chunk-load.auto.1.1.0
 
 pub returns : goal.returns
 returns c =

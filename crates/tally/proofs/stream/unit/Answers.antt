@@ -12,4 +12,4 @@ pub returns-in-2 : goal.returns-in-2
 returns-in-2 c = rw c.in-2.is
 
 pub returns-in_default : goal.returns-in_default
-returns-in_default c = let n = c.in_default.rest in unit_last _ c.requires n.0.0.1 n.0.1 n.1
+returns-in_default c = let n = c.in_default.in_default-own.rest in unit_last _ c.requires n.0.0.1 n.0.1 n.1

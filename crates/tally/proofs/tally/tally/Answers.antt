@@ -1,5 +1,6 @@
 -- Each way out is one of the model's.
 use native.Mathlib.Omega.{arith}
+use borrow.Enum.Refused.{opened}
 use Rattle.set_rules.specs.Words.{lent_set}
 use Rattle.tally.proofs.Tallied.{unfit_tallies, in_range_lem, wide_room, counted-word, many_tallies, turned-tallies, taken-tallies}
 use Rattle.tally.proofs.Tallied.{yes_fits, not-fits}
@@ -36,7 +37,7 @@ returns-in_default c =
     turned-tallies s a.totals.now c.fit_totals-fit.ensures c.if-not-fit.false c.wide-sets.ensures
     c.wide-refused.ensures
     c.if-sets-refused-ge-MOST_SETS.false
-    (not-fits s c.accept-judged.result c.accept-judged.ensures c.in_default.keys2)
+    (not-fits s c.accept-judged.result c.accept-judged.ensures (opened c.in_default.in_default-own.keys2))
     c.add_to.ensures
 
 pub add_set-requires : goal.add_set-requires

@@ -9,11 +9,11 @@ returns-then-over c =
     let a = c.args in
     let told = over-told a.totals.now _ c.tell_counts-counts.ensures c.tell_rows-rows.ensures c.tell_last-last.ensures c.if-over.true
     c.fill.ensures in
-    (told, text_within _ _ told (omega arith))
+    record { result_after = told; bounds = text_within _ _ told (omega arith) }
 
 pub returns : goal.returns
 returns c =
     let a = c.args in
     let told = not-over-told a.totals.now _ c.tell_counts-counts.ensures c.tell_rows-rows.ensures c.tell_last-last.ensures
     c.if-over.false in
-    (told, text_within _ _ told (omega arith))
+    record { result_after = told; bounds = text_within _ _ told (omega arith) }

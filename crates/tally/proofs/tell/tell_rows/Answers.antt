@@ -17,7 +17,7 @@ loop-i-preserved c =
     let t = c.args.totals.now in (
       rows_turn t (lent_paper l.out l.end) l.i c.loop-i-test.true (c.fill-end.ensures ∙ row_told t _ l.i c.wide.ensures)
           ∙ l.invariant.0,
-      c.fill-end.auto.0 ∙ l.invariant.1,
+      c.fill-end.auto.out ∙ l.invariant.1,
       omega arith,
     )
 

@@ -37,5 +37,5 @@ returns-in-14 c =
 
 pub returns-in_default : goal.returns-in_default
 returns-in_default c =
-    let n = c.in_default.rest in
+    let n = c.in_default.in_default-own.rest in
     at_other _ c.if-word-eq0.false c.if-number-eq0.false c.if-value-ne0.false n.0.0.0.0.1 n.0.0.0.1 n.0.0.1 n.0.1 n.1

@@ -18,17 +18,17 @@ loop-i-init c =
 
 pub take-next-requires : goal.take-next-requires
 take-next-requires c =
-    (c.loop-i.invariant.fit, c.loop-i.invariant.ready)
+    record { fit_reader = c.loop-i.invariant.fit; ready = c.loop-i.invariant.ready }
 
 pub loop-i-preserved-in-Unsaid : goal.loop-i-preserved-in-Unsaid
 loop-i-preserved-in-Unsaid c =
     turn_on c.loop-i.invariant c.loop-i-test.true (omega (arith, c.type_inv.chunk.given c.loop-i.i))
     (ap note_of c.in-Unsaid.is) c.take-next.ensures
-    c.take-next.auto.0
-    c.take-next.auto.1.0
-    c.take-next.auto.1.1.0
-    c.take-next.auto.1.1.1.0
-    c.take-next.auto.1.1.1.1.0
+    c.take-next.auto.names
+    c.take-next.auto.cells
+    c.take-next.auto.head
+    c.take-next.auto.sizes
+    c.take-next.auto.lines
 
 pub loop-i-preserved : goal.loop-i-preserved
 loop-i-preserved c = turn_noted c.loop-i.invariant (ap note_of c.in-Said.is)
