@@ -76,12 +76,7 @@ fn yes_or_no(stdout: Stdout, value: u32) -> io::Result<()> {
 }
 
 // A verdict behind its label: yes, no, or the number of a refusal behind its word.
-pub fn verdict(
-    stdout: Stdout,
-    label: &[u8],
-    refused: &[u8],
-    answer: Answer,
-) -> io::Result<()> {
+pub fn verdict(stdout: Stdout, label: &[u8], refused: &[u8], answer: Answer) -> io::Result<()> {
     say(stdout, label)?;
     match answer.value {
         Value::Some(yes) => yes_or_no(stdout, yes),

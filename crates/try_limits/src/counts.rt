@@ -5,7 +5,7 @@ use ranks::kth::{KthSlot, kth};
 use ranks::position::{Positioned, position};
 use slots::{HASH, KEY, NEXT, NULL, PLACE, get, name};
 
-#[derive(Drop)]
+#[derive(Clone, Copy)]
 pub enum Count {
     Right, // pairs that stand as they have to once the last 1,024 removes are undone
     Listed, // neighbours of the chain in the order that they had when the tree was full

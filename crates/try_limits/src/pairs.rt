@@ -9,7 +9,7 @@ pub fn hash_of(k: u32) -> u64 {
 }
 
 // The order in which many pairs come.
-#[derive(Drop)]
+#[derive(Clone, Copy)]
 pub enum Order {
     Filled, // 4,096 pairs, in steps of 1,103
     Drained, // 4,096 pairs, in steps of 2,731

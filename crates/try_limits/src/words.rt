@@ -6,6 +6,8 @@ use crate::pairs::{Order, nth};
 use index::journal::is_full;
 use slots::answer::{Answer, Value, given, nothing};
 use slots::{get, name, put_name};
+use std::io;
+use std::io::Stdout;
 use trials::print::{line, name as say_name, say};
 use trials::same::same_index;
 
@@ -19,7 +21,7 @@ pub struct Room {
     pub lines: usize,
 }
 
-#[derive(Drop)]
+#[derive(Clone, Copy)]
 pub struct Words {
     pub names: [u64; 8195],
     pub cells: [u32; 28680],
@@ -162,18 +164,18 @@ pub fn made(x: Words, step: Step) -> Words {
 }
 
 // The words after a call, whose answer is printed behind a label.
-pub fn part(x: Words, label: &[u8], call: Call) -> Words {
+pub fn part(stdout: Stdout, x: Words, label: &[u8], call: Call) -> io::Result<Words> {
     let done = after(x, Step::One(call));
-    say_answer(label, call, done.told);
-    done.words
+    say_answer(stdout, label, call, done.told)?;
+    Ok(done.words)
 }
 
 // The same, in a line of its own.
-pub fn ask(x: Words, label: &[u8], call: Call) -> Words {
-    say(label);
-    let words = part(x, b": ", call);
-    say(b"\n");
-    words
+pub fn ask(stdout: Stdout, x: Words, label: &[u8], call: Call) -> io::Result<Words> {
+    say(stdout, label)?;
+    let words = part(stdout, x, b": ", call)?;
+    say(stdout, b"\n")?;
+    Ok(words)
 }
 
 // An empty index of so many slots and lines.
@@ -214,17 +216,17 @@ pub fn same(x: Words, y: Words) -> bool {
 }
 
 // How many entries an index of n slots has, and which.
-pub fn say_held(x: Words, n: u32) {
+pub fn say_held(stdout: Stdout, x: Words, n: u32) -> io::Result<()> {
     let names = x.names;
     let cells = x.cells;
     let head = x.head;
-    say_entries(&names, &cells, &head, n);
+    say_entries(stdout, &names, &cells, &head, n)
 }
 
 // The journal's length.
-pub fn say_length(x: Words) {
+pub fn say_length(stdout: Stdout, x: Words) -> io::Result<()> {
     let lines = x.lines;
-    say_name(b", lines ", name(&lines, 0, 0));
+    say_name(stdout, b", lines ", name(&lines, 0, 0))
 }
 
 // The value of an answer, or 0.
@@ -237,26 +239,27 @@ fn value_of(told: Answer) -> u32 {
 }
 
 // Whether the tree is sound, and its count, since the answers alone do not say what is left.
-pub fn tree(x: Words) {
+pub fn tree(stdout: Stdout, x: Words) -> io::Result<()> {
     let head = x.head;
     let count = get(&head, 0, 2);
     let done = after(x, Step::One(Call::Sound));
     if value_of(done.told) == 1 {
-        line(b"the tree", b": sound, count ", count);
+        line(stdout, b"the tree", b": sound, count ", count)?;
     } else {
-        line(b"the tree", b": not sound, count ", count);
+        line(stdout, b"the tree", b": not sound, count ", count)?;
     }
+    Ok(())
 }
 
 // The words after many calls, and how many of these were accepted.
-pub fn many_calls(x: Words, label: &[u8], step: Step) -> Words {
+pub fn many_calls(stdout: Stdout, x: Words, label: &[u8], step: Step) -> io::Result<Words> {
     let done = after(x, step);
-    line(label, b": accepted ", value_of(done.told));
-    done.words
+    line(stdout, label, b": accepted ", value_of(done.told))?;
+    Ok(done.words)
 }
 
 // How many there are of what is counted.
-pub fn count(x: Words, label: &[u8], count: Count) {
+pub fn count(stdout: Stdout, x: Words, label: &[u8], count: Count) -> io::Result<()> {
     let done = after(x, Step::Count(count));
-    line(label, b": ", value_of(done.told));
+    line(stdout, label, b": ", value_of(done.told))
 }
