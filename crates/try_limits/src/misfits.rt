@@ -16,22 +16,21 @@ const HIGH: u64 = 4294967296;
 fn say_same(stdout: Stdout, label: &[u8], same: bool) -> io::Result<()> {
     say(stdout, label)?;
     if same {
-        say(stdout, b": all as it was\n")?;
-    } else {
-        say(stdout, b": other words\n")?;
+        return say(stdout, b": all as it was\n");
     }
-    Ok(())
+    say(stdout, b": other words\n")
 }
 
 // An index of n slots is rolled back to mark: what is answered, whether it is then what it was, and where it is not what it holds.
 fn roll(stdout: Stdout, label: &[u8], x: Words, n: u32, mark: u32) -> io::Result<()> {
     say(stdout, label)?;
-    let rolled = part(stdout, x, b": ", Call::Rollback(mark))?;
+    let mut rolled = x;
+    part(stdout, &mut rolled, b": ", Call::Rollback(mark))?;
     if same(x, rolled) {
         say(stdout, b", all as it was")?;
     } else {
         say(stdout, b", written")?;
-        say_held(stdout, rolled, n)?;
+        say_held(stdout, &rolled, n)?;
     }
     say(stdout, b"\n")
 }

@@ -9,25 +9,27 @@ use std::io::Stdout;
 use trials::print::say;
 
 // The slot at position k, and the position of pair p, in one line.
-fn ask(stdout: Stdout, x: Words, label: &[u8], k: u32, p: u32) -> io::Result<()> {
+fn ask(stdout: Stdout, x: &Words, label: &[u8], k: u32, p: u32) -> io::Result<()> {
     say(stdout, label)?;
-    part(stdout, x, b": kth ", Call::Kth(k))?;
-    part(stdout, x, b", position ", Call::Position(p))?;
+    let mut words = *x;
+    part(stdout, &mut words, b": kth ", Call::Kth(k))?;
+    words = *x;
+    part(stdout, &mut words, b", position ", Call::Position(p))?;
     say(stdout, b"\n")
 }
 
 // The least capacity: no pair, and one.
 fn one_slot(stdout: Stdout) -> io::Result<()> {
     let mut x = empty(1, 1);
-    ask(stdout, x, b"capacity 1, empty", 0, 1)?;
+    ask(stdout, &x, b"capacity 1, empty", 0, 1)?;
     x = made(x, Step::One(Call::Insert(1, 1)));
-    ask(stdout, x, b"one pair", 0, 1)?;
-    ask(stdout, x, b"past the pair", 1, 2)?;
-    ask(stdout, x, b"before the pair, the largest number", NULL, 0)
+    ask(stdout, &x, b"one pair", 0, 1)?;
+    ask(stdout, &x, b"past the pair", 1, 2)?;
+    ask(stdout, &x, b"before the pair, the largest number", NULL, 0)
 }
 
 // 300 pairs.
-fn ask_300(stdout: Stdout, x: Words) -> io::Result<()> {
+fn ask_300(stdout: Stdout, x: &Words) -> io::Result<()> {
     ask(stdout, x, b"300 pairs, the first", 0, 0)?;
     ask(stdout, x, b"300 pairs, the last", 299, 299)?;
     ask(stdout, x, b"300 pairs, past the last", 300, 300)?;
@@ -36,7 +38,7 @@ fn ask_300(stdout: Stdout, x: Words) -> io::Result<()> {
 }
 
 // 200 of them.
-fn ask_200(stdout: Stdout, x: Words) -> io::Result<()> {
+fn ask_200(stdout: Stdout, x: &Words) -> io::Result<()> {
     ask(stdout, x, b"200 pairs, the first", 0, 1)?;
     ask(stdout, x, b"200 pairs, the last", 199, 299)?;
     ask(stdout, x, b"200 pairs, past the last", 200, 297)?;
@@ -48,13 +50,13 @@ fn ask_200(stdout: Stdout, x: Words) -> io::Result<()> {
 fn hundreds(stdout: Stdout) -> io::Result<()> {
     let mut x = empty(512, 1);
     x = made(x, Step::Enter(300, Order::Drawn));
-    ask_300(stdout, x)?;
+    ask_300(stdout, &x)?;
     x = made(x, Step::Leave(100, Order::Thirds));
-    ask_200(stdout, x)?;
+    ask_200(stdout, &x)?;
     x = made(x, Step::Set(Word::RootSize(201)));
-    ask(stdout, x, b"a size one off", 0, 1)?;
+    ask(stdout, &x, b"a size one off", 0, 1)?;
     x = made(x, Step::Set(Word::RootSize(200)));
-    ask(stdout, x, b"the size put right", 0, 1)
+    ask(stdout, &x, b"the size put right", 0, 1)
 }
 
 pub fn run(stdout: Stdout) -> io::Result<()> {

@@ -17,15 +17,14 @@ fn prepared(length: u64, root: u32, count: u32, first: u32) -> Words {
 }
 
 // The four calls that can write, the two checks, and the two calls by position.
-fn ask_eight(stdout: Stdout, start: Words) -> io::Result<Words> {
-    let mut x = start;
-    x = part(stdout, x, b": insert ", Call::Insert(1, 10))?;
-    x = part(stdout, x, b", replace ", Call::Replace(1, 11))?;
-    x = part(stdout, x, b", remove ", Call::Remove(2))?;
-    x = part(stdout, x, b", rollback ", Call::Rollback(1))?;
-    x = part(stdout, x, b", sound ", Call::Sound)?;
-    x = part(stdout, x, b", check ", Call::Check)?;
-    x = part(stdout, x, b", kth ", Call::Kth(0))?;
+fn ask_eight(stdout: Stdout, x: &mut Words) -> io::Result<()> {
+    part(stdout, x, b": insert ", Call::Insert(1, 10))?;
+    part(stdout, x, b", replace ", Call::Replace(1, 11))?;
+    part(stdout, x, b", remove ", Call::Remove(2))?;
+    part(stdout, x, b", rollback ", Call::Rollback(1))?;
+    part(stdout, x, b", sound ", Call::Sound)?;
+    part(stdout, x, b", check ", Call::Check)?;
+    part(stdout, x, b", kth ", Call::Kth(0))?;
     part(stdout, x, b", position ", Call::Position(1))
 }
 
@@ -53,13 +52,13 @@ fn ask(
     };
     let mut x = prepared(length, root, count, first);
     x.room = room;
+    let before = x;
     say(stdout, label)?;
-    if same(x, ask_eight(stdout, x)?) {
-        say(stdout, b", all as it was\n")?;
-    } else {
-        say(stdout, b", written\n")?;
+    ask_eight(stdout, &mut x)?;
+    if same(before, x) {
+        return say(stdout, b", all as it was\n");
     }
-    Ok(())
+    say(stdout, b", written\n")
 }
 
 // Each slice one word off, beside words that fit.

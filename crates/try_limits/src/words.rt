@@ -12,7 +12,7 @@ use trials::print::{line, name as say_name, say};
 use trials::same::same_index;
 
 // How many words of each slice are lent.
-#[derive(Drop)]
+#[derive(Clone, Copy)]
 pub struct Room {
     pub names: usize,
     pub cells: usize,
@@ -163,19 +163,18 @@ pub fn made(x: Words, step: Step) -> Words {
     done.words
 }
 
-// The words after a call, whose answer is printed behind a label.
-pub fn part(stdout: Stdout, x: Words, label: &[u8], call: Call) -> io::Result<Words> {
-    let done = after(x, Step::One(call));
-    say_answer(stdout, label, call, done.told)?;
-    Ok(done.words)
+// The words become those after a call, whose answer is printed behind a label.
+pub fn part(stdout: Stdout, x: &mut Words, label: &[u8], call: Call) -> io::Result<()> {
+    let done = after(*x, Step::One(call));
+    *x = done.words;
+    say_answer(stdout, label, call, done.told)
 }
 
 // The same, in a line of its own.
-pub fn ask(stdout: Stdout, x: Words, label: &[u8], call: Call) -> io::Result<Words> {
+pub fn ask(stdout: Stdout, x: &mut Words, label: &[u8], call: Call) -> io::Result<()> {
     say(stdout, label)?;
-    let words = part(stdout, x, b": ", call)?;
-    say(stdout, b"\n")?;
-    Ok(words)
+    part(stdout, x, b": ", call)?;
+    say(stdout, b"\n")
 }
 
 // An empty index of so many slots and lines.
@@ -216,17 +215,13 @@ pub fn same(x: Words, y: Words) -> bool {
 }
 
 // How many entries an index of n slots has, and which.
-pub fn say_held(stdout: Stdout, x: Words, n: u32) -> io::Result<()> {
-    let names = x.names;
-    let cells = x.cells;
-    let head = x.head;
-    say_entries(stdout, &names, &cells, &head, n)
+pub fn say_held(stdout: Stdout, x: &Words, n: u32) -> io::Result<()> {
+    say_entries(stdout, &x.names, &x.cells, &x.head, n)
 }
 
 // The journal's length.
-pub fn say_length(stdout: Stdout, x: Words) -> io::Result<()> {
-    let lines = x.lines;
-    say_name(stdout, b", lines ", name(&lines, 0, 0))
+pub fn say_length(stdout: Stdout, x: &Words) -> io::Result<()> {
+    say_name(stdout, b", lines ", name(&x.lines, 0, 0))
 }
 
 // The value of an answer, or 0.
@@ -239,27 +234,24 @@ fn value_of(told: Answer) -> u32 {
 }
 
 // Whether the tree is sound, and its count, since the answers alone do not say what is left.
-pub fn tree(stdout: Stdout, x: Words) -> io::Result<()> {
-    let head = x.head;
-    let count = get(&head, 0, 2);
-    let done = after(x, Step::One(Call::Sound));
+pub fn tree(stdout: Stdout, x: &Words) -> io::Result<()> {
+    let count = get(&x.head, 0, 2);
+    let done = after(*x, Step::One(Call::Sound));
     if value_of(done.told) == 1 {
-        line(stdout, b"the tree", b": sound, count ", count)?;
-    } else {
-        line(stdout, b"the tree", b": not sound, count ", count)?;
+        return line(stdout, b"the tree", b": sound, count ", count);
     }
-    Ok(())
+    line(stdout, b"the tree", b": not sound, count ", count)
 }
 
-// The words after many calls, and how many of these were accepted.
-pub fn many_calls(stdout: Stdout, x: Words, label: &[u8], step: Step) -> io::Result<Words> {
-    let done = after(x, step);
-    line(stdout, label, b": accepted ", value_of(done.told))?;
-    Ok(done.words)
+// The words become those after many calls; how many of these were accepted.
+pub fn many_calls(stdout: Stdout, x: &mut Words, label: &[u8], step: Step) -> io::Result<()> {
+    let done = after(*x, step);
+    *x = done.words;
+    line(stdout, label, b": accepted ", value_of(done.told))
 }
 
 // How many there are of what is counted.
-pub fn count(stdout: Stdout, x: Words, label: &[u8], count: Count) -> io::Result<()> {
-    let done = after(x, Step::Count(count));
+pub fn count(stdout: Stdout, x: &Words, label: &[u8], count: Count) -> io::Result<()> {
+    let done = after(*x, Step::Count(count));
     line(stdout, label, b": ", value_of(done.told))
 }

@@ -130,7 +130,7 @@ pub(crate) fn first(bytes: &[u8], count: usize) -> &[u8] {
     bytes
 }
 
-#[derive(Drop)]
+#[derive(Clone, Copy)]
 pub(crate) struct Trial {
     pub entry: u32, // this entry gets the pair of this slot
     pub slot: u32,
@@ -247,7 +247,7 @@ fn wrong_kind(k: u32) -> Trial {
     trial
 }
 
-#[derive(Drop)]
+#[derive(Clone, Copy)]
 pub(crate) enum Kind {
     Accepted,
     Twice,

@@ -9,7 +9,7 @@ use slots::{put_wide, put_word};
 use trials::same::same_index;
 
 // The words of an index; the first of each array are those of so many slots and lines.
-#[derive(Drop)]
+#[derive(Clone, Copy)]
 pub(crate) struct Words {
     pub names: [u64; 16],
     pub cells: [u32; 56],
@@ -21,7 +21,7 @@ pub(crate) struct Words {
 }
 
 // An index, what the last call of an upload into it answered, and the reader after it.
-#[derive(Drop)]
+#[derive(Clone, Copy)]
 pub(crate) struct Upload {
     pub words: Words,
     pub read: Read,
