@@ -1,5 +1,5 @@
 /* Three names go in, and the index is dumped to standard output by dump.h. From the repository's root, on x86-64:
- *   rt staticlib exports
+ *   ./library
  *   cc -Iinclude examples/dump.c target/staticlib/libexports.a -o target/dump-c && target/dump-c >target/dump.bin
  * The dump of 64 slots and 16 lines is 3,868 bytes long. */
 #include "dump.h"

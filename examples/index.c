@@ -1,5 +1,5 @@
 /* Names go in; one is found by its pair and by its position, and taken back. From the repository's root, on x86-64:
- *   rt staticlib exports
+ *   ./library
  *   cc -Iinclude examples/index.c target/staticlib/libexports.a -o target/index-c && target/index-c
  * It prints
  *   slot 0, mark 1, slot 1, found at 1 in 2 looks, name 2 of 2, back 1, found nowhere */

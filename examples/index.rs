@@ -1,5 +1,5 @@
 //! Names go in; one is found by its pair and by its position, and taken back. From the repository's root, on x86-64:
-//!   rt staticlib exports
+//!   ./library
 //!   cargo run --manifest-path rust/Cargo.toml --example index
 //! or, with rustc alone, after the first line:
 //!   rustc --edition 2021 -O --crate-type rlib --crate-name oz -L native=target/staticlib -l static=exports \

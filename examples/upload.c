@@ -1,6 +1,6 @@
 /* Reads an upload from standard input in chunks, into an empty index of 4,096 slots and 1,024 lines. From the repository's root, on
  * x86-64:
- *   rt staticlib exports
+ *   ./library
  *   cc -Iinclude examples/upload.c target/staticlib/libexports.a -o target/upload-c && target/upload-c <docs/uploads/sample.bin
  * It prints what ./intake prints: `entries 6`, then hash, key and place of each name, the last one first; of an upload that is
  * refused `no` and the number, here with its words, and the status is 1. Not one of its names stays then. */

@@ -1,4 +1,4 @@
-/* The name index for C99 and C++: link target/staticlib/libexports.a, made by `rt staticlib exports`, for x86-64.
+/* The name index for C99 and C++: link target/staticlib/libexports.a, made by `./library`, for x86-64.
  *
  * oz is our prefix, after Ozynterek. docs/RULES.md says what each routine promises, docs/HANDBOOK.md what to do with
  * each number; examples/ has programs in C and one in Rust, whose crate is rust/.

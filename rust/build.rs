@@ -16,8 +16,8 @@ fn main() {
     if !library.is_file() {
         let folder = folder.display();
         eprintln!(
-            "oz: there is no libexports.a in {folder}: `rt staticlib exports`, run in the repository's root, makes it in \
-            target/staticlib; OZ_LIB names another folder that has it."
+            "oz: there is no libexports.a in {folder}: `./library`, run in the repository's root, makes it in target/staticlib; OZ_LIB \
+            names another folder that has it."
         );
         process::exit(1);
     }

@@ -3,7 +3,7 @@
 //! promised, docs/HANDBOOK.md what to do with each refusal, include/oz.h has the same for C.
 //!
 //! To use it, give a program the dependency `oz = { path = ".." }`, with the path of this folder, and make the library that it links by
-//! `rt staticlib exports` in the repository's root. OZ_LIB names the folder of libexports.a where that is another than target/staticlib.
+//! `./library` in the repository's root. OZ_LIB names the folder of libexports.a where that is another than target/staticlib.
 //!
 //! * [`Index`]: a live index, at most 4,096 slots, with a journal that takes calls back.
 //! * [`Reader`]: an upload in chunks into an index, entered whole or not at all.

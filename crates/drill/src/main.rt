@@ -21,32 +21,35 @@ use cuts::{Tally, cut_all};
 use marks::try_short;
 use numbers::{bytes_from, lend_bytes, read, starts, wide_from};
 use sources::{ANSWERS, Source, WORDS};
+use std::io;
+use std::io::Stdout;
+use std::rt::Files;
 use trials::load::load;
 use trials::print::{number, say};
 
 // What came of the cuts of a source.
-fn print_cuts(t: Tally) {
-    number(b"cuts ", t.cuts);
-    number(b" rollbacks ", t.rollbacks);
-    number(b" refused ", t.refused);
-    number(b" runs ", t.runs);
-    number(b" differences ", t.differences);
+fn print_cuts(stdout: Stdout, t: Tally) -> io::Result<()> {
+    number(stdout, b"cuts ", t.cuts)?;
+    number(stdout, b" rollbacks ", t.rollbacks)?;
+    number(stdout, b" refused ", t.refused)?;
+    number(stdout, b" runs ", t.runs)?;
+    number(stdout, b" differences ", t.differences)
 }
 
 // Reads a file into the first bytes, or into those from one on, and answers how many it has.
-fn load_first(path: &[u8], bytes: &mut [u8], n: usize) -> usize {
-    load(path, lend_bytes(bytes, n))
+fn load_first<R: Files>(rt: &R, path: &[u8], bytes: &mut [u8], n: usize) -> usize {
+    load(rt, path, lend_bytes(bytes, n))
 }
 
-fn load_from(path: &[u8], bytes: &mut [u8], n: usize) -> usize {
-    load(path, bytes_from(bytes, n))
+fn load_from<R: Files>(rt: &R, path: &[u8], bytes: &mut [u8], n: usize) -> usize {
+    load(rt, path, bytes_from(bytes, n))
 }
 
 // The longest script's line. It runs on 512 slots and 1,024 lines, so that a line is left when the tree is full.
-fn drill_longest(bytes: &mut [u8]) {
+fn drill_longest<R: Files>(rt: &R, stdout: Stdout, bytes: &mut [u8]) -> io::Result<()> {
     let mut numbers = [0u64; 5120];
-    let length = load_first(b"longest.txt", bytes, ANSWERS);
-    let answered = load_from(b"answers.txt", bytes, ANSWERS);
+    let length = load_first(rt, b"longest.txt", bytes, ANSWERS);
+    let answered = load_from(rt, b"answers.txt", bytes, ANSWERS);
     let n = starts(bytes, length, &mut numbers);
     let t = cut_all(
         512,
@@ -56,57 +59,71 @@ fn drill_longest(bytes: &mut [u8]) {
         bytes,
         &numbers,
     );
-    say(b"longest: ");
-    print_cuts(t);
-    say(b"\n");
+    say(stdout, b"longest: ")?;
+    print_cuts(stdout, t)?;
+    say(stdout, b"\n")
 }
 
 // The short script's line.
-fn print_marks(t: marks::Tally) {
-    number(b"marks: cuts ", t.cuts);
-    number(b" rollbacks ", t.rollbacks);
-    number(b" differences ", t.differences);
-    number(b" planted ", t.planted);
-    number(b" noticed ", t.noticed);
-    number(b" exchanged ", t.exchanged);
-    number(b" noticed ", t.seen);
-    say(b"\n");
+fn print_marks(stdout: Stdout, t: marks::Tally) -> io::Result<()> {
+    number(stdout, b"marks: cuts ", t.cuts)?;
+    number(stdout, b" rollbacks ", t.rollbacks)?;
+    number(stdout, b" differences ", t.differences)?;
+    number(stdout, b" planted ", t.planted)?;
+    number(stdout, b" noticed ", t.noticed)?;
+    number(stdout, b" exchanged ", t.exchanged)?;
+    number(stdout, b" noticed ", t.seen)?;
+    say(stdout, b"\n")
 }
 
-fn drill_short(script: &mut [u8], rows: &mut [u32]) {
-    let n = load(b"marks.txt", script);
-    print_marks(try_short(&script[..n], rows));
+fn drill_short<R: Files>(
+    rt: &R,
+    stdout: Stdout,
+    script: &mut [u8],
+    rows: &mut [u32],
+) -> io::Result<()> {
+    let n = load(rt, b"marks.txt", script);
+    print_marks(stdout, try_short(&script[..n], rows))
 }
 
 // Reads the numbers of a file, and answers how many it has.
-fn load_numbers(path: &[u8], text: &mut [u8], words: &mut [u64]) -> u32 {
-    let n = load(path, text);
+fn load_numbers<R: Files>(rt: &R, path: &[u8], text: &mut [u8], words: &mut [u64]) -> u32 {
+    let n = load(rt, path, text);
     read(&text[..n], words)
 }
 
 // The line of the list of calls.
-fn print_calls(t: Tally) {
-    say(b"calls: ");
-    print_cuts(t);
-    number(b" planted ", t.planted);
-    number(b" noticed ", t.noticed);
-    number(b" exchanged ", t.exchanged);
-    number(b" noticed ", t.seen);
-    say(b"\n");
+fn print_calls(stdout: Stdout, t: Tally) -> io::Result<()> {
+    say(stdout, b"calls: ")?;
+    print_cuts(stdout, t)?;
+    number(stdout, b" planted ", t.planted)?;
+    number(stdout, b" noticed ", t.noticed)?;
+    number(stdout, b" exchanged ", t.exchanged)?;
+    number(stdout, b" noticed ", t.seen)?;
+    say(stdout, b"\n")
 }
 
 // The list of calls, on 64 slots and 128 lines, with the word that each has to answer.
-fn drill_calls(bytes: &mut [u8]) {
+fn drill_calls<R: Files>(rt: &R, stdout: Stdout, bytes: &mut [u8]) -> io::Result<()> {
     let mut numbers = [0u64; 5120];
-    let words = load_numbers(b"calls.txt", bytes, &mut numbers);
-    load_numbers(b"words.txt", bytes, wide_from(&mut numbers, WORDS as usize));
-    print_calls(cut_all(64, 128, Source::List, words / 4, b"", &numbers));
+    let words = load_numbers(rt, b"calls.txt", bytes, &mut numbers);
+    load_numbers(
+        rt,
+        b"words.txt",
+        bytes,
+        wide_from(&mut numbers, WORDS as usize),
+    );
+    print_calls(
+        stdout,
+        cut_all(64, 128, Source::List, words / 4, b"", &numbers),
+    )
 }
 
-fn main() {
+fn main(rt: HostRuntime) -> io::Result<()> {
+    let stdout = rt.stdout();
     let mut bytes = [0u8; 589824];
     let mut rows = [0u32; 49248];
-    drill_longest(&mut bytes);
-    drill_short(&mut bytes, &mut rows);
-    drill_calls(&mut bytes);
+    drill_longest(&rt, stdout, &mut bytes)?;
+    drill_short(&rt, stdout, &mut bytes, &mut rows)?;
+    drill_calls(&rt, stdout, &mut bytes)
 }

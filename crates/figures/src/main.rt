@@ -2,8 +2,9 @@
 // of them. On a terminal it tells on standard error how many sets are counted, every 10,000 sets.
 #![tactic(auto)]
 
-use libc::{STDERR_FILENO, STDIN_FILENO, STDOUT_FILENO};
 use slots::answer::Value;
+use std::io;
+use std::io::{IsTerminal, Read, Stderr, Stdin, Stdout};
 use tally::figure::Figured;
 use tally::stream::Stream;
 use tally::tell::tell;
@@ -36,29 +37,30 @@ fn sets_of(figured: Figured) -> u32 {
 }
 
 // A line of progress for each ten thousand that is reached, and how many were told.
-fn progress(told: u32, sets: u32) -> u32 {
+fn progress(stderr: Stderr, told: u32, sets: u32) -> io::Result<u32> {
     let reached = sets / APART;
     let mut k = told;
     while k < reached {
         k += 1;
-        io::write_all(STDERR_FILENO, b"sets ");
-        io::print_decimal(STDERR_FILENO, k as u64 * APART as u64);
-        io::write_all(STDERR_FILENO, b"\n");
+        stderr.write_all(b"sets ")?;
+        stderr.println(k as u64 * APART as u64)?;
     }
-    k
+    Ok(k)
 }
 
 // Progress is told on a terminal alone.
-fn progress_if(terminal: bool, told: u32, sets: u32) -> u32 {
+fn progress_if(stderr: Stderr, terminal: bool, told: u32, sets: u32) -> io::Result<u32> {
     if terminal {
-        return progress(told, sets);
+        return progress(stderr, told, sets);
     }
-    told
+    Ok(told)
 }
 
-// Takes all of the input. A proved loop has to end, and nothing says that the input does: the turns are counted down from a number that no
-// run uses up.
+// Takes all of the input. A proved loop has to end, and nothing says that the input does: the turns are counted up to a number that no run
+// comes to.
 fn serve(
+    mut stdin: Stdin,
+    stderr: Stderr,
     stream: Stream,
     chunk: &mut [u8],
     lengths: &mut [u32; LENGTHS],
@@ -68,34 +70,36 @@ fn serve(
     cells: &mut [u32; CELLS],
     totals: &mut [u64; TOTALS],
     terminal: bool,
-) -> Stream {
+) -> io::Result<Stream> {
     let mut kept = stream;
     let mut told: u32 = 0;
-    let mut turns = u64::MAX;
-    while 0 < turns {
-        let got = libc::read(STDIN_FILENO, chunk);
-        let n = io::count(got, chunk);
+    for _ in 0..u64::MAX {
+        let n = stdin.read(chunk)?;
         if n == 0 {
-            return kept;
+            return Ok(kept);
         }
         let figured = kept.chunk(lengths, bins, heads, names, cells, totals, &chunk[..n]);
-        told = progress_if(terminal, told, sets_of(figured));
+        told = progress_if(stderr, terminal, told, sets_of(figured))?;
         let next = figured.stream;
         kept = next;
-        turns -= 1;
     }
-    kept
+    Ok(kept)
 }
 
 // The input has ended: the rows are printed.
-fn finish(stream: Stream, totals: &mut [u64; TOTALS], out: &mut [u8]) {
+fn finish(
+    stdout: Stdout,
+    stream: Stream,
+    totals: &mut [u64; TOTALS],
+    out: &mut [u8],
+) -> io::Result<()> {
     let figured = stream.end(totals);
     let last = figured.stream;
     let written = tell(totals, last.over, out);
-    io::write_all(STDOUT_FILENO, &out[..written]);
+    stdout.write_all(&out[..written])
 }
 
-fn main() {
+fn main(rt: HostRuntime) -> io::Result<()> {
     let mut lengths = [0u32; LENGTHS];
     let mut bins = [0u32; BINS];
     let mut heads = [0u32; HEADS];
@@ -104,8 +108,11 @@ fn main() {
     let mut totals = [0u64; TOTALS];
     let mut chunk = [0u8; 65536];
     let mut out = [0u8; 2048];
-    let terminal = libc::isatty(STDERR_FILENO) == 1;
+    let stderr = rt.stderr();
+    let terminal = stderr.is_terminal();
     let stream = serve(
+        rt.stdin(),
+        stderr,
         Stream::start(),
         &mut chunk,
         &mut lengths,
@@ -115,6 +122,6 @@ fn main() {
         &mut cells,
         &mut totals,
         terminal,
-    );
-    finish(stream, &mut totals, &mut out);
+    )?;
+    finish(rt.stdout(), stream, &mut totals, &mut out)
 }

@@ -3,9 +3,10 @@
 #![tactic(auto)]
 
 use file::loader::Loader;
-use libc::{STDIN_FILENO, STDOUT_FILENO};
 use listing::tell::tell;
 use slots::{MOST_CELLS, MOST_NAMES};
+use std::io;
+use std::io::{Read, Stdin, Stdout};
 
 // The most tables, bins and words of headers that a set has.
 const MOST_TABLES: usize = 8;
@@ -14,9 +15,10 @@ const MOST_BINS: usize = 8160;
 
 const MOST_HEADS: usize = 3 * 4096;
 
-// Loads all of the input, refused or not. A proved loop has to end, and nothing says that the input does: the turns are counted down from a
-// number that no run uses up.
+// Loads all of the input, refused or not. A proved loop has to end, and nothing says that the input does: the turns are counted up to a
+// number that no run comes to.
 fn serve(
+    mut stdin: Stdin,
     loader: Loader,
     chunk: &mut [u8],
     lengths: &mut [u32; MOST_TABLES],
@@ -24,25 +26,23 @@ fn serve(
     heads: &mut [u32; MOST_HEADS],
     names: &mut [u64; MOST_NAMES],
     cells: &mut [u32; MOST_CELLS],
-) -> Loader {
+) -> io::Result<Loader> {
     let mut kept = loader;
-    let mut turns = u64::MAX;
-    while 0 < turns {
-        let got = libc::read(STDIN_FILENO, chunk);
-        let n = io::count(got, chunk);
+    for _ in 0..u64::MAX {
+        let n = stdin.read(chunk)?;
         if n == 0 {
-            return kept;
+            return Ok(kept);
         }
         let read = kept.chunk(lengths, bins, heads, names, cells, &chunk[..n]);
         let next = read.loader;
         kept = next;
-        turns -= 1;
     }
-    kept
+    Ok(kept)
 }
 
 // The file has ended: what the end call answers is printed.
 fn finish(
+    stdout: Stdout,
     loader: Loader,
     lengths: &mut [u32; MOST_TABLES],
     bins: &mut [u32; MOST_BINS],
@@ -50,13 +50,13 @@ fn finish(
     names: &mut [u64; MOST_NAMES],
     cells: &mut [u32; MOST_CELLS],
     out: &mut [u8],
-) {
+) -> io::Result<()> {
     let load = loader.end(lengths, bins, heads, names, cells);
     let written = tell(load, lengths, bins, heads, names, cells, out);
-    io::write_all(STDOUT_FILENO, &out[..written]);
+    stdout.write_all(&out[..written])
 }
 
-fn main() {
+fn main(rt: HostRuntime) -> io::Result<()> {
     let mut lengths = [0u32; MOST_TABLES];
     let mut bins = [0u32; MOST_BINS];
     let mut heads = [0u32; MOST_HEADS];
@@ -66,6 +66,7 @@ fn main() {
     let mut out = [0u8; 524288];
     let started = Loader::start();
     let loader = serve(
+        rt.stdin(),
         started.loader,
         &mut chunk,
         &mut lengths,
@@ -73,8 +74,9 @@ fn main() {
         &mut heads,
         &mut names,
         &mut cells,
-    );
+    )?;
     finish(
+        rt.stdout(),
         loader,
         &mut lengths,
         &mut bins,
@@ -82,5 +84,5 @@ fn main() {
         &mut names,
         &mut cells,
         &mut out,
-    );
+    )
 }

@@ -5,16 +5,18 @@
 use console::feed::LONGEST;
 use console::receipt::receipt;
 use index::fresh::fresh;
-use libc::{STDIN_FILENO, STDOUT_FILENO};
 use reader::words::Reader;
 use slots::{MOST_CELLS, MOST_NAMES, MOST_SLOTS};
+use std::io;
+use std::io::{Read, Stdin, Stdout};
 
 // The words of the journal: its length, and six to each of 1,024 lines.
 const JOURNAL_WORDS: usize = 1 + 6 * 1024;
 
 // Feeds the input up to its end or to the first refusal, which the end call gives again. A proved loop has to end, and nothing says that
-// the input does: the turns are counted down from a number that no run uses up.
+// the input does: the turns are counted up to a number that no run comes to.
 fn serve(
+    mut stdin: Stdin,
     reader: Reader,
     chunk: &mut [u8],
     names: &mut [u64; MOST_NAMES],
@@ -22,14 +24,12 @@ fn serve(
     head: &mut [u32; 3],
     sizes: &mut [u32; MOST_SLOTS],
     lines: &mut [u64; JOURNAL_WORDS],
-) -> Reader {
+) -> io::Result<Reader> {
     let mut kept = reader;
-    let mut turns = u64::MAX;
-    while 0 < turns {
-        let got = libc::read(STDIN_FILENO, chunk);
-        let n = io::count(got, chunk);
+    for _ in 0..u64::MAX {
+        let n = stdin.read(chunk)?;
         if n == 0 {
-            return kept;
+            return Ok(kept);
         }
         let read = kept.chunk(names, cells, head, sizes, lines, &chunk[..n]);
         let next = read.reader;
@@ -37,15 +37,15 @@ fn serve(
         let reply = read.reply;
         let told = reply.answer();
         if told.number != 0 {
-            return kept;
+            return Ok(kept);
         }
-        turns -= 1;
     }
-    kept
+    Ok(kept)
 }
 
 // The upload has ended: what the end call answers is printed.
 fn finish(
+    stdout: Stdout,
     reader: Reader,
     names: &mut [u64; MOST_NAMES],
     cells: &mut [u32; MOST_CELLS],
@@ -53,15 +53,15 @@ fn finish(
     sizes: &mut [u32; MOST_SLOTS],
     lines: &mut [u64; JOURNAL_WORDS],
     out: &mut [u8],
-) {
+) -> io::Result<()> {
     let ended = reader.end(names, cells, head, sizes, lines);
     let reply = ended.reply;
     let answer = reply.answer();
     let written = receipt(answer.number, names, cells, head, sizes, out);
-    io::write_all(STDOUT_FILENO, &out[..written]);
+    stdout.write_all(&out[..written])
 }
 
-fn main() {
+fn main(rt: HostRuntime) -> io::Result<()> {
     let mut names = [0u64; MOST_NAMES];
     let mut cells = [0u32; MOST_CELLS];
     let mut head = [0u32; 3];
@@ -72,6 +72,7 @@ fn main() {
     fresh(&mut names, &mut cells, &mut head, &mut sizes, &mut lines);
     let started = Reader::start(&names, &cells, &head, &sizes, &lines);
     let reader = serve(
+        rt.stdin(),
         started.reader,
         &mut chunk,
         &mut names,
@@ -79,8 +80,15 @@ fn main() {
         &mut head,
         &mut sizes,
         &mut lines,
-    );
+    )?;
     finish(
-        reader, &mut names, &mut cells, &mut head, &mut sizes, &mut lines, &mut out,
-    );
+        rt.stdout(),
+        reader,
+        &mut names,
+        &mut cells,
+        &mut head,
+        &mut sizes,
+        &mut lines,
+        &mut out,
+    )
 }

@@ -2,27 +2,46 @@
 // standard output; what was lost goes to standard error.
 #![tactic(auto)]
 
+ghost use Rattle.std.specs.Prelude.{◌≤◌, length, IfOk};
+
 use dump::rescue::rescue;
-use libc::{STDERR_FILENO, STDIN_FILENO, STDOUT_FILENO};
+use std::io;
+use std::io::{Read, Stdin};
 
 // One byte more than the longest dump has, so that a longer one is seen to be longer.
 const ROOM: usize = 28 + 48 * 4096 + 48 * 1024 + 1;
 
-// Writes the first so many bytes of a buffer.
-fn put(fd: i32, bytes: &[u8], most: usize) {
-    if most <= bytes.len() {
-        io::write_all(fd, &bytes[..most]);
+// Reads until the room is full or the input ends, and answers how many bytes it put at the start of the room.
+fn fill(mut stdin: Stdin, room: &mut [u8]) -> io::Result<usize>
+    ensures { IfOk result (λ n. n ≤ length room.new) }
+{
+    let mut done = 0;
+    while done < room.len() {
+        let n = stdin.read(&mut room[done..])?;
+        if n == 0 {
+            return Ok(done);
+        }
+        done += n;
     }
+    Ok(done)
 }
 
-fn main() {
+// Writes the first so many bytes of a buffer.
+fn put(to: &impl Print, bytes: &[u8], most: usize) -> io::Result<()> {
+    if most <= bytes.len() {
+        return to.write_all(&bytes[..most]);
+    }
+    Ok(())
+}
+
+fn main(rt: HostRuntime) -> io::Result<()> {
     let mut bytes = [0u8; ROOM];
     let mut out = [0u8; ROOM];
     let mut text = [0u8; 524288];
-    let got = io::read_full(STDIN_FILENO, &mut bytes);
+    let got = fill(rt.stdin(), &mut bytes)?;
     let saved = rescue(&bytes[..got], &mut out, &mut text);
     let dumped = saved.dumped;
     let said = saved.said;
-    put(STDOUT_FILENO, &out, dumped);
-    put(STDERR_FILENO, &text, said);
+    put(&rt.stdout(), &out, dumped)?;
+    put(&rt.stderr(), &text, said)
 }

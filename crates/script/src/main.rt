@@ -4,13 +4,15 @@
 
 use console::feed::{Line, blank, feed, finish};
 use index::fresh::fresh;
-use libc::{STDIN_FILENO, STDOUT_FILENO};
+use std::io;
+use std::io::{Read, Stdin, Stdout};
 
 // The words of the journal: its length, and six to each of 512 lines.
 const JOURNAL_WORDS: usize = 1 + 6 * 512;
 
 // Answers all of a chunk, a buffer at a time.
 fn answer(
+    stdout: Stdout,
     line: Line,
     chunk: &[u8],
     names: &mut [u64],
@@ -19,27 +21,29 @@ fn answer(
     sizes: &mut [u32],
     lines: &mut [u64],
     out: &mut [u8],
-) -> Line {
+) -> io::Result<Line> {
     let mut kept = line;
     let mut at = 0;
     while at < chunk.len() {
         let fed = feed(kept, &chunk[at..], names, cells, head, sizes, lines, out);
         let taken = fed.taken;
         let written = fed.written;
-        io::write_all(STDOUT_FILENO, &out[..written]);
+        stdout.write_all(&out[..written])?;
         let next = fed.line;
         kept = next;
         if taken == 0 {
-            return kept;
+            return Ok(kept);
         }
         at += taken;
     }
-    kept
+    Ok(kept)
 }
 
-// Reads until the input ends. A proved loop has to end, and nothing says that the input does: the turns are counted down from a
-// number that no run uses up.
+// Reads until the input ends. A proved loop has to end, and nothing says that the input does: the turns are counted up to a number that
+// no run comes to.
 fn serve(
+    mut stdin: Stdin,
+    stdout: Stdout,
     chunk: &mut [u8],
     names: &mut [u64],
     cells: &mut [u32],
@@ -47,23 +51,31 @@ fn serve(
     sizes: &mut [u32],
     lines: &mut [u64],
     out: &mut [u8],
-) -> Line {
+) -> io::Result<Line> {
     let mut kept = blank();
-    let mut turns = u64::MAX;
-    while 0 < turns {
-        let got = libc::read(STDIN_FILENO, chunk);
-        let n = io::count(got, chunk);
+    for _ in 0..u64::MAX {
+        let n = stdin.read(chunk)?;
         if n == 0 {
-            return kept;
+            return Ok(kept);
         }
-        kept = answer(kept, &chunk[..n], names, cells, head, sizes, lines, out);
-        turns -= 1;
+        kept = answer(
+            stdout,
+            kept,
+            &chunk[..n],
+            names,
+            cells,
+            head,
+            sizes,
+            lines,
+            out,
+        )?;
     }
-    kept
+    Ok(kept)
 }
 
 // The input has ended: the last line is answered, if it has no newline.
 fn close(
+    stdout: Stdout,
     line: Line,
     names: &mut [u64],
     cells: &mut [u32],
@@ -71,13 +83,13 @@ fn close(
     sizes: &mut [u32],
     lines: &mut [u64],
     out: &mut [u8],
-) {
+) -> io::Result<()> {
     let fed = finish(line, names, cells, head, sizes, lines, out);
     let written = fed.written;
-    io::write_all(STDOUT_FILENO, &out[..written]);
+    stdout.write_all(&out[..written])
 }
 
-fn main() {
+fn main(rt: HostRuntime) -> io::Result<()> {
     let mut names = [0u64; 1024];
     let mut cells = [0u32; 3584];
     let mut head = [0u32; 3];
@@ -87,9 +99,24 @@ fn main() {
     let mut chunk = [0u8; 65536];
     fresh(&mut names, &mut cells, &mut head, &mut sizes, &mut lines);
     let line = serve(
-        &mut chunk, &mut names, &mut cells, &mut head, &mut sizes, &mut lines, &mut out,
-    );
+        rt.stdin(),
+        rt.stdout(),
+        &mut chunk,
+        &mut names,
+        &mut cells,
+        &mut head,
+        &mut sizes,
+        &mut lines,
+        &mut out,
+    )?;
     close(
-        line, &mut names, &mut cells, &mut head, &mut sizes, &mut lines, &mut out,
-    );
+        rt.stdout(),
+        line,
+        &mut names,
+        &mut cells,
+        &mut head,
+        &mut sizes,
+        &mut lines,
+        &mut out,
+    )
 }

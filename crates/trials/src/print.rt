@@ -1,89 +1,85 @@
-// What the programs print. Standard output lies outside of every contract, and nothing is answered, so each routine promises no more than
-// that it ends.
-use libc::STDOUT_FILENO;
+// What the programs print. Standard output lies outside of every contract, and nothing is answered but that a write failed, so each
+// routine promises no more than that it ends.
 use slots::answer::{Answer, Value};
+use std::io;
+use std::io::Stdout;
 
 // Words.
-pub fn say(words: &[u8]) {
-    io::write_all(STDOUT_FILENO, words);
+pub fn say(stdout: Stdout, words: &[u8]) -> io::Result<()> {
+    stdout.write_all(words)
 }
 
 // Words, and a hash or a key behind them.
-pub fn name(words: &[u8], value: u64) {
-    say(words);
-    io::print_decimal(STDOUT_FILENO, value);
+pub fn name(stdout: Stdout, words: &[u8], value: u64) -> io::Result<()> {
+    say(stdout, words)?;
+    stdout.print(value)
 }
 
 // Words, and a number behind them.
-pub fn number(words: &[u8], value: u32) {
-    name(words, value as u64);
+pub fn number(stdout: Stdout, words: &[u8], value: u32) -> io::Result<()> {
+    name(stdout, words, value as u64)
 }
 
 // One line to an answer, so that a line that differs names its call: a label, what was answered, and its number.
-pub fn line(label: &[u8], words: &[u8], value: u32) {
-    say(label);
-    number(words, value);
-    say(b"\n");
+pub fn line(stdout: Stdout, label: &[u8], words: &[u8], value: u32) -> io::Result<()> {
+    say(stdout, label)?;
+    number(stdout, words, value)?;
+    say(stdout, b"\n")
 }
 
 // One line to a figure.
-pub fn figure(label: &[u8], value: u32) {
-    line(label, b" ", value);
+pub fn figure(stdout: Stdout, label: &[u8], value: u32) -> io::Result<()> {
+    line(stdout, label, b" ", value)
 }
 
 // A value behind its word, or the word for none.
-fn value_or(word: &[u8], none: &[u8], value: Value) {
+fn value_or(stdout: Stdout, word: &[u8], none: &[u8], value: Value) -> io::Result<()> {
     match value {
-        Value::Some(given) => {
-            number(word, given);
-        }
-        Value::None => {
-            say(none);
-        }
+        Value::Some(given) => number(stdout, word, given),
+        Value::None => say(stdout, none),
     }
 }
 
 // A refusal is printed by its number, so that it can be held against the rules, and the slot that comes with it, if any.
-fn refusal(answer: Answer) {
+fn refusal(stdout: Stdout, answer: Answer) -> io::Result<()> {
     let slot = answer.value;
-    number(b"no ", answer.number);
-    value_or(b" at ", b"", slot);
+    number(stdout, b"no ", answer.number)?;
+    value_or(stdout, b" at ", b"", slot)
 }
 
 // An answer behind its label: a refusal, the value behind its word, or the word for none.
-pub fn answer_or(label: &[u8], word: &[u8], none: &[u8], answer: Answer) {
-    let value = answer.value;
-    say(label);
+pub fn answer_or(
+    stdout: Stdout,
+    label: &[u8],
+    word: &[u8],
+    none: &[u8],
+    answer: Answer,
+) -> io::Result<()> {
+    say(stdout, label)?;
     if answer.number == 0 {
-        value_or(word, none, value);
-    } else {
-        refusal(answer);
+        return value_or(stdout, word, none, answer.value);
     }
+    refusal(stdout, answer)
 }
 
 // An answer behind its label: a refusal, or the word, and the value that comes with it, if any.
-pub fn answer(label: &[u8], word: &[u8], answer: Answer) {
-    answer_or(label, word, word, answer);
+pub fn answer(stdout: Stdout, label: &[u8], word: &[u8], answer: Answer) -> io::Result<()> {
+    answer_or(stdout, label, word, word, answer)
 }
 
-fn yes_or_no(value: u32) {
+fn yes_or_no(stdout: Stdout, value: u32) -> io::Result<()> {
     if value == 1 {
-        say(b"yes");
+        say(stdout, b"yes")
     } else {
-        say(b"no");
+        say(stdout, b"no")
     }
 }
 
 // A verdict behind its label: yes, no, or the number of a refusal behind its word.
-pub fn verdict(label: &[u8], refused: &[u8], answer: Answer) {
-    let value = answer.value;
-    say(label);
-    match value {
-        Value::Some(yes) => {
-            yes_or_no(yes);
-        }
-        Value::None => {
-            number(refused, answer.number);
-        }
+pub fn verdict(stdout: Stdout, label: &[u8], refused: &[u8], answer: Answer) -> io::Result<()> {
+    say(stdout, label)?;
+    match answer.value {
+        Value::Some(yes) => yes_or_no(stdout, yes),
+        Value::None => number(stdout, refused, answer.number),
     }
 }

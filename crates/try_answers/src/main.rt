@@ -8,6 +8,8 @@ mod words;
 use calls::line;
 use index::fresh::fresh;
 use list::number;
+use std::io;
+use std::io::Stdout;
 use trials::load::load;
 use trials::print::figure;
 use words::one_if;
@@ -121,7 +123,7 @@ fn tree(text: &[u8], from: usize) -> Seen {
 }
 
 // Every tree of the list. It has fewer trees than turns.
-fn trees(text: &[u8]) {
+fn trees(stdout: Stdout, text: &[u8]) -> io::Result<()> {
     let mut at: usize = 0;
     let mut count: u32 = 0;
     let mut lines: u32 = 0;
@@ -137,17 +139,17 @@ fn trees(text: &[u8]) {
             wrong = std::num::wrapping_add_u32(wrong, seen.wrong);
         }
     }
-    figure(b"trees", count);
-    figure(b"lines", lines);
-    figure(b"differences", wrong);
+    figure(stdout, b"trees", count)?;
+    figure(stdout, b"lines", lines)?;
+    figure(stdout, b"differences", wrong)
 }
 
-fn main() {
+fn main(rt: HostRuntime) -> io::Result<()> {
+    let stdout = rt.stdout();
     let mut text = [0u8; 131072];
-    let n = load(b"sample.txt", &mut text);
+    let n = load(&rt, b"sample.txt", &mut text);
     if 131072 <= n {
-        figure(b"no list", 1);
-        return;
+        return figure(stdout, b"no list", 1);
     }
-    trees(&text[..n]);
+    trees(stdout, &text[..n])
 }

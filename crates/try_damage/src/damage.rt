@@ -10,6 +10,8 @@ use index::insert::{Inserted, insert};
 use index::sound::sound;
 use slots::answer::Value;
 use slots::{NULL, get, name, put, put_name};
+use std::io;
+use std::io::Stdout;
 use trials::print::figure;
 
 // How many damages each word suffers.
@@ -222,12 +224,12 @@ fn try_words(
     after
 }
 
-fn report(t: Tally) {
-    figure(b"tried", t.tried);
-    figure(b"yes", t.yes);
-    figure(b"no", t.no);
-    figure(b"differences", t.differences);
-    figure(b"check passes", t.passes);
+fn report(stdout: Stdout, t: Tally) -> io::Result<()> {
+    figure(stdout, b"tried", t.tried)?;
+    figure(stdout, b"yes", t.yes)?;
+    figure(stdout, b"no", t.no)?;
+    figure(stdout, b"differences", t.differences)?;
+    figure(stdout, b"check passes", t.passes)
 }
 
 // The tally of the damaged trees; that of the tree itself if it is not found sound.
@@ -323,12 +325,12 @@ fn ask_sizes(
     after
 }
 
-fn report_sizes(t: Sized) {
-    figure(b"sizes changed", t.changed);
-    figure(b"insert answers 2", t.refused);
+fn report_sizes(stdout: Stdout, t: Sized) -> io::Result<()> {
+    figure(stdout, b"sizes changed", t.changed)?;
+    figure(stdout, b"insert answers 2", t.refused)
 }
 
-pub fn run() {
+pub fn run(stdout: Stdout) -> io::Result<()> {
     let mut names = [0u64; 128];
     let mut cells = [0u32; 448];
     let mut head = [0u32; 3];
@@ -338,6 +340,12 @@ pub fn run() {
     grow(&mut names, &mut cells, &mut sizes);
     let ends = chain(&mut cells);
     head = [slot_of(MIDDLE), ends.first, 47];
-    report(damage(&mut names, &mut cells, &mut head, &mut sizes));
-    report_sizes(ask_sizes(&mut names, &mut cells, &mut head, &mut sizes, &mut lines));
+    report(
+        stdout,
+        damage(&mut names, &mut cells, &mut head, &mut sizes),
+    )?;
+    report_sizes(
+        stdout,
+        ask_sizes(&mut names, &mut cells, &mut head, &mut sizes, &mut lines),
+    )
 }

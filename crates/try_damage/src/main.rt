@@ -7,8 +7,11 @@ mod judge;
 mod traps;
 mod twos;
 
-fn main() {
-    damage::run();
-    twos::run();
-    traps::run();
+use std::io;
+
+fn main(rt: HostRuntime) -> io::Result<()> {
+    let stdout = rt.stdout();
+    damage::run(stdout)?;
+    twos::run(stdout)?;
+    traps::run(stdout)
 }

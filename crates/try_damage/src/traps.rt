@@ -2,18 +2,20 @@
 use index::check::check;
 use index::sound::sound;
 use slots::{BLACK, HASH, LEFT, NEXT, NULL, PARENT, PLACE, PREV, RED, RIGHT, STATE, put, put_name};
+use std::io;
+use std::io::Stdout;
 use trials::print::{answer, say, verdict};
 
 // Asks both checks of a tree whose root is slot 0, at the front of the chain, and whose four slots are used and have 4, 2, 1 and 1
 // pairs in their subtrees.
-fn ask(label: &[u8], names: &[u64], cells: &[u32]) {
+fn ask(stdout: Stdout, label: &[u8], names: &[u64], cells: &[u32]) -> io::Result<()> {
     let head = [0u32, 0, 4];
-    say(label);
+    say(stdout, label)?;
     let checked = check(names, cells, &head);
-    answer(b": check ", b"passes", checked.answer());
+    answer(stdout, b": check ", b"passes", checked.answer())?;
     let soundness = sound(names, cells, &head, &[4u32, 2, 1, 1]);
-    verdict(b", sound ", b"no ", soundness.answer());
-    say(b"\n");
+    verdict(stdout, b", sound ", b"no ", soundness.answer())?;
+    say(stdout, b"\n")
 }
 
 // The root, its left child, its right child, and the left child's right child, by their pairs.
@@ -61,43 +63,43 @@ fn words() -> [u32; 28] {
     cells
 }
 
-fn sound_tree() {
-    ask(b"sound tree", &pairs(), &words());
+fn sound_tree(stdout: Stdout) -> io::Result<()> {
+    ask(stdout, b"sound tree", &pairs(), &words())
 }
 
 // The two children are red too. The grandchild is the only child of a red slot, and the check looks for two red children.
-fn red_under_red() {
+fn red_under_red(stdout: Stdout) -> io::Result<()> {
     let mut cells = words();
     put(&mut cells, 1, STATE, RED);
     put(&mut cells, 2, STATE, RED);
-    ask(b"one red child under red", &pairs(), &cells);
+    ask(stdout, b"one red child under red", &pairs(), &cells)
 }
 
 // The check does not ask the colour of the root.
-fn red_root() {
+fn red_root(stdout: Stdout) -> io::Result<()> {
     let mut cells = words();
     put(&mut cells, 0, STATE, RED);
-    ask(b"red root", &pairs(), &cells);
+    ask(stdout, b"red root", &pairs(), &cells)
 }
 
 // The grandchild is black, so that the way to it has a black slot more. The check counts none.
-fn unequal_blacks() {
+fn unequal_blacks(stdout: Stdout) -> io::Result<()> {
     let mut cells = words();
     put(&mut cells, 3, STATE, BLACK);
-    ask(b"unequal black counts", &pairs(), &cells);
+    ask(stdout, b"unequal black counts", &pairs(), &cells)
 }
 
 // The grandchild, below the root on the left, is greater than the root. The check compares it with its parent alone.
-fn misplaced_grandchild() {
+fn misplaced_grandchild(stdout: Stdout) -> io::Result<()> {
     let mut names = pairs();
     put_name(&mut names, 3, HASH, 40);
-    ask(b"misplaced grandchild", &names, &words());
+    ask(stdout, b"misplaced grandchild", &names, &words())
 }
 
-pub fn run() {
-    sound_tree();
-    red_under_red();
-    red_root();
-    unequal_blacks();
-    misplaced_grandchild();
+pub fn run(stdout: Stdout) -> io::Result<()> {
+    sound_tree(stdout)?;
+    red_under_red(stdout)?;
+    red_root(stdout)?;
+    unequal_blacks(stdout)?;
+    misplaced_grandchild(stdout)
 }

@@ -6,6 +6,8 @@ use index::fresh::fresh;
 use slots::{
     BLACK, HASH, KEY, LEFT, NEXT, NULL, PARENT, PREV, RED, RIGHT, STATE, get, name, put, put_name,
 };
+use std::io;
+use std::io::Stdout;
 use trials::print::{number, say};
 
 // The ways, by their number; any other moves a slot with all below it in the tree.
@@ -165,17 +167,17 @@ fn try_twos(
 }
 
 // One line to a way.
-fn report(label: &[u8], t: Tally) {
-    say(label);
-    number(b": tried ", t.tried);
-    number(b", yes ", t.yes);
-    number(b", no ", t.no);
-    number(b", differences ", t.differences);
-    number(b", check passes ", t.passes);
-    say(b"\n");
+fn report(stdout: Stdout, label: &[u8], t: Tally) -> io::Result<()> {
+    say(stdout, label)?;
+    number(stdout, b": tried ", t.tried)?;
+    number(stdout, b", yes ", t.yes)?;
+    number(stdout, b", no ", t.no)?;
+    number(stdout, b", differences ", t.differences)?;
+    number(stdout, b", check passes ", t.passes)?;
+    say(stdout, b"\n")
 }
 
-pub fn run() {
+pub fn run(stdout: Stdout) -> io::Result<()> {
     let mut names = [0u64; 128];
     let mut cells = [0u32; 448];
     let mut head = [0u32; 3];
@@ -186,23 +188,28 @@ pub fn run() {
     let ends = chain(&mut cells);
     head = [slot_of(MIDDLE), ends.first, 47];
     report(
+        stdout,
         b"two pairs exchanged",
         try_twos(names, cells, head, sizes, PAIRS),
-    );
+    )?;
     report(
+        stdout,
         b"two states exchanged",
         try_twos(names, cells, head, sizes, STATES),
-    );
+    )?;
     report(
+        stdout,
         b"two colours changed",
         try_twos(names, cells, head, sizes, COLOURS),
-    );
+    )?;
     report(
+        stdout,
         b"a slot moved in the chain",
         try_twos(names, cells, head, sizes, CHAIN),
-    );
+    )?;
     report(
+        stdout,
         b"a slot hung elsewhere with all below it",
         try_twos(names, cells, head, sizes, SUBTREE),
-    );
+    )
 }

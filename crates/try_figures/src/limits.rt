@@ -4,6 +4,8 @@ use crate::run::{BINS, CELLS, HEADS, LENGTHS, NAMES, one};
 use crate::trial::told;
 use file::loader::{LoadNote, Loader};
 use slots::{put_wide, wide};
+use std::io;
+use std::io::Stdout;
 use tally::stream::Stream;
 use tally::tally::tally;
 use trials::same::same_names;
@@ -125,9 +127,10 @@ fn try_lengths() -> u64 {
 }
 
 // The totals' ranges.
-pub fn try_ranges() -> u64 {
+pub fn try_ranges(stdout: Stdout) -> io::Result<u64> {
     let words = more(try_words(0), more(try_words(1), try_words(999999)));
     told(
+        stdout,
         b"totals out of range",
         3 * 2 * 37 + 6 + 4,
         more(words, more(try_sums(), try_lengths())),
@@ -199,7 +202,7 @@ fn try_loader(section: u64, tables: u64, words: u64, number: u32) -> u64 {
 }
 
 // Streams out of their ranges.
-pub fn try_streams() -> u64 {
+pub fn try_streams(stdout: Stdout) -> io::Result<u64> {
     let lengths = more(
         more(try_numbers(0, 0, 0), try_numbers(0, 1, 1)),
         more(try_numbers(1, 255, 0), try_numbers(1, 256, 1)),
@@ -220,6 +223,7 @@ pub fn try_streams() -> u64 {
         more(try_loader(2, 9, 1024, 1), try_loader(5, 8, 1024, 1)),
     );
     told(
+        stdout,
         b"streams out of range",
         32,
         more(more(lengths, longer), more(bytes, loaders)),

@@ -8,6 +8,7 @@ mod run;
 mod trial;
 
 use limits::{try_ranges, try_streams};
+use std::io;
 use trial::{try_cuts, try_ends, try_million, try_order};
 use trials::load::load;
 use trials::print::{name, say};
@@ -21,21 +22,22 @@ fn more(a: u64, b: u64) -> u64 {
     std::num::wrapping_add_u64(a, b)
 }
 
-fn main() {
+fn main(rt: HostRuntime) -> io::Result<()> {
+    let stdout = rt.stdout();
     let mut week = [0u8; WEEK];
     let mut back = [0u8; BACK];
-    load(b"week.bin", &mut week);
-    load(b"back.bin", &mut back);
-    let order = try_order(&week, &back);
-    let cuts = try_cuts(&week);
-    let ends = try_ends(&week);
-    let million = try_million(&week);
-    let ranges = try_ranges();
-    let streams = try_streams();
+    load(&rt, b"week.bin", &mut week);
+    load(&rt, b"back.bin", &mut back);
+    let order = try_order(stdout, &week, &back)?;
+    let cuts = try_cuts(stdout, &week)?;
+    let ends = try_ends(stdout, &week)?;
+    let million = try_million(stdout, &week)?;
+    let ranges = try_ranges(stdout)?;
+    let streams = try_streams(stdout)?;
     let all = more(
         more(more(order, cuts), more(ends, million)),
         more(ranges, streams),
     );
-    name(b"differences ", all);
-    say(b"\n");
+    name(stdout, b"differences ", all)?;
+    say(stdout, b"\n")
 }

@@ -6,6 +6,7 @@ mod room;
 mod run;
 mod trial;
 
+use std::io;
 use trial::{try_cuts, try_damage, try_ends, try_longer};
 use trials::load::load;
 
@@ -21,16 +22,17 @@ fn changed(bytes: &[u8; SAMPLE], k: usize, value: u8) -> [u8; SAMPLE] {
     other
 }
 
-fn main() {
+fn main(rt: HostRuntime) -> io::Result<()> {
+    let stdout = rt.stdout();
     let mut bytes = [0u8; SAMPLE];
-    load(b"sample.bin", &mut bytes);
-    try_cuts(b"the sample", &bytes);
-    try_cuts(b"a table of three bins", &changed(&bytes, 8, 3));
-    try_cuts(b"a red slot in a list", &changed(&bytes, 68, 2));
-    try_cuts(b"nine tables", &changed(&bytes, 0, 9));
-    try_cuts(b"four slots", &changed(&bytes, 44, 4));
-    try_cuts(b"six slots", &changed(&bytes, 44, 6));
-    try_ends(&bytes);
-    try_damage(&mut bytes);
-    try_longer(&bytes);
+    load(&rt, b"sample.bin", &mut bytes);
+    try_cuts(stdout, b"the sample", &bytes)?;
+    try_cuts(stdout, b"a table of three bins", &changed(&bytes, 8, 3))?;
+    try_cuts(stdout, b"a red slot in a list", &changed(&bytes, 68, 2))?;
+    try_cuts(stdout, b"nine tables", &changed(&bytes, 0, 9))?;
+    try_cuts(stdout, b"four slots", &changed(&bytes, 44, 4))?;
+    try_cuts(stdout, b"six slots", &changed(&bytes, 44, 6))?;
+    try_ends(stdout, &bytes)?;
+    try_damage(stdout, &mut bytes)?;
+    try_longer(stdout, &bytes)
 }

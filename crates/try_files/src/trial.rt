@@ -1,6 +1,8 @@
 // The trials of a file, each counted.
 use crate::SAMPLE;
 use crate::run::{WORDS, one, outcome};
+use std::io;
+use std::io::Stdout;
 use trials::print::{name, say};
 use trials::same::same_names;
 
@@ -37,16 +39,17 @@ fn differ_in_all(bytes: &[u8], uncut: &[u64; WORDS]) -> u64 {
 }
 
 // A file cut at every byte and every pair of bytes: what it comes to, and how often that differs.
-pub fn try_cuts(label: &[u8], bytes: &[u8]) {
+pub fn try_cuts(stdout: Stdout, label: &[u8], bytes: &[u8]) -> io::Result<()> {
     let uncut = outcome(bytes, 0, 0);
-    say(label);
-    name(b": no ", number_of(&uncut));
-    name(b", right ", uncut[1]);
+    say(stdout, label)?;
+    name(stdout, b": no ", number_of(&uncut))?;
+    name(stdout, b", right ", uncut[1])?;
     name(
+        stdout,
         b", differences where it is cut ",
         differ_in_all(bytes, &uncut),
-    );
-    say(b"\n");
+    )?;
+    say(stdout, b"\n")
 }
 
 // What came of several files: how many of each number, and how many are right.
@@ -89,17 +92,17 @@ fn counted(t: Tally, all: &[u64; WORDS]) -> Tally {
     }
 }
 
-fn print_tally(label: &[u8], t: Tally) {
-    say(label);
-    name(b": tried ", t.tried);
-    name(b", accepted ", t.accepted);
-    name(b", no 1: ", t.ones);
-    name(b", no 2: ", t.twos);
-    name(b", no 12: ", t.twelves);
-    name(b", no 13: ", t.thirteens);
-    name(b", no 14: ", t.fourteens);
-    name(b", right ", t.right);
-    say(b"\n");
+fn print_tally(stdout: Stdout, label: &[u8], t: Tally) -> io::Result<()> {
+    say(stdout, label)?;
+    name(stdout, b": tried ", t.tried)?;
+    name(stdout, b", accepted ", t.accepted)?;
+    name(stdout, b", no 1: ", t.ones)?;
+    name(stdout, b", no 2: ", t.twos)?;
+    name(stdout, b", no 12: ", t.twelves)?;
+    name(stdout, b", no 13: ", t.thirteens)?;
+    name(stdout, b", no 14: ", t.fourteens)?;
+    name(stdout, b", right ", t.right)?;
+    say(stdout, b"\n")
 }
 
 // The first k bytes of the file.
@@ -121,8 +124,8 @@ fn end_at_all(bytes: &[u8]) -> Tally {
 }
 
 // The file ended at every byte.
-pub fn try_ends(bytes: &[u8; SAMPLE]) {
-    print_tally(b"ended at every byte", end_at_all(bytes));
+pub fn try_ends(stdout: Stdout, bytes: &[u8; SAMPLE]) -> io::Result<()> {
+    print_tally(stdout, b"ended at every byte", end_at_all(bytes))
 }
 
 // How many values a byte is set to.
@@ -182,9 +185,9 @@ fn damage_all(bytes: &mut [u8]) -> Tally {
 }
 
 // Every byte damaged in every way.
-pub fn try_damage(bytes: &mut [u8; SAMPLE]) {
+pub fn try_damage(stdout: Stdout, bytes: &mut [u8; SAMPLE]) -> io::Result<()> {
     let t = damage_all(bytes);
-    print_tally(b"every byte damaged", t);
+    print_tally(stdout, b"every byte damaged", t)
 }
 
 // The file with a byte more.
@@ -214,6 +217,6 @@ fn lengthen_all(bytes: &[u8; SAMPLE]) -> Tally {
 }
 
 // The bytes and one more, whatever it is.
-pub fn try_longer(bytes: &[u8; SAMPLE]) {
-    print_tally(b"a byte more", lengthen_all(bytes));
+pub fn try_longer(stdout: Stdout, bytes: &[u8; SAMPLE]) -> io::Result<()> {
+    print_tally(stdout, b"a byte more", lengthen_all(bytes))
 }

@@ -6,110 +6,137 @@ use crate::words::{
     Step, Words, ask, count, empty, made, many_calls, part, say_held, say_length, tree,
 };
 use slots::NULL;
+use std::io;
+use std::io::Stdout;
 use trials::print::say;
 
 // One pair fills the tree, and no other goes in before it is gone. A rollback has to free the slot before it can take the old pair back.
-fn one_slot() {
+fn one_slot(stdout: Stdout) -> io::Result<()> {
     let mut x = empty(1, 4);
-    x = ask(x, b"capacity 1, insert 1", Call::Insert(1, 10));
-    x = ask(x, b"insert 1 again", Call::Insert(1, 11));
-    x = ask(x, b"insert 2", Call::Insert(2, 20));
-    x = ask(x, b"remove 2", Call::Remove(2));
-    x = ask(x, b"remove 1", Call::Remove(1));
-    x = ask(x, b"insert 2", Call::Insert(2, 20));
-    x = ask(x, b"rollback to 1", Call::Rollback(1));
-    say(b"the tree");
-    say_held(x, 1);
-    say(b"\n");
-    x = ask(x, b"remove 2", Call::Remove(2));
-    tree(x);
+    ask(stdout, &mut x, b"capacity 1, insert 1", Call::Insert(1, 10))?;
+    ask(stdout, &mut x, b"insert 1 again", Call::Insert(1, 11))?;
+    ask(stdout, &mut x, b"insert 2", Call::Insert(2, 20))?;
+    ask(stdout, &mut x, b"remove 2", Call::Remove(2))?;
+    ask(stdout, &mut x, b"remove 1", Call::Remove(1))?;
+    ask(stdout, &mut x, b"insert 2", Call::Insert(2, 20))?;
+    ask(stdout, &mut x, b"rollback to 1", Call::Rollback(1))?;
+    say(stdout, b"the tree")?;
+    say_held(stdout, &x, 1)?;
+    say(stdout, b"\n")?;
+    ask(stdout, &mut x, b"remove 2", Call::Remove(2))?;
+    tree(stdout, &x)
 }
 
 // A call, its answer, and what is left in one slot.
-fn show(x: Words, label: &[u8], call: Call) -> Words {
-    say(label);
-    let words = part(x, b": ", call);
-    say_length(words);
-    say_held(words, 1);
-    say(b"\n");
-    words
+fn show(stdout: Stdout, x: &mut Words, label: &[u8], call: Call) -> io::Result<()> {
+    say(stdout, label)?;
+    part(stdout, x, b": ", call)?;
+    say_length(stdout, x)?;
+    say_held(stdout, x, 1)?;
+    say(stdout, b"\n")
 }
 
 // Four lines: an insert, and three replaces, which are taken back, the last first.
-fn one_pair_moved() {
+fn one_pair_moved(stdout: Stdout) -> io::Result<()> {
     let mut x = empty(1, 4);
-    x = show(x, b"capacity 1, replace 1", Call::Replace(1, 11));
+    show(
+        stdout,
+        &mut x,
+        b"capacity 1, replace 1",
+        Call::Replace(1, 11),
+    )?;
     x = made(x, Step::One(Call::Insert(1, 10)));
-    x = show(x, b"with 1 at place 10, replace 1", Call::Replace(1, NULL));
-    x = show(x, b"by the same place", Call::Replace(1, NULL));
-    x = show(x, b"by place 0", Call::Replace(1, 0));
-    x = show(x, b"no line left, replace 1", Call::Replace(1, 7));
-    x = show(x, b"no line left, replace 2", Call::Replace(2, 7));
-    x = show(x, b"rollback to 3", Call::Rollback(3));
-    x = show(x, b"rollback to 2", Call::Rollback(2));
-    x = show(x, b"rollback to 1", Call::Rollback(1));
-    tree(x);
+    show(
+        stdout,
+        &mut x,
+        b"with 1 at place 10, replace 1",
+        Call::Replace(1, NULL),
+    )?;
+    show(stdout, &mut x, b"by the same place", Call::Replace(1, NULL))?;
+    show(stdout, &mut x, b"by place 0", Call::Replace(1, 0))?;
+    show(
+        stdout,
+        &mut x,
+        b"no line left, replace 1",
+        Call::Replace(1, 7),
+    )?;
+    show(
+        stdout,
+        &mut x,
+        b"no line left, replace 2",
+        Call::Replace(2, 7),
+    )?;
+    show(stdout, &mut x, b"rollback to 3", Call::Rollback(3))?;
+    show(stdout, &mut x, b"rollback to 2", Call::Rollback(2))?;
+    show(stdout, &mut x, b"rollback to 1", Call::Rollback(1))?;
+    tree(stdout, &x)
 }
 
 // The least journal: it is full from the start, and only a rollback to 0 is accepted.
-fn no_line() {
+fn no_line(stdout: Stdout) -> io::Result<()> {
     let mut x = empty(1, 0);
-    x = ask(x, b"journal 0, insert 1", Call::Insert(1, 10));
-    x = ask(x, b"remove 1", Call::Remove(1));
-    x = ask(x, b"replace 1", Call::Replace(1, 1));
-    x = ask(x, b"rollback to 0", Call::Rollback(0));
-    ask(x, b"rollback to 1", Call::Rollback(1));
+    ask(stdout, &mut x, b"journal 0, insert 1", Call::Insert(1, 10))?;
+    ask(stdout, &mut x, b"remove 1", Call::Remove(1))?;
+    ask(stdout, &mut x, b"replace 1", Call::Replace(1, 1))?;
+    ask(stdout, &mut x, b"rollback to 0", Call::Rollback(0))?;
+    ask(stdout, &mut x, b"rollback to 1", Call::Rollback(1))
 }
 
 // The journal is filled up and emptied by a rollback.
-fn all_lines(start: Words) -> Words {
-    let mut x = start;
-    x = many_calls(
+fn all_lines(stdout: Stdout, x: &mut Words) -> io::Result<()> {
+    many_calls(
+        stdout,
         x,
         b"capacity 4096, journal 1024",
         Step::Enter(1024, Order::Filled),
-    );
-    x = ask(x, b"insert 5000", Call::Insert(5000, 1));
-    x = ask(x, b"remove 0", Call::Remove(0));
-    x = ask(x, b"replace 0", Call::Replace(0, 1));
-    x = ask(x, b"replace 5000", Call::Replace(5000, 1));
-    x = ask(x, b"rollback to 0", Call::Rollback(0));
-    tree(x);
-    x
+    )?;
+    ask(stdout, x, b"insert 5000", Call::Insert(5000, 1))?;
+    ask(stdout, x, b"remove 0", Call::Remove(0))?;
+    ask(stdout, x, b"replace 0", Call::Replace(0, 1))?;
+    ask(stdout, x, b"replace 5000", Call::Replace(5000, 1))?;
+    ask(stdout, x, b"rollback to 0", Call::Rollback(0))?;
+    tree(stdout, x)
 }
 
 // The tree is filled up and emptied by removals.
-fn fill_and_drain(start: Words) -> Words {
-    let mut x = start;
-    x = many_calls(x, b"filled", Step::Enter(4096, Order::Filled));
-    tree(x);
-    x = ask(x, b"insert 5000", Call::Insert(5000, 1));
-    x = many_calls(
+fn fill_and_drain(stdout: Stdout, x: &mut Words) -> io::Result<()> {
+    many_calls(stdout, x, b"filled", Step::Enter(4096, Order::Filled))?;
+    tree(stdout, x)?;
+    ask(stdout, x, b"insert 5000", Call::Insert(5000, 1))?;
+    many_calls(
+        stdout,
         x,
         b"emptied in another order",
         Step::Leave(4096, Order::Drained),
-    );
-    tree(x);
-    x
+    )?;
+    tree(stdout, x)
 }
 
 // The last 1,024 removals are undone.
-fn undo_last(start: Words) {
-    let x = ask(start, b"rollback to 0", Call::Rollback(0));
-    tree(x);
-    count(x, b"pairs as at the mark", Count::Right);
-    count(x, b"neighbours listed as at the mark", Count::Listed);
+fn undo_last(stdout: Stdout, x: &mut Words) -> io::Result<()> {
+    ask(stdout, x, b"rollback to 0", Call::Rollback(0))?;
+    tree(stdout, x)?;
+    count(stdout, x, b"pairs as at the mark", Count::Right)?;
+    count(
+        stdout,
+        x,
+        b"neighbours listed as at the mark",
+        Count::Listed,
+    )
 }
 
 // The largest capacity and the largest journal, each filled up and emptied.
-fn all_slots() {
-    undo_last(fill_and_drain(all_lines(empty(4096, 1024))));
+fn all_slots(stdout: Stdout) -> io::Result<()> {
+    let mut x = empty(4096, 1024);
+    all_lines(stdout, &mut x)?;
+    fill_and_drain(stdout, &mut x)?;
+    undo_last(stdout, &mut x)
 }
 
 // From the least limits to the largest.
-pub fn run() {
-    one_slot();
-    one_pair_moved();
-    no_line();
-    all_slots();
+pub fn run(stdout: Stdout) -> io::Result<()> {
+    one_slot(stdout)?;
+    one_pair_moved(stdout)?;
+    no_line(stdout)?;
+    all_slots(stdout)
 }

@@ -11,6 +11,8 @@ use ranks::kth::kth;
 use ranks::position::position;
 use slots::answer::{Answer, nothing};
 use slots::{PLACE, get, put, put_name};
+use std::io;
+use std::io::Stdout;
 use trials::print::{answer, verdict};
 
 // A call of a pair is of the pair with that number.
@@ -103,14 +105,14 @@ pub fn make(
 }
 
 // What a call was answered, behind a label.
-pub fn say_answer(label: &[u8], call: Call, told: Answer) {
+pub fn say_answer(stdout: Stdout, label: &[u8], call: Call, told: Answer) -> io::Result<()> {
     match call {
-        Call::Remove(_) => answer(label, b"gone ", told),
-        Call::Rollback(_) => answer(label, b"back ", told),
-        Call::Sound => verdict(label, b"no ", told),
-        Call::Check => answer(label, b"passes", told),
-        Call::Position(_) => answer(label, b"", told),
-        _ => answer(label, b"slot ", told),
+        Call::Remove(_) => answer(stdout, label, b"gone ", told),
+        Call::Rollback(_) => answer(stdout, label, b"back ", told),
+        Call::Sound => verdict(stdout, label, b"no ", told),
+        Call::Check => answer(stdout, label, b"passes", told),
+        Call::Position(_) => answer(stdout, label, b"", told),
+        _ => answer(stdout, label, b"slot ", told),
     }
 }
 

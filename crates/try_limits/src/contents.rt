@@ -1,25 +1,34 @@
 // What a tree holds, printed along the chain.
 use slots::{HASH, KEY, NEXT, NULL, PLACE, get, name};
+use std::io;
+use std::io::Stdout;
 use trials::print;
 
 // The entry of slot x.
-fn say_entry(names: &[u64], cells: &[u32], x: u32) {
-    print::name(b", ", name(names, x, HASH));
-    print::name(b" ", name(names, x, KEY));
-    print::number(b" at place ", get(cells, x, PLACE));
+fn say_entry(stdout: Stdout, names: &[u64], cells: &[u32], x: u32) -> io::Result<()> {
+    print::name(stdout, b", ", name(names, x, HASH))?;
+    print::name(stdout, b" ", name(names, x, KEY))?;
+    print::number(stdout, b" at place ", get(cells, x, PLACE))
 }
 
 // How many entries a tree of n slots has and which, from first by next, behind what stands on the line already.
-pub fn say_entries(names: &[u64], cells: &[u32], head: &[u32], n: u32) {
-    print::number(b", entries ", get(head, 0, 2));
+pub fn say_entries(
+    stdout: Stdout,
+    names: &[u64],
+    cells: &[u32],
+    head: &[u32],
+    n: u32,
+) -> io::Result<()> {
+    print::number(stdout, b", entries ", get(head, 0, 2))?;
     let mut x = get(head, 0, 1);
     let mut i: u32 = 0;
     while i < n {
         if x == NULL {
-            return;
+            return Ok(());
         }
-        say_entry(names, cells, x);
+        say_entry(stdout, names, cells, x)?;
         x = get(cells, x, NEXT);
         i += 1;
     }
+    Ok(())
 }

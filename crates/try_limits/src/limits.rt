@@ -1,14 +1,16 @@
 // Asks find at the limits of what it refuses, and prints each answer.
 use index::find::{Found, find};
 use slots::{LEFT, NULL, RIGHT, put};
+use std::io;
+use std::io::Stdout;
 use trials::print::{answer_or, say};
 
-fn print(label: &[u8], found: Found) {
+fn print(stdout: Stdout, label: &[u8], found: Found) -> io::Result<()> {
     let counted = found.counted();
     let answer = counted.answer;
-    say(label);
-    answer_or(b": ", b"at ", b"none", answer);
-    say(b"\n");
+    say(stdout, label)?;
+    answer_or(stdout, b": ", b"at ", b"none", answer)?;
+    say(stdout, b"\n")
 }
 
 fn first_names(words: &[u64], n: usize) -> &[u64] {
@@ -26,7 +28,15 @@ fn first_words(words: &[u32], n: usize) -> &[u32] {
 }
 
 // A tree of n slots in which each name is (0, 0), asked for (0, key) from root.
-fn ask(label: &[u8], names: &[u64], cells: &[u32], n: u32, root: u32, key: u64) {
+fn ask(
+    stdout: Stdout,
+    label: &[u8],
+    names: &[u64],
+    cells: &[u32],
+    n: u32,
+    root: u32,
+    key: u64,
+) -> io::Result<()> {
     let head = [root, root, 0];
     let slots = n as usize;
     let found = find(
@@ -36,19 +46,27 @@ fn ask(label: &[u8], names: &[u64], cells: &[u32], n: u32, root: u32, key: u64) 
         0,
         key,
     );
-    print(label, found);
+    print(stdout, label, found)
 }
 
 // The smallest capacity and the largest, and one past each.
-fn capacities(names: &[u64], cells: &[u32]) {
-    ask(b"capacity 0", names, cells, 0, NULL, 0);
-    ask(b"capacity 1", names, cells, 1, 0, 0);
-    ask(b"capacity 4096", names, cells, 4096, 4095, 0);
-    ask(b"capacity 4097", names, cells, 4097, 0, 0);
+fn capacities(stdout: Stdout, names: &[u64], cells: &[u32]) -> io::Result<()> {
+    ask(stdout, b"capacity 0", names, cells, 0, NULL, 0)?;
+    ask(stdout, b"capacity 1", names, cells, 1, 0, 0)?;
+    ask(stdout, b"capacity 4096", names, cells, 4096, 4095, 0)?;
+    ask(stdout, b"capacity 4097", names, cells, 4097, 0, 0)
 }
 
 // Four slots, with so many words of each slice.
-fn cut(label: &[u8], names: &[u64], cells: &[u32], n: usize, c: usize, h: usize) {
+fn cut(
+    stdout: Stdout,
+    label: &[u8],
+    names: &[u64],
+    cells: &[u32],
+    n: usize,
+    c: usize,
+    h: usize,
+) -> io::Result<()> {
     let head = [0u32, 0, 0, 0];
     let found = find(
         first_names(names, n),
@@ -57,50 +75,50 @@ fn cut(label: &[u8], names: &[u64], cells: &[u32], n: usize, c: usize, h: usize)
         0,
         0,
     );
-    print(label, found);
+    print(stdout, label, found)
 }
 
-fn lengths(names: &[u64], cells: &[u32]) {
-    cut(b"lengths right", names, cells, 8, 28, 3);
-    cut(b"names one short", names, cells, 7, 28, 3);
-    cut(b"names one long", names, cells, 9, 28, 3);
-    cut(b"cells one short", names, cells, 8, 27, 3);
-    cut(b"cells one long", names, cells, 8, 29, 3);
-    cut(b"header one short", names, cells, 8, 28, 2);
-    cut(b"header one long", names, cells, 8, 28, 4);
+fn lengths(stdout: Stdout, names: &[u64], cells: &[u32]) -> io::Result<()> {
+    cut(stdout, b"lengths right", names, cells, 8, 28, 3)?;
+    cut(stdout, b"names one short", names, cells, 7, 28, 3)?;
+    cut(stdout, b"names one long", names, cells, 9, 28, 3)?;
+    cut(stdout, b"cells one short", names, cells, 8, 27, 3)?;
+    cut(stdout, b"cells one long", names, cells, 8, 29, 3)?;
+    cut(stdout, b"header one short", names, cells, 8, 28, 2)?;
+    cut(stdout, b"header one long", names, cells, 8, 28, 4)
 }
 
-fn roots(names: &[u64], cells: &[u32]) {
-    ask(b"root null", names, cells, 4, NULL, 0);
-    ask(b"root n - 1", names, cells, 4, 3, 0);
-    ask(b"root n", names, cells, 4, 4, 0);
-    ask(b"root 4294967294", names, cells, 4, 4294967294, 0);
+fn roots(stdout: Stdout, names: &[u64], cells: &[u32]) -> io::Result<()> {
+    ask(stdout, b"root null", names, cells, 4, NULL, 0)?;
+    ask(stdout, b"root n - 1", names, cells, 4, 3, 0)?;
+    ask(stdout, b"root n", names, cells, 4, 4, 0)?;
+    ask(stdout, b"root 4294967294", names, cells, 4, 4294967294, 0)
 }
 
 // Two slots, of which each is the other's right child where there is a cycle.
-fn cycles(names: &[u64]) {
+fn cycles(stdout: Stdout, names: &[u64]) -> io::Result<()> {
     let mut cells = [NULL; 14];
     put(&mut cells, 0, RIGHT, 1);
-    ask(b"two slots", names, &cells, 2, 0, 1);
+    ask(stdout, b"two slots", names, &cells, 2, 0, 1)?;
     put(&mut cells, 1, RIGHT, 0);
-    ask(b"two-slot cycle", names, &cells, 2, 0, 1);
+    ask(stdout, b"two-slot cycle", names, &cells, 2, 0, 1)
 }
 
 // One slot, whose left child is itself, and then no slot.
-fn children(names: &[u64]) {
+fn children(stdout: Stdout, names: &[u64]) -> io::Result<()> {
     let mut cells = [NULL; 7];
     put(&mut cells, 0, LEFT, 0);
-    ask(b"its own left child", names, &cells, 1, 0, 1);
+    ask(stdout, b"its own left child", names, &cells, 1, 0, 1)?;
     put(&mut cells, 0, LEFT, 1);
-    ask(b"left child n", names, &cells, 1, 0, 1);
+    ask(stdout, b"left child n", names, &cells, 1, 0, 1)
 }
 
-pub fn run() {
+pub fn run(stdout: Stdout) -> io::Result<()> {
     let names = [0u64; 8196];
     let cells = [NULL; 28686];
-    capacities(&names, &cells);
-    lengths(&names, &cells);
-    roots(&names, &cells);
-    cycles(&names);
-    children(&names);
+    capacities(stdout, &names, &cells)?;
+    lengths(stdout, &names, &cells)?;
+    roots(stdout, &names, &cells)?;
+    cycles(stdout, &names)?;
+    children(stdout, &names)
 }

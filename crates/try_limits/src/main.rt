@@ -14,10 +14,13 @@ mod ranked;
 mod refusals;
 mod words;
 
-fn main() {
-    limits::run();
-    brim::run();
-    misfits::run();
-    refusals::run();
-    ranked::run();
+use std::io;
+
+fn main(rt: HostRuntime) -> io::Result<()> {
+    let stdout = rt.stdout();
+    limits::run(stdout)?;
+    brim::run(stdout)?;
+    misfits::run(stdout)?;
+    refusals::run(stdout)?;
+    ranked::run(stdout)
 }

@@ -3,6 +3,8 @@
 use crate::calls::{Call, Word};
 use crate::words::{Room, Step, Words, empty, made, part, same};
 use slots::NULL;
+use std::io;
+use std::io::Stdout;
 use trials::print::say;
 
 // An empty index, with the journal's length, the root, the count and the first slot's size as given.
@@ -15,21 +17,21 @@ fn prepared(length: u64, root: u32, count: u32, first: u32) -> Words {
 }
 
 // The four calls that can write, the two checks, and the two calls by position.
-fn ask_eight(start: Words) -> Words {
-    let mut x = start;
-    x = part(x, b": insert ", Call::Insert(1, 10));
-    x = part(x, b", replace ", Call::Replace(1, 11));
-    x = part(x, b", remove ", Call::Remove(2));
-    x = part(x, b", rollback ", Call::Rollback(1));
-    x = part(x, b", sound ", Call::Sound);
-    x = part(x, b", check ", Call::Check);
-    x = part(x, b", kth ", Call::Kth(0));
-    part(x, b", position ", Call::Position(1))
+fn ask_eight(stdout: Stdout, x: &mut Words) -> io::Result<()> {
+    part(stdout, x, b": insert ", Call::Insert(1, 10))?;
+    part(stdout, x, b", replace ", Call::Replace(1, 11))?;
+    part(stdout, x, b", remove ", Call::Remove(2))?;
+    part(stdout, x, b", rollback ", Call::Rollback(1))?;
+    part(stdout, x, b", sound ", Call::Sound)?;
+    part(stdout, x, b", check ", Call::Check)?;
+    part(stdout, x, b", kth ", Call::Kth(0))?;
+    part(stdout, x, b", position ", Call::Position(1))
 }
 
 // An empty tree and an empty journal, with the journal's length, the root, the count and the first slot's size as given, and n, c, h, z
 // and l words of names, cells, header, sizes and lines.
 fn ask(
+    stdout: Stdout,
     label: &[u8],
     n: usize,
     c: usize,
@@ -40,7 +42,7 @@ fn ask(
     root: u32,
     count: u32,
     first: u32,
-) {
+) -> io::Result<()> {
     let room = Room {
         names: n,
         cells: c,
@@ -50,43 +52,141 @@ fn ask(
     };
     let mut x = prepared(length, root, count, first);
     x.room = room;
-    say(label);
-    if same(x, ask_eight(x)) {
-        say(b", all as it was\n");
-    } else {
-        say(b", written\n");
+    let before = x;
+    say(stdout, label)?;
+    ask_eight(stdout, &mut x)?;
+    if same(before, x) {
+        return say(stdout, b", all as it was\n");
     }
+    say(stdout, b", written\n")
 }
 
 // Each slice one word off, beside words that fit.
-fn lengths() {
-    ask(b"four slots", 8, 28, 3, 4, 25, 0, NULL, 0, 0);
-    ask(b"names one short", 7, 28, 3, 4, 25, 0, NULL, 0, 0);
-    ask(b"names one long", 9, 28, 3, 4, 25, 0, NULL, 0, 0);
-    ask(b"cells one short", 8, 27, 3, 4, 25, 0, NULL, 0, 0);
-    ask(b"cells one long", 8, 29, 3, 4, 25, 0, NULL, 0, 0);
-    ask(b"header one short", 8, 28, 2, 4, 25, 0, NULL, 0, 0);
-    ask(b"header one long", 8, 28, 4, 4, 25, 0, NULL, 0, 0);
-    ask(b"sizes one short", 8, 28, 3, 3, 25, 0, NULL, 0, 0);
-    ask(b"sizes one long", 8, 28, 3, 5, 25, 0, NULL, 0, 0);
-    ask(b"no word of sizes", 8, 28, 3, 0, 25, 0, NULL, 0, 0);
-    ask(b"lines one short", 8, 28, 3, 4, 24, 0, NULL, 0, 0);
-    ask(b"lines one long", 8, 28, 3, 4, 26, 0, NULL, 0, 0);
-    ask(b"lines of four words each", 8, 28, 3, 4, 17, 0, NULL, 0, 0);
+fn lengths(stdout: Stdout) -> io::Result<()> {
+    ask(stdout, b"four slots", 8, 28, 3, 4, 25, 0, NULL, 0, 0)?;
+    ask(stdout, b"names one short", 7, 28, 3, 4, 25, 0, NULL, 0, 0)?;
+    ask(stdout, b"names one long", 9, 28, 3, 4, 25, 0, NULL, 0, 0)?;
+    ask(stdout, b"cells one short", 8, 27, 3, 4, 25, 0, NULL, 0, 0)?;
+    ask(stdout, b"cells one long", 8, 29, 3, 4, 25, 0, NULL, 0, 0)?;
+    ask(stdout, b"header one short", 8, 28, 2, 4, 25, 0, NULL, 0, 0)?;
+    ask(stdout, b"header one long", 8, 28, 4, 4, 25, 0, NULL, 0, 0)?;
+    ask(stdout, b"sizes one short", 8, 28, 3, 3, 25, 0, NULL, 0, 0)?;
+    ask(stdout, b"sizes one long", 8, 28, 3, 5, 25, 0, NULL, 0, 0)?;
+    ask(stdout, b"no word of sizes", 8, 28, 3, 0, 25, 0, NULL, 0, 0)?;
+    ask(stdout, b"lines one short", 8, 28, 3, 4, 24, 0, NULL, 0, 0)?;
+    ask(stdout, b"lines one long", 8, 28, 3, 4, 26, 0, NULL, 0, 0)?;
+    ask(
+        stdout,
+        b"lines of four words each",
+        8,
+        28,
+        3,
+        4,
+        17,
+        0,
+        NULL,
+        0,
+        0,
+    )
 }
 
 // The capacities of the tree and of the journal, and one past each.
-fn capacities() {
-    ask(b"capacity 0", 0, 0, 3, 0, 25, 0, NULL, 0, 0);
-    ask(b"capacity 4096", 8192, 28672, 3, 4096, 25, 0, NULL, 0, 0);
-    ask(b"capacity 4097", 8194, 28679, 3, 4097, 25, 0, NULL, 0, 0);
-    ask(b"no word of a journal", 8, 28, 3, 4, 0, 0, NULL, 0, 0);
-    ask(b"journal of 0 lines", 8, 28, 3, 4, 1, 0, NULL, 0, 0);
-    ask(b"journal of 1024 lines", 8, 28, 3, 4, 6145, 0, NULL, 0, 0);
-    ask(b"journal of 1025 lines", 8, 28, 3, 4, 6151, 0, NULL, 0, 0);
-    ask(b"length at the capacity", 8, 28, 3, 4, 25, 4, NULL, 0, 0);
-    ask(b"length past the capacity", 8, 28, 3, 4, 25, 5, NULL, 0, 0);
+fn capacities(stdout: Stdout) -> io::Result<()> {
+    ask(stdout, b"capacity 0", 0, 0, 3, 0, 25, 0, NULL, 0, 0)?;
     ask(
+        stdout,
+        b"capacity 4096",
+        8192,
+        28672,
+        3,
+        4096,
+        25,
+        0,
+        NULL,
+        0,
+        0,
+    )?;
+    ask(
+        stdout,
+        b"capacity 4097",
+        8194,
+        28679,
+        3,
+        4097,
+        25,
+        0,
+        NULL,
+        0,
+        0,
+    )?;
+    ask(
+        stdout,
+        b"no word of a journal",
+        8,
+        28,
+        3,
+        4,
+        0,
+        0,
+        NULL,
+        0,
+        0,
+    )?;
+    ask(stdout, b"journal of 0 lines", 8, 28, 3, 4, 1, 0, NULL, 0, 0)?;
+    ask(
+        stdout,
+        b"journal of 1024 lines",
+        8,
+        28,
+        3,
+        4,
+        6145,
+        0,
+        NULL,
+        0,
+        0,
+    )?;
+    ask(
+        stdout,
+        b"journal of 1025 lines",
+        8,
+        28,
+        3,
+        4,
+        6151,
+        0,
+        NULL,
+        0,
+        0,
+    )?;
+    ask(
+        stdout,
+        b"length at the capacity",
+        8,
+        28,
+        3,
+        4,
+        25,
+        4,
+        NULL,
+        0,
+        0,
+    )?;
+    ask(
+        stdout,
+        b"length past the capacity",
+        8,
+        28,
+        3,
+        4,
+        25,
+        5,
+        NULL,
+        0,
+        0,
+    )?;
+    ask(
+        stdout,
         b"length with a high half",
         8,
         28,
@@ -97,16 +197,41 @@ fn capacities() {
         NULL,
         0,
         0,
-    );
+    )
 }
 
 // Trees that are not sound, and what comes before that and after it.
-fn damages() {
-    ask(b"count that lies", 8, 28, 3, 4, 25, 0, NULL, 1, 0);
-    ask(b"root without a count", 8, 28, 3, 4, 25, 0, 0, 0, 0);
-    ask(b"root that names no slot", 8, 28, 3, 4, 25, 0, 4, 0, 0);
-    ask(b"size in a free slot", 8, 28, 3, 4, 25, 0, NULL, 0, 1);
+fn damages(stdout: Stdout) -> io::Result<()> {
+    ask(stdout, b"count that lies", 8, 28, 3, 4, 25, 0, NULL, 1, 0)?;
+    ask(stdout, b"root without a count", 8, 28, 3, 4, 25, 0, 0, 0, 0)?;
     ask(
+        stdout,
+        b"root that names no slot",
+        8,
+        28,
+        3,
+        4,
+        25,
+        0,
+        4,
+        0,
+        0,
+    )?;
+    ask(
+        stdout,
+        b"size in a free slot",
+        8,
+        28,
+        3,
+        4,
+        25,
+        0,
+        NULL,
+        0,
+        1,
+    )?;
+    ask(
+        stdout,
         b"damaged, length at the capacity",
         8,
         28,
@@ -117,8 +242,9 @@ fn damages() {
         NULL,
         1,
         0,
-    );
+    )?;
     ask(
+        stdout,
         b"damaged, length past the capacity",
         8,
         28,
@@ -129,12 +255,24 @@ fn damages() {
         NULL,
         1,
         0,
-    );
-    ask(b"damaged, names one short", 7, 28, 3, 4, 25, 0, NULL, 1, 0);
+    )?;
+    ask(
+        stdout,
+        b"damaged, names one short",
+        7,
+        28,
+        3,
+        4,
+        25,
+        0,
+        NULL,
+        1,
+        0,
+    )
 }
 
-pub fn run() {
-    lengths();
-    capacities();
-    damages();
+pub fn run(stdout: Stdout) -> io::Result<()> {
+    lengths(stdout)?;
+    capacities(stdout)?;
+    damages(stdout)
 }

@@ -6,6 +6,8 @@ use crate::pairs::{Order, nth};
 use index::journal::is_full;
 use slots::answer::{Answer, Value, given, nothing};
 use slots::{get, name, put_name};
+use std::io;
+use std::io::Stdout;
 use trials::print::{line, name as say_name, say};
 use trials::same::same_index;
 
@@ -161,19 +163,18 @@ pub fn made(x: Words, step: Step) -> Words {
     done.words
 }
 
-// The words after a call, whose answer is printed behind a label.
-pub fn part(x: Words, label: &[u8], call: Call) -> Words {
-    let done = after(x, Step::One(call));
-    say_answer(label, call, done.told);
-    done.words
+// The words become those after a call, whose answer is printed behind a label.
+pub fn part(stdout: Stdout, x: &mut Words, label: &[u8], call: Call) -> io::Result<()> {
+    let done = after(*x, Step::One(call));
+    *x = done.words;
+    say_answer(stdout, label, call, done.told)
 }
 
 // The same, in a line of its own.
-pub fn ask(x: Words, label: &[u8], call: Call) -> Words {
-    say(label);
-    let words = part(x, b": ", call);
-    say(b"\n");
-    words
+pub fn ask(stdout: Stdout, x: &mut Words, label: &[u8], call: Call) -> io::Result<()> {
+    say(stdout, label)?;
+    part(stdout, x, b": ", call)?;
+    say(stdout, b"\n")
 }
 
 // An empty index of so many slots and lines.
@@ -214,17 +215,13 @@ pub fn same(x: Words, y: Words) -> bool {
 }
 
 // How many entries an index of n slots has, and which.
-pub fn say_held(x: Words, n: u32) {
-    let names = x.names;
-    let cells = x.cells;
-    let head = x.head;
-    say_entries(&names, &cells, &head, n);
+pub fn say_held(stdout: Stdout, x: &Words, n: u32) -> io::Result<()> {
+    say_entries(stdout, &x.names, &x.cells, &x.head, n)
 }
 
 // The journal's length.
-pub fn say_length(x: Words) {
-    let lines = x.lines;
-    say_name(b", lines ", name(&lines, 0, 0));
+pub fn say_length(stdout: Stdout, x: &Words) -> io::Result<()> {
+    say_name(stdout, b", lines ", name(&x.lines, 0, 0))
 }
 
 // The value of an answer, or 0.
@@ -237,26 +234,24 @@ fn value_of(told: Answer) -> u32 {
 }
 
 // Whether the tree is sound, and its count, since the answers alone do not say what is left.
-pub fn tree(x: Words) {
-    let head = x.head;
-    let count = get(&head, 0, 2);
-    let done = after(x, Step::One(Call::Sound));
+pub fn tree(stdout: Stdout, x: &Words) -> io::Result<()> {
+    let count = get(&x.head, 0, 2);
+    let done = after(*x, Step::One(Call::Sound));
     if value_of(done.told) == 1 {
-        line(b"the tree", b": sound, count ", count);
-    } else {
-        line(b"the tree", b": not sound, count ", count);
+        return line(stdout, b"the tree", b": sound, count ", count);
     }
+    line(stdout, b"the tree", b": not sound, count ", count)
 }
 
-// The words after many calls, and how many of these were accepted.
-pub fn many_calls(x: Words, label: &[u8], step: Step) -> Words {
-    let done = after(x, step);
-    line(label, b": accepted ", value_of(done.told));
-    done.words
+// The words become those after many calls; how many of these were accepted.
+pub fn many_calls(stdout: Stdout, x: &mut Words, label: &[u8], step: Step) -> io::Result<()> {
+    let done = after(*x, step);
+    *x = done.words;
+    line(stdout, label, b": accepted ", value_of(done.told))
 }
 
 // How many there are of what is counted.
-pub fn count(x: Words, label: &[u8], count: Count) {
-    let done = after(x, Step::Count(count));
-    line(label, b": ", value_of(done.told));
+pub fn count(stdout: Stdout, x: &Words, label: &[u8], count: Count) -> io::Result<()> {
+    let done = after(*x, Step::Count(count));
+    line(stdout, label, b": ", value_of(done.told))
 }

@@ -6,6 +6,8 @@ use index::find::find;
 use index::fresh::fresh;
 use index::insert::{Inserted, insert};
 use slots::{MOST_CELLS, MOST_NAMES, MOST_SLOTS, put_wide};
+use std::io;
+use std::io::Stdout;
 use trials::print::{number, say};
 
 // Pairs come in fours of one hash, so that a search also takes the detours at a null child.
@@ -103,6 +105,7 @@ fn nth(order: u32, n: u32) -> u32 {
 
 // For each n up to 300: all searches of the tree of n pairs in this order. Prints how many trees had a search past their limit.
 fn grow(
+    stdout: Stdout,
     names: &mut [u64],
     cells: &mut [u32],
     head: &mut [u32],
@@ -110,7 +113,7 @@ fn grow(
     lines: &mut [u64],
     order: u32,
     label: &[u8],
-) {
+) -> io::Result<()> {
     fresh(names, cells, head, sizes, lines);
     let mut pairs: u32 = 0;
     let mut most: u32 = 0;
@@ -126,11 +129,11 @@ fn grow(
         most = larger(most, seen);
         past = std::num::wrapping_add_u32(past, one(limit(n) < seen));
     }
-    say(label);
-    number(b": pairs ", pairs);
-    number(b" deepest ", most);
-    number(b" past the limit ", past);
-    say(b"\n");
+    say(stdout, label)?;
+    number(stdout, b": pairs ", pairs)?;
+    number(stdout, b" deepest ", most)?;
+    number(stdout, b" past the limit ", past)?;
+    say(stdout, b"\n")
 }
 
 // The sizes of the handbook's table.
@@ -141,47 +144,52 @@ fn is_listed(n: u32) -> bool {
     }
 }
 
-fn row(names: &[u64], cells: &[u32], head: &[u32], n: u32) {
-    number(b"pairs ", n);
-    number(b" limit ", limit(n));
-    number(b" deepest ", deepest(names, cells, head, n));
-    say(b"\n");
+fn row(stdout: Stdout, names: &[u64], cells: &[u32], head: &[u32], n: u32) -> io::Result<()> {
+    number(stdout, b"pairs ", n)?;
+    number(stdout, b" limit ", limit(n))?;
+    number(stdout, b" deepest ", deepest(names, cells, head, n))?;
+    say(stdout, b"\n")
 }
 
 // Pairs in rising order, which makes the deepest trees that inserts alone make: at the sizes of the table the limit, and the most looks
 // of any search.
 fn table(
+    stdout: Stdout,
     names: &mut [u64],
     cells: &mut [u32],
     head: &mut [u32],
     sizes: &mut [u32],
     lines: &mut [u64],
-) {
+) -> io::Result<()> {
     fresh(names, cells, head, sizes, lines);
     let mut n: u32 = 0;
     while n < 4096 {
         take(names, cells, head, sizes, lines, n);
         n += 1;
         if is_listed(n) {
-            row(names, cells, head, n);
+            row(stdout, names, cells, head, n)?;
         }
     }
+    Ok(())
 }
 
-fn main() {
+fn main(rt: HostRuntime) -> io::Result<()> {
+    let stdout = rt.stdout();
     let mut names = [0u64; MOST_NAMES];
     let mut cells = [0u32; MOST_CELLS];
     let mut head = [0u32; 3];
     let mut sizes = [0u32; MOST_SLOTS];
     let mut lines = [0u64; 7];
     grow(
-        &mut names, &mut cells, &mut head, &mut sizes, &mut lines, 0, b"rising",
-    );
+        stdout, &mut names, &mut cells, &mut head, &mut sizes, &mut lines, 0, b"rising",
+    )?;
     grow(
-        &mut names, &mut cells, &mut head, &mut sizes, &mut lines, 1, b"falling",
-    );
+        stdout, &mut names, &mut cells, &mut head, &mut sizes, &mut lines, 1, b"falling",
+    )?;
     grow(
-        &mut names, &mut cells, &mut head, &mut sizes, &mut lines, 2, b"drawn",
-    );
-    table(&mut names, &mut cells, &mut head, &mut sizes, &mut lines);
+        stdout, &mut names, &mut cells, &mut head, &mut sizes, &mut lines, 2, b"drawn",
+    )?;
+    table(
+        stdout, &mut names, &mut cells, &mut head, &mut sizes, &mut lines,
+    )
 }

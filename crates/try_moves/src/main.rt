@@ -12,10 +12,13 @@ mod refuse;
 mod trial;
 mod words;
 
-fn main() {
+use std::io;
+
+fn main(rt: HostRuntime) -> io::Result<()> {
+    let stdout = rt.stdout();
     let mut counts = [0u32; 52];
     trial::try_moves(&mut counts);
     refuse::try_refusals(&mut counts);
     finishes::try_finishes(&mut counts);
-    print::report(&counts);
+    print::report(stdout, &counts)
 }

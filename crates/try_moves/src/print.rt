@@ -1,6 +1,8 @@
 // What is printed: a line to each kind of trial, and one to all of them.
 use crate::counts::{ALL, COLUMNS};
 use slots::word;
+use std::io;
+use std::io::Stdout;
 use trials::print::{number, say};
 
 // A column of a line.
@@ -9,37 +11,37 @@ fn at(counts: &[u32; 52], line: u32, column: u32) -> u32 {
 }
 
 // One line to a kind.
-fn print(label: &[u8], counts: &[u32; 52], line: u32) {
-    say(label);
-    number(b": tried ", at(counts, line, 0));
-    number(b", refused ", at(counts, line, 1));
-    number(b", entries moved ", at(counts, line, 2));
-    number(b", differences ", at(counts, line, 3));
-    say(b"\n");
+fn print(stdout: Stdout, label: &[u8], counts: &[u32; 52], line: u32) -> io::Result<()> {
+    say(stdout, label)?;
+    number(stdout, b": tried ", at(counts, line, 0))?;
+    number(stdout, b", refused ", at(counts, line, 1))?;
+    number(stdout, b", entries moved ", at(counts, line, 2))?;
+    number(stdout, b", differences ", at(counts, line, 3))?;
+    say(stdout, b"\n")
 }
 
 // Bins that may be moved.
-fn print_moves(counts: &[u32; 52]) {
-    print(b"from a list", counts, 0);
-    print(b"from a list, a half of one hash", counts, 1);
-    print(b"from a tree", counts, 2);
-    print(b"from a tree, a half of one hash", counts, 3);
+fn print_moves(stdout: Stdout, counts: &[u32; 52]) -> io::Result<()> {
+    print(stdout, b"from a list", counts, 0)?;
+    print(stdout, b"from a list, a half of one hash", counts, 1)?;
+    print(stdout, b"from a tree", counts, 2)?;
+    print(stdout, b"from a tree, a half of one hash", counts, 3)
 }
 
 // Refusals.
-fn print_refusals(counts: &[u32; 52]) {
-    print(b"slices that do not fit", counts, 4);
-    print(b"no such table", counts, 5);
-    print(b"a word of the set", counts, 6);
-    print(b"no next table", counts, 7);
-    print(b"no such bin", counts, 8);
-    print(b"Moved already", counts, 9);
-    print(b"its parent not Moved", counts, 10);
+fn print_refusals(stdout: Stdout, counts: &[u32; 52]) -> io::Result<()> {
+    print(stdout, b"slices that do not fit", counts, 4)?;
+    print(stdout, b"no such table", counts, 5)?;
+    print(stdout, b"a word of the set", counts, 6)?;
+    print(stdout, b"no next table", counts, 7)?;
+    print(stdout, b"no such bin", counts, 8)?;
+    print(stdout, b"Moved already", counts, 9)?;
+    print(stdout, b"its parent not Moved", counts, 10)
 }
 
-pub fn report(counts: &[u32; 52]) {
-    print_moves(counts);
-    print_refusals(counts);
-    print(b"all bins", counts, 11);
-    print(b"all", counts, ALL);
+pub fn report(stdout: Stdout, counts: &[u32; 52]) -> io::Result<()> {
+    print_moves(stdout, counts)?;
+    print_refusals(stdout, counts)?;
+    print(stdout, b"all bins", counts, 11)?;
+    print(stdout, b"all", counts, ALL)
 }

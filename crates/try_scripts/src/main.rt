@@ -4,6 +4,8 @@
 ghost use Rattle.std.specs.Prelude.{◌≤◌};
 
 use index::fresh::fresh;
+use std::io;
+use std::rt::Files;
 use trials::load::load;
 use trials::play::play;
 use trials::print::figure;
@@ -52,11 +54,17 @@ fn digit(x: u32) -> u8 {
 }
 
 // The script of a number, from its two files.
-fn try_script(number: u32, input: &mut [u8], expected: &mut [u8], out: &mut [u8]) -> u32 {
+fn try_script<R: Files>(
+    rt: &R,
+    number: u32,
+    input: &mut [u8],
+    expected: &mut [u8],
+    out: &mut [u8],
+) -> u32 {
     let tens = digit(number / 10);
     let ones = digit(number);
-    let asked = load(&[tens, ones, b'.', b'i', b'n'], input);
-    let known = load(&[tens, ones, b'.', b'o', b'u', b't'], expected);
+    let asked = load(rt, &[tens, ones, b'.', b'i', b'n'], input);
+    let known = load(rt, &[tens, ones, b'.', b'o', b'u', b't'], expected);
     if input.len() <= asked {
         return 3;
     }
@@ -66,25 +74,26 @@ fn try_script(number: u32, input: &mut [u8], expected: &mut [u8], out: &mut [u8]
     three_runs(&input[..asked], &expected[..known], out)
 }
 
-fn try_all(input: &mut [u8], expected: &mut [u8], out: &mut [u8]) -> u32 {
+fn try_all<R: Files>(rt: &R, input: &mut [u8], expected: &mut [u8], out: &mut [u8]) -> u32 {
     let mut differences: u32 = 0;
     let mut number: u32 = 1;
     while number <= SCRIPTS {
         differences = std::num::wrapping_add_u32(
             differences,
-            try_script(number, input, expected, out),
+            try_script(rt, number, input, expected, out),
         );
         number += 1;
     }
     differences
 }
 
-fn main() {
+fn main(rt: HostRuntime) -> io::Result<()> {
+    let stdout = rt.stdout();
     let mut input = [0u8; 262144];
     let mut expected = [0u8; 262144];
     let mut out = [0u8; 524288];
-    let differences = try_all(&mut input, &mut expected, &mut out);
-    figure(b"scripts", SCRIPTS);
-    figure(b"runs", 3 * SCRIPTS);
-    figure(b"differences", differences);
+    let differences = try_all(&rt, &mut input, &mut expected, &mut out);
+    figure(stdout, b"scripts", SCRIPTS)?;
+    figure(stdout, b"runs", 3 * SCRIPTS)?;
+    figure(stdout, b"differences", differences)
 }

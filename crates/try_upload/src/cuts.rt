@@ -1,6 +1,8 @@
 // One upload, read whole and cut in three at every pair of bytes, into an index of eight slots and eight lines that has one name.
 use crate::words::{Upload, begun, chunk, ended, inserted, same, started, told};
 use slots::answer::answer_word;
+use std::io;
+use std::io::Stdout;
 use trials::print::{answer, number, say};
 
 // 1 for yes, so that it can be counted.
@@ -63,14 +65,18 @@ fn differ_in_all(bytes: &[u8]) -> u32 {
 
 // Prints what the upload is answered, in how many ways to cut it that differs, whether it leaves the index of the start, and whether a
 // name planted there is noticed.
-pub(crate) fn whole_and_cut(label: &[u8], bytes: &[u8]) {
+pub(crate) fn whole_and_cut(stdout: Stdout, label: &[u8], bytes: &[u8]) -> io::Result<()> {
     let read = read_cut(bytes, 0, 0);
     let start = begun(8, 8);
     let left = same(start, read);
     let unnoticed = same(inserted(start, 1, 2, 3), read);
-    answer(label, b"entries ", told(read));
-    number(b", differences where it is cut ", differ_in_all(bytes));
-    number(b", as at the start ", one(left));
-    number(b", planted and noticed ", one(!unnoticed));
-    say(b"\n");
+    answer(stdout, label, b"entries ", told(read))?;
+    number(
+        stdout,
+        b", differences where it is cut ",
+        differ_in_all(bytes),
+    )?;
+    number(stdout, b", as at the start ", one(left))?;
+    number(stdout, b", planted and noticed ", one(!unnoticed))?;
+    say(stdout, b"\n")
 }

@@ -1,6 +1,8 @@
 // Somebody else writes between two calls. What the next one answers, and whether it leaves the words as they were written.
 use crate::cuts::one;
 use crate::words::{Upload, begun, chunk, ended, same, started, told, with_line, with_size};
+use std::io;
+use std::io::Stdout;
 use trials::print::{answer, number, say};
 
 // The first section, with one entry.
@@ -40,34 +42,69 @@ fn call(x: Upload, bytes: &[u8]) -> Upload {
 }
 
 // A part, the write, and a call; then a chunk of one byte and the end call. The words are held against those that the write left.
-fn ask(site: &[u8], label: &[u8], part: &[u8], bytes: &[u8], which: u32) {
+fn ask(
+    stdout: Stdout,
+    site: &[u8],
+    label: &[u8],
+    part: &[u8],
+    bytes: &[u8],
+    which: u32,
+) -> io::Result<()> {
     let start = prepared(part, which);
     let first = call(start, bytes);
     let second = chunk(first, b"\x02");
     let third = ended(second);
-    say(site);
-    answer(label, b"entries ", told(first));
-    number(b", words kept ", one(same(first, start)));
-    answer(b", then ", b"entries ", told(second));
-    answer(b", at the end ", b"entries ", told(third));
-    number(b", words kept ", one(same(third, start)));
-    say(b"\n");
+    say(stdout, site)?;
+    answer(stdout, label, b"entries ", told(first))?;
+    number(stdout, b", words kept ", one(same(first, start)))?;
+    answer(stdout, b", then ", b"entries ", told(second))?;
+    answer(stdout, b", at the end ", b"entries ", told(third))?;
+    number(stdout, b", words kept ", one(same(third, start)))?;
+    say(stdout, b"\n")
 }
 
 // Each write between a part and a call.
-fn each_write(site: &[u8], part: &[u8], bytes: &[u8]) {
-    ask(site, b", the length past the lines: ", part, bytes, 1);
-    ask(site, b", a size that does not agree: ", part, bytes, 2);
-    ask(site, b", the length below the mark: ", part, bytes, 7);
-    ask(site, b", the length back at the mark: ", part, bytes, 6);
-    ask(site, b", another place in a line: ", part, bytes, 8);
+fn each_write(stdout: Stdout, site: &[u8], part: &[u8], bytes: &[u8]) -> io::Result<()> {
+    ask(
+        stdout,
+        site,
+        b", the length past the lines: ",
+        part,
+        bytes,
+        1,
+    )?;
+    ask(
+        stdout,
+        site,
+        b", a size that does not agree: ",
+        part,
+        bytes,
+        2,
+    )?;
+    ask(
+        stdout,
+        site,
+        b", the length below the mark: ",
+        part,
+        bytes,
+        7,
+    )?;
+    ask(
+        stdout,
+        site,
+        b", the length back at the mark: ",
+        part,
+        bytes,
+        6,
+    )?;
+    ask(stdout, site, b", another place in a line: ", part, bytes, 8)
 }
 
-pub(crate) fn try_foreign(upload: &[u8]) {
-    each_write(b"a right kind", &SECTION, b"\x02");
-    each_write(b"a wrong kind", &SECTION, b"\x07");
-    each_write(b"a new entry", &NEW, b"\0");
-    each_write(b"an entry again", &AGAIN, b"\0");
-    each_write(b"the end of a part", &SECTION, b"");
-    each_write(b"the end of all", upload, b"");
+pub(crate) fn try_foreign(stdout: Stdout, upload: &[u8]) -> io::Result<()> {
+    each_write(stdout, b"a right kind", &SECTION, b"\x02")?;
+    each_write(stdout, b"a wrong kind", &SECTION, b"\x07")?;
+    each_write(stdout, b"a new entry", &NEW, b"\0")?;
+    each_write(stdout, b"an entry again", &AGAIN, b"\0")?;
+    each_write(stdout, b"the end of a part", &SECTION, b"")?;
+    each_write(stdout, b"the end of all", upload, b"")
 }

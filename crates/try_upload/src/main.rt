@@ -14,6 +14,8 @@ use cuts::whole_and_cut;
 use foreign::try_foreign;
 use refused::try_refused;
 use sample::{LENGTH, ROOM, fill, first};
+use std::io;
+use std::io::Stdout;
 use table::try_full;
 
 // The uploads, each of the name that its line has.
@@ -40,30 +42,31 @@ const A_BYTE_MORE: [u8; 45] =
     *b"\x01\x01\0\x01\0\0\0\0\0\0\0\x02\0\0\0\0\0\0\0\x02\0\0\x03\0\0\x04\x01\0\x01\0\0\0\0\0\0\0\x03\0\0\0\0\0\0\0\0";
 
 // The sample of the trials.
-fn cut_sample(bytes: &[u8; ROOM]) {
-    whole_and_cut(b"the sample: ", first(bytes, LENGTH));
+fn cut_sample(stdout: Stdout, bytes: &[u8; ROOM]) -> io::Result<()> {
+    whole_and_cut(stdout, b"the sample: ", first(bytes, LENGTH))
 }
 
-fn main() {
-    whole_and_cut(b"accepted: ", &ACCEPTED);
-    whole_and_cut(b"wrong kind at once: ", &WRONG_AT_ONCE);
-    whole_and_cut(b"wrong kind behind an entry: ", &WRONG_BEHIND);
+fn main(rt: HostRuntime) -> io::Result<()> {
+    let stdout = rt.stdout();
+    whole_and_cut(stdout, b"accepted: ", &ACCEPTED)?;
+    whole_and_cut(stdout, b"wrong kind at once: ", &WRONG_AT_ONCE)?;
+    whole_and_cut(stdout, b"wrong kind behind an entry: ", &WRONG_BEHIND)?;
     let mut third = ACCEPTED;
     third[22] = 2;
-    whole_and_cut(b"wrong third kind: ", &third);
+    whole_and_cut(stdout, b"wrong third kind: ", &third)?;
     let mut fourth = ACCEPTED;
     fourth[25] = 3;
-    whole_and_cut(b"wrong fourth kind: ", &fourth);
-    whole_and_cut(b"a pair twice: ", &TWICE);
-    whole_and_cut(b"a pair that was there: ", &WAS_THERE);
-    whole_and_cut(b"cut inside a header: ", &IN_A_HEADER);
-    whole_and_cut(b"cut inside an entry: ", &IN_AN_ENTRY);
-    whole_and_cut(b"nothing: ", b"");
-    whole_and_cut(b"a byte more: ", &A_BYTE_MORE);
+    whole_and_cut(stdout, b"wrong fourth kind: ", &fourth)?;
+    whole_and_cut(stdout, b"a pair twice: ", &TWICE)?;
+    whole_and_cut(stdout, b"a pair that was there: ", &WAS_THERE)?;
+    whole_and_cut(stdout, b"cut inside a header: ", &IN_A_HEADER)?;
+    whole_and_cut(stdout, b"cut inside an entry: ", &IN_AN_ENTRY)?;
+    whole_and_cut(stdout, b"nothing: ", b"")?;
+    whole_and_cut(stdout, b"a byte more: ", &A_BYTE_MORE)?;
     let mut sample = [0u8; ROOM];
     fill(&mut sample);
-    cut_sample(&sample);
-    try_refused();
-    try_full();
-    try_foreign(&ACCEPTED);
+    cut_sample(stdout, &sample)?;
+    try_refused(stdout)?;
+    try_full(stdout)?;
+    try_foreign(stdout, &ACCEPTED)
 }

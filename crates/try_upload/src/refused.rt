@@ -5,6 +5,8 @@ use crate::sample::{
 };
 use crate::words::{Upload, begun, chunk, ended, inserted, same, started, told, with_name};
 use slots::answer::answer_word;
+use std::io;
+use std::io::Stdout;
 use trials::print::{number, say};
 
 // How much was wrong in a trial, and 1 where a planted name was noticed.
@@ -103,15 +105,15 @@ fn try_one(trial: Trial) -> Seen {
     read_first(&bytes, trial)
 }
 
-fn say_tally(label: &[u8], count: u32, right: u32, noticed: u32) {
-    number(label, count);
-    number(b" tried, right ", right);
-    number(b", planted and noticed ", noticed);
-    say(b"\n");
+fn say_tally(stdout: Stdout, label: &[u8], count: u32, right: u32, noticed: u32) -> io::Result<()> {
+    number(stdout, label, count)?;
+    number(stdout, b" tried, right ", right)?;
+    number(stdout, b", planted and noticed ", noticed)?;
+    say(stdout, b"\n")
 }
 
 // So many trials of a kind.
-fn tally(label: &[u8], kind: Kind, count: u32) {
+fn tally(stdout: Stdout, label: &[u8], kind: Kind, count: u32) -> io::Result<()> {
     let mut right: u32 = 0;
     let mut noticed: u32 = 0;
     let mut k: u32 = 0;
@@ -122,16 +124,21 @@ fn tally(label: &[u8], kind: Kind, count: u32) {
         noticed = more(noticed, seen.noticed);
         k += 1;
     }
-    say_tally(label, count, right, noticed);
+    say_tally(stdout, label, count, right, noticed)
 }
 
-pub(crate) fn try_refused() {
-    tally(b"the sample as six inserts: ", Kind::Accepted, 1);
-    tally(b"3, the pair of another entry: ", Kind::Twice, 30);
-    tally(b"3, the pair that was there: ", Kind::There, 6);
-    tally(b"5 at each entry: ", Kind::Full, 6);
-    tally(b"6 at each entry: ", Kind::JournalFull, 6);
-    tally(b"12 after each byte: ", Kind::Short, 108);
-    tally(b"13 by each byte: ", Kind::Long, 256);
-    tally(b"18 by each byte in each header: ", Kind::WrongKind, 1020);
+pub(crate) fn try_refused(stdout: Stdout) -> io::Result<()> {
+    tally(stdout, b"the sample as six inserts: ", Kind::Accepted, 1)?;
+    tally(stdout, b"3, the pair of another entry: ", Kind::Twice, 30)?;
+    tally(stdout, b"3, the pair that was there: ", Kind::There, 6)?;
+    tally(stdout, b"5 at each entry: ", Kind::Full, 6)?;
+    tally(stdout, b"6 at each entry: ", Kind::JournalFull, 6)?;
+    tally(stdout, b"12 after each byte: ", Kind::Short, 108)?;
+    tally(stdout, b"13 by each byte: ", Kind::Long, 256)?;
+    tally(
+        stdout,
+        b"18 by each byte in each header: ",
+        Kind::WrongKind,
+        1020,
+    )
 }

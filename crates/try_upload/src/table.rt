@@ -4,6 +4,8 @@ use index::fresh::fresh;
 use reader::words::Reader;
 use slots::answer::Answer;
 use slots::{COUNT, wide, word};
+use std::io;
+use std::io::Stdout;
 use trials::print::{answer, name, number, say};
 
 // The bytes of a section of kind 1 with 1,025 entries, each with its number as key.
@@ -51,15 +53,27 @@ fn read_fresh(
     read(names, cells, head, sizes, lines, bytes)
 }
 
-fn say_left(label: &[u8], told: Answer, head: &[u32], lines: &[u64]) {
-    answer(label, b"entries ", told);
-    number(b", names left ", word(head, COUNT, 0));
-    name(b", lines left ", wide(lines, 0));
-    say(b"\n");
+fn say_left(
+    stdout: Stdout,
+    label: &[u8],
+    told: Answer,
+    head: &[u32],
+    lines: &[u64],
+) -> io::Result<()> {
+    answer(stdout, label, b"entries ", told)?;
+    number(stdout, b", names left ", word(head, COUNT, 0))?;
+    name(stdout, b", lines left ", wide(lines, 0))?;
+    say(stdout, b"\n")
 }
 
 // An upload into an empty index of so many slots and lines, and what it leaves.
-fn fill_in(label: &[u8], slots: u32, rows: u32, bytes: &[u8; MANY]) {
+fn fill_in(
+    stdout: Stdout,
+    label: &[u8],
+    slots: u32,
+    rows: u32,
+    bytes: &[u8; MANY],
+) -> io::Result<()> {
     let mut names = [0u64; slots::MOST_NAMES];
     let mut cells = [0u32; slots::MOST_CELLS];
     let mut head = [0u32; 3];
@@ -73,7 +87,7 @@ fn fill_in(label: &[u8], slots: u32, rows: u32, bytes: &[u8; MANY]) {
         lend_lines(&mut lines, rows),
         bytes,
     );
-    say_left(label, told, &head, &lines);
+    say_left(stdout, label, told, &head, &lines)
 }
 
 // Section 1 has 1,024 entries, of which the last has the pair of the first.
@@ -83,18 +97,19 @@ fn repeat_first(bytes: &mut [u8; MANY]) {
     bytes[16380] = 0;
 }
 
-pub(crate) fn try_full() {
+pub(crate) fn try_full(stdout: Stdout) -> io::Result<()> {
     let mut bytes = [0u8; MANY];
     fill(&mut bytes);
-    fill_in(b"1,025 entries, 1,024 lines: ", 4096, 1024, &bytes);
-    fill_in(b"1,025 entries, 1,024 slots: ", 1024, 1024, &bytes);
-    fill_in(b"1,025 entries, one slot: ", 1, 2, &bytes);
-    fill_in(b"1,025 entries, no line: ", 1, 0, &bytes);
+    fill_in(stdout, b"1,025 entries, 1,024 lines: ", 4096, 1024, &bytes)?;
+    fill_in(stdout, b"1,025 entries, 1,024 slots: ", 1024, 1024, &bytes)?;
+    fill_in(stdout, b"1,025 entries, one slot: ", 1, 2, &bytes)?;
+    fill_in(stdout, b"1,025 entries, no line: ", 1, 0, &bytes)?;
     repeat_first(&mut bytes);
     fill_in(
+        stdout,
         b"1,024 entries, the last as the first: ",
         1024,
         1024,
         &bytes,
-    );
+    )
 }

@@ -3,10 +3,13 @@ use crate::say;
 use sets::lookup::lookup;
 use sets::walk::{Cursor, Given, Started};
 use slots::NULL;
+use std::io;
+use std::io::Stdout;
 use trials::print;
 
 // The lookup of (hash, key) from a table on.
 pub fn look(
+    stdout: Stdout,
     lengths: &[u32],
     bins: &[u32],
     heads: &[u32],
@@ -15,25 +18,29 @@ pub fn look(
     table: u32,
     hash: u32,
     key: u32,
-) {
-    print::number(b"lookup from ", table);
-    print::number(b" of ", hash);
-    print::number(b" ", key);
-    say::looked(lookup(
-        lengths,
-        bins,
-        heads,
-        names,
-        cells,
-        table,
-        hash as u64,
-        key as u64,
-    ));
-    print::say(b"\n");
+) -> io::Result<()> {
+    print::number(stdout, b"lookup from ", table)?;
+    print::number(stdout, b" of ", hash)?;
+    print::number(stdout, b" ", key)?;
+    say::looked(
+        stdout,
+        lookup(
+            lengths,
+            bins,
+            heads,
+            names,
+            cells,
+            table,
+            hash as u64,
+            key as u64,
+        ),
+    )?;
+    print::say(stdout, b"\n")
 }
 
 // At most n steps from a cursor, until one gives no entry.
 fn steps(
+    stdout: Stdout,
     lengths: &[u32],
     bins: &[u32],
     heads: &[u32],
@@ -41,7 +48,7 @@ fn steps(
     cells: &[u32],
     from: Cursor,
     n: u32,
-) {
+) -> io::Result<()> {
     let mut c = from;
     let mut left = n;
     while 0 < left {
@@ -50,21 +57,31 @@ fn steps(
         let answer = step.answer;
         let after = step.cursor;
         c = after;
-        say::given(answer);
-        say::cursor(after);
+        say::given(stdout, answer)?;
+        say::cursor(stdout, after)?;
         let Given::Entry(_) = answer else {
-            return;
+            return Ok(());
         };
     }
+    Ok(())
 }
 
 // One step from a cursor of these numbers.
-pub fn step(lengths: &[u32], bins: &[u32], heads: &[u32], names: &[u64], cells: &[u32], c: Cursor) {
-    steps(lengths, bins, heads, names, cells, c, 1);
+pub fn step(
+    stdout: Stdout,
+    lengths: &[u32],
+    bins: &[u32],
+    heads: &[u32],
+    names: &[u64],
+    cells: &[u32],
+    c: Cursor,
+) -> io::Result<()> {
+    steps(stdout, lengths, bins, heads, names, cells, c, 1)
 }
 
 // A walk from a table, of at most n steps.
 pub fn walk(
+    stdout: Stdout,
     lengths: &[u32],
     bins: &[u32],
     heads: &[u32],
@@ -72,21 +89,22 @@ pub fn walk(
     cells: &[u32],
     table: u32,
     n: u32,
-) {
+) -> io::Result<()> {
     let start = Cursor::start(lengths, bins, heads, names, cells, table);
     let answer = start.answer;
     let c = start.cursor;
-    print::number(b"walk from ", table);
+    print::number(stdout, b"walk from ", table)?;
     match answer {
         Started::Made => {
-            say::cursor(c);
-            steps(lengths, bins, heads, names, cells, c, n);
+            say::cursor(stdout, c)?;
+            steps(stdout, lengths, bins, heads, names, cells, c, n)?;
         }
         _ => {
-            say::refused(answer);
-            say::cursor(c);
+            say::refused(stdout, answer)?;
+            say::cursor(stdout, c)?;
         }
     }
+    Ok(())
 }
 
 // A cursor of these numbers.

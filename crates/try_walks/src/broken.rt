@@ -2,38 +2,47 @@
 use crate::ask::{look, walk};
 use crate::whole::{fill, two};
 use slots::{BLACK, NEXT, NULL, put};
+use std::io;
+use std::io::Stdout;
 use trials::print;
 
 // A lookup of a key with hash 0 and a walk of a set of one table, whose one bin has this word.
-fn word(w: u32, heads: &[u32], names: &[u64], cells: &[u32], key: u32) {
+fn word(
+    stdout: Stdout,
+    w: u32,
+    heads: &[u32],
+    names: &[u64],
+    cells: &[u32],
+    key: u32,
+) -> io::Result<()> {
     let lengths = [1u32];
     let bins = [w];
-    print::number(b"word ", w);
-    print::say(b"\n");
-    look(&lengths, &bins, heads, names, cells, 0, 0, key);
-    walk(&lengths, &bins, heads, names, cells, 0, 3);
+    print::number(stdout, b"word ", w)?;
+    print::say(stdout, b"\n")?;
+    look(stdout, &lengths, &bins, heads, names, cells, 0, 0, key)?;
+    walk(stdout, &lengths, &bins, heads, names, cells, 0, 3)
 }
 
-fn small_words(heads: &[u32], names: &[u64], cells: &[u32]) {
-    word(0, heads, names, cells, 1);
-    word(1, heads, names, cells, 1);
-    word(2, heads, names, cells, 1);
-    word(3, heads, names, cells, 1);
-    word(4, heads, names, cells, 1);
-    word(4097, heads, names, cells, 1);
-    word(4098, heads, names, cells, 1);
-    word(4099, heads, names, cells, 1);
-    word(8193, heads, names, cells, 1);
-    word(8194, heads, names, cells, 1);
-    word(NULL, heads, names, cells, 1);
+fn small_words(stdout: Stdout, heads: &[u32], names: &[u64], cells: &[u32]) -> io::Result<()> {
+    word(stdout, 0, heads, names, cells, 1)?;
+    word(stdout, 1, heads, names, cells, 1)?;
+    word(stdout, 2, heads, names, cells, 1)?;
+    word(stdout, 3, heads, names, cells, 1)?;
+    word(stdout, 4, heads, names, cells, 1)?;
+    word(stdout, 4097, heads, names, cells, 1)?;
+    word(stdout, 4098, heads, names, cells, 1)?;
+    word(stdout, 4099, heads, names, cells, 1)?;
+    word(stdout, 8193, heads, names, cells, 1)?;
+    word(stdout, 8194, heads, names, cells, 1)?;
+    word(stdout, NULL, heads, names, cells, 1)
 }
 
 // A bin's word at each edge of what two slots and one header, whose tree is slot 1, allow. Moved is in the last table.
-pub fn words() {
-    print::say(b"two slots and one header\n");
+pub fn words(stdout: Stdout) -> io::Result<()> {
+    print::say(stdout, b"two slots and one header\n")?;
     let heads = [1u32, 1, 1];
     let names = [0u64, 0, 0, 1];
-    small_words(&heads, &names, &two());
+    small_words(stdout, &heads, &names, &two())
 }
 
 // The last of 4,096 slots is used.
@@ -53,18 +62,18 @@ fn wide_heads() -> [u32; 12288] {
     heads
 }
 
-fn wide_words(heads: &[u32], names: &[u64], cells: &[u32]) {
-    word(4097, heads, names, cells, 0);
-    word(4098, heads, names, cells, 0);
-    word(8193, heads, names, cells, 0);
-    word(8194, heads, names, cells, 0);
+fn wide_words(stdout: Stdout, heads: &[u32], names: &[u64], cells: &[u32]) -> io::Result<()> {
+    word(stdout, 4097, heads, names, cells, 0)?;
+    word(stdout, 4098, heads, names, cells, 0)?;
+    word(stdout, 8193, heads, names, cells, 0)?;
+    word(stdout, 8194, heads, names, cells, 0)
 }
 
 // The words that name the last slot, the first header, the last header, and none.
-pub fn widest() {
-    print::say(b"4096 slots and 4096 headers\n");
+pub fn widest(stdout: Stdout) -> io::Result<()> {
+    print::say(stdout, b"4096 slots and 4096 headers\n")?;
     let names = [0u64; 8192];
-    wide_words(&wide_heads(), &names, &wide_cells());
+    wide_words(stdout, &wide_heads(), &names, &wide_cells())
 }
 
 // One slot.
@@ -75,23 +84,23 @@ fn one() -> [u32; 7] {
 }
 
 // A tree over one slot whose header has these words.
-fn header(root: u32, first: u32) {
+fn header(stdout: Stdout, root: u32, first: u32) -> io::Result<()> {
     let heads = [root, first, 1];
     let names = [0u64, 0];
-    print::number(b"root ", root);
-    print::number(b" first ", first);
-    print::say(b"\n");
-    word(4098, &heads, &names, &one(), 0);
+    print::number(stdout, b"root ", root)?;
+    print::number(stdout, b" first ", first)?;
+    print::say(stdout, b"\n")?;
+    word(stdout, 4098, &heads, &names, &one(), 0)
 }
 
 // Lookup reads a header's root alone, the walk its first alone: a null root, a null first, and each out of range.
-pub fn headers() {
-    print::say(b"headers\n");
-    header(0, 0);
-    header(0, NULL);
-    header(NULL, 0);
-    header(1, 0);
-    header(0, 1);
+pub fn headers(stdout: Stdout) -> io::Result<()> {
+    print::say(stdout, b"headers\n")?;
+    header(stdout, 0, 0)?;
+    header(stdout, 0, NULL)?;
+    header(stdout, NULL, 0)?;
+    header(stdout, 1, 0)?;
+    header(stdout, 0, 1)
 }
 
 // A list of two, from slot 0, the last of which has this next link.
@@ -102,27 +111,34 @@ fn linked_cells(next: u32) -> [u32; 14] {
     cells
 }
 
-fn ask_linked(lengths: &[u32], bins: &[u32], heads: &[u32], names: &[u64], cells: &[u32]) {
-    look(lengths, bins, heads, names, cells, 0, 0, 1);
-    look(lengths, bins, heads, names, cells, 0, 0, 2);
-    walk(lengths, bins, heads, names, cells, 0, 5);
+fn ask_linked(
+    stdout: Stdout,
+    lengths: &[u32],
+    bins: &[u32],
+    heads: &[u32],
+    names: &[u64],
+    cells: &[u32],
+) -> io::Result<()> {
+    look(stdout, lengths, bins, heads, names, cells, 0, 0, 1)?;
+    look(stdout, lengths, bins, heads, names, cells, 0, 0, 2)?;
+    walk(stdout, lengths, bins, heads, names, cells, 0, 5)
 }
 
-fn linked(next: u32) {
+fn linked(stdout: Stdout, next: u32) -> io::Result<()> {
     let lengths = [1u32];
     let bins = [2u32];
     let heads = [0u32; 0];
     let names = [0u64, 0, 0, 1];
-    print::number(b"next ", next);
-    print::say(b"\n");
-    ask_linked(&lengths, &bins, &heads, &names, &linked_cells(next));
+    print::number(stdout, b"next ", next)?;
+    print::say(stdout, b"\n")?;
+    ask_linked(stdout, &lengths, &bins, &heads, &names, &linked_cells(next))
 }
 
 // A list that ends, one that goes round, and one whose link names no slot. A step reads one slot, so a ring is walked for ever.
-pub fn links() {
-    print::say(b"lists\n");
-    linked(NULL);
-    linked(0);
-    linked(1);
-    linked(2);
+pub fn links(stdout: Stdout) -> io::Result<()> {
+    print::say(stdout, b"lists\n")?;
+    linked(stdout, NULL)?;
+    linked(stdout, 0)?;
+    linked(stdout, 1)?;
+    linked(stdout, 2)
 }

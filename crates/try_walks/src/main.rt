@@ -7,14 +7,17 @@ mod broken;
 mod say;
 mod whole;
 
-fn main() {
-    whole::worked();
-    whole::mixed();
-    whole::deep();
-    broken::words();
-    broken::widest();
-    broken::headers();
-    broken::links();
-    bounds::cursors();
-    bounds::tables();
+use std::io;
+
+fn main(rt: HostRuntime) -> io::Result<()> {
+    let stdout = rt.stdout();
+    whole::worked(stdout)?;
+    whole::mixed(stdout)?;
+    whole::deep(stdout)?;
+    broken::words(stdout)?;
+    broken::widest(stdout)?;
+    broken::headers(stdout)?;
+    broken::links(stdout)?;
+    bounds::cursors(stdout)?;
+    bounds::tables(stdout)
 }

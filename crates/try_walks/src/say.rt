@@ -2,46 +2,49 @@
 use sets::lookup::Looked;
 use sets::walk::{Cursor, Given, Started};
 use slots::NULL;
+use std::io;
+use std::io::Stdout;
 use trials::print::{answer, answer_or, number, say};
 
 // A link: null, or the slot's number.
-fn link(words: &[u8], value: u32) {
+fn link(stdout: Stdout, words: &[u8], value: u32) -> io::Result<()> {
     if value == NULL {
-        say(words);
-        say(b"null");
+        say(stdout, words)?;
+        say(stdout, b"null")?;
     } else {
-        number(words, value);
+        number(stdout, words, value)?;
     }
+    Ok(())
 }
 
 // The cursor's base, depth, eight indexes and last slot.
-pub fn cursor(c: Cursor) {
+pub fn cursor(stdout: Stdout, c: Cursor) -> io::Result<()> {
     let indexes = c.indexes;
-    number(b" base ", c.base);
-    number(b" depth ", c.depth);
-    say(b" indexes");
-    number(b" ", indexes[0]);
-    number(b" ", indexes[1]);
-    number(b" ", indexes[2]);
-    number(b" ", indexes[3]);
-    number(b" ", indexes[4]);
-    number(b" ", indexes[5]);
-    number(b" ", indexes[6]);
-    number(b" ", indexes[7]);
-    link(b" last ", c.last);
-    say(b"\n");
+    number(stdout, b" base ", c.base)?;
+    number(stdout, b" depth ", c.depth)?;
+    say(stdout, b" indexes")?;
+    number(stdout, b" ", indexes[0])?;
+    number(stdout, b" ", indexes[1])?;
+    number(stdout, b" ", indexes[2])?;
+    number(stdout, b" ", indexes[3])?;
+    number(stdout, b" ", indexes[4])?;
+    number(stdout, b" ", indexes[5])?;
+    number(stdout, b" ", indexes[6])?;
+    number(stdout, b" ", indexes[7])?;
+    link(stdout, b" last ", c.last)?;
+    say(stdout, b"\n")
 }
 
-pub fn given(given: Given) {
-    answer_or(b"", b"slot ", b"done", given.answer());
+pub fn given(stdout: Stdout, given: Given) -> io::Result<()> {
+    answer_or(stdout, b"", b"slot ", b"done", given.answer())
 }
 
-pub fn looked(looked: Looked) {
+pub fn looked(stdout: Stdout, looked: Looked) -> io::Result<()> {
     let counted = looked.counted();
     let answer = counted.answer;
-    answer_or(b": ", b"at ", b"none", answer);
+    answer_or(stdout, b": ", b"at ", b"none", answer)
 }
 
-pub fn refused(started: Started) {
-    answer(b": ", b"", started.answer());
+pub fn refused(stdout: Stdout, started: Started) -> io::Result<()> {
+    answer(stdout, b": ", b"", started.answer())
 }

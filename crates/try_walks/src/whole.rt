@@ -1,6 +1,8 @@
 // Whole sets: the rules' worked example, lists and trees in one table, and Moved bins down to table 7. A slot's key is its number.
 use crate::ask::{look, walk};
 use slots::{BLACK, LEFT, NEXT, NULL, PARENT, PLACE, PREV, RED, RIGHT, STATE, put};
+use std::io;
+use std::io::Stdout;
 use trials::print;
 
 // The place of slot i, which is its number, and its state.
@@ -43,25 +45,32 @@ fn eight() -> [u32; 56] {
     cells
 }
 
-fn ask_worked(lengths: &[u32], bins: &[u32], heads: &[u32], names: &[u64], cells: &[u32]) {
-    walk(lengths, bins, heads, names, cells, 0, 20);
-    walk(lengths, bins, heads, names, cells, 1, 20);
-    walk(lengths, bins, heads, names, cells, 2, 20);
-    look(lengths, bins, heads, names, cells, 0, 6, 5);
-    look(lengths, bins, heads, names, cells, 0, 6, 4);
-    look(lengths, bins, heads, names, cells, 1, 1, 0);
-    look(lengths, bins, heads, names, cells, 2, 1, 0);
+fn ask_worked(
+    stdout: Stdout,
+    lengths: &[u32],
+    bins: &[u32],
+    heads: &[u32],
+    names: &[u64],
+    cells: &[u32],
+) -> io::Result<()> {
+    walk(stdout, lengths, bins, heads, names, cells, 0, 20)?;
+    walk(stdout, lengths, bins, heads, names, cells, 1, 20)?;
+    walk(stdout, lengths, bins, heads, names, cells, 2, 20)?;
+    look(stdout, lengths, bins, heads, names, cells, 0, 6, 5)?;
+    look(stdout, lengths, bins, heads, names, cells, 0, 6, 4)?;
+    look(stdout, lengths, bins, heads, names, cells, 1, 1, 0)?;
+    look(stdout, lengths, bins, heads, names, cells, 2, 1, 0)
 }
 
 // Lengths 2, 4, 8; Moved: both bins of table 0, bins 0 and 2 of table 1; a list of one in each other bin that the walk comes to. Two slots
 // are in no bin.
-pub fn worked() {
-    print::say(b"worked example\n");
+pub fn worked(stdout: Stdout) -> io::Result<()> {
+    print::say(stdout, b"worked example\n")?;
     let lengths = [2u32, 4, 8];
     let bins = [1u32, 1, 1, 2, 1, 3, 4, 0, 5, 0, 6, 0, 7, 0];
     let heads = [0u32; 0];
     let names = [1u64, 0, 3, 1, 0, 2, 2, 3, 4, 4, 6, 5, 0, 6, 0, 7];
-    ask_worked(&lengths, &bins, &heads, &names, &eight());
+    ask_worked(stdout, &lengths, &bins, &heads, &names, &eight())
 }
 
 // A list of three from slot 0, a tree of three whose root is slot 4 and whose first is slot 5, and a list of one.
@@ -83,24 +92,31 @@ fn mixed_cells() -> [u32; 49] {
     cells
 }
 
-fn ask_mixed(lengths: &[u32], bins: &[u32], heads: &[u32], names: &[u64], cells: &[u32]) {
-    walk(lengths, bins, heads, names, cells, 0, 20);
-    look(lengths, bins, heads, names, cells, 0, 8, 2);
-    look(lengths, bins, heads, names, cells, 0, 8, 3);
-    look(lengths, bins, heads, names, cells, 0, 9, 5);
-    look(lengths, bins, heads, names, cells, 0, 9, 4);
-    look(lengths, bins, heads, names, cells, 0, 2, 0);
-    look(lengths, bins, heads, names, cells, 0, 3, 6);
+fn ask_mixed(
+    stdout: Stdout,
+    lengths: &[u32],
+    bins: &[u32],
+    heads: &[u32],
+    names: &[u64],
+    cells: &[u32],
+) -> io::Result<()> {
+    walk(stdout, lengths, bins, heads, names, cells, 0, 20)?;
+    look(stdout, lengths, bins, heads, names, cells, 0, 8, 2)?;
+    look(stdout, lengths, bins, heads, names, cells, 0, 8, 3)?;
+    look(stdout, lengths, bins, heads, names, cells, 0, 9, 5)?;
+    look(stdout, lengths, bins, heads, names, cells, 0, 9, 4)?;
+    look(stdout, lengths, bins, heads, names, cells, 0, 2, 0)?;
+    look(stdout, lengths, bins, heads, names, cells, 0, 3, 6)
 }
 
 // One table of four bins: a list of three, a tree of three, nothing, and a list of one.
-pub fn mixed() {
-    print::say(b"lists and a tree\n");
+pub fn mixed(stdout: Stdout) -> io::Result<()> {
+    print::say(stdout, b"lists and a tree\n")?;
     let lengths = [4u32];
     let bins = [2u32, 4098, 0, 8];
     let heads = [4u32, 5, 3];
     let names = [0u64, 0, 4, 1, 8, 2, 1, 3, 5, 4, 9, 5, 3, 6];
-    ask_mixed(&lengths, &bins, &heads, &names, &mixed_cells());
+    ask_mixed(stdout, &lengths, &bins, &heads, &names, &mixed_cells())
 }
 
 // Table k begins at its length less one. Its bin 0 is Moved, down to table 6; its other bin that the walk comes to has slot k.
@@ -124,21 +140,28 @@ fn deep_bins() -> [u32; 255] {
     bins
 }
 
-fn ask_deep(lengths: &[u32], bins: &[u32], heads: &[u32], names: &[u64], cells: &[u32]) {
-    walk(lengths, bins, heads, names, cells, 0, 20);
-    walk(lengths, bins, heads, names, cells, 6, 20);
-    look(lengths, bins, heads, names, cells, 0, 0, 0);
-    look(lengths, bins, heads, names, cells, 0, 64, 7);
-    look(lengths, bins, heads, names, cells, 0, 32, 6);
-    look(lengths, bins, heads, names, cells, 7, 64, 7);
-    look(lengths, bins, heads, names, cells, 0, 128, 0);
-    look(lengths, bins, heads, names, cells, 0, 64, 6);
+fn ask_deep(
+    stdout: Stdout,
+    lengths: &[u32],
+    bins: &[u32],
+    heads: &[u32],
+    names: &[u64],
+    cells: &[u32],
+) -> io::Result<()> {
+    walk(stdout, lengths, bins, heads, names, cells, 0, 20)?;
+    walk(stdout, lengths, bins, heads, names, cells, 6, 20)?;
+    look(stdout, lengths, bins, heads, names, cells, 0, 0, 0)?;
+    look(stdout, lengths, bins, heads, names, cells, 0, 64, 7)?;
+    look(stdout, lengths, bins, heads, names, cells, 0, 32, 6)?;
+    look(stdout, lengths, bins, heads, names, cells, 7, 64, 7)?;
+    look(stdout, lengths, bins, heads, names, cells, 0, 128, 0)?;
+    look(stdout, lengths, bins, heads, names, cells, 0, 64, 6)
 }
 
-pub fn deep() {
-    print::say(b"moved down to table 7\n");
+pub fn deep(stdout: Stdout) -> io::Result<()> {
+    print::say(stdout, b"moved down to table 7\n")?;
     let lengths = [1u32, 2, 4, 8, 16, 32, 64, 128];
     let heads = [0u32; 0];
     let names = [0u64, 0, 1, 1, 2, 2, 4, 3, 8, 4, 16, 5, 32, 6, 64, 7];
-    ask_deep(&lengths, &deep_bins(), &heads, &names, &eight());
+    ask_deep(stdout, &lengths, &deep_bins(), &heads, &names, &eight())
 }

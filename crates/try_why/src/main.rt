@@ -11,9 +11,12 @@ mod twos;
 mod ways;
 mod words;
 
-fn main() {
+use std::io;
+
+fn main(rt: HostRuntime) -> io::Result<()> {
+    let stdout = rt.stdout();
     let mut counts = [0u32; 348];
     trees::try_small(&mut counts);
     trees::try_large(&mut counts);
-    print::report(&counts);
+    print::report(stdout, &counts)
 }
