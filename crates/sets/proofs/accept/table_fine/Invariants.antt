@@ -8,7 +8,7 @@ use Rattle.sets.proofs.accept.table_fine.Given as goal
 
 abbrev pub invariant-loop-i : goal.invariant-loop-i
 invariant-loop-i l =
-    let s : Set = record { l.lengths = l.lengths; l.bins = l.bins; l.heads = l.heads; l.names = l.names; l.cells = l.cells } in
+    let s : Set = record { lengths = l.lengths; bins = l.bins; heads = l.heads; names = l.names; cells = l.cells } in
     (table_fine l.i s l.rest ≡ table_fine (get_or l.lengths 0 0) s l.visits) × (l.i ≤ get_or l.lengths 0 0) × (l.rest < 2 ^ 64)
 
 abbrev pub decreases-loop-i : goal.decreases-loop-i

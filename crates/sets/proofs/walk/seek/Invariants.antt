@@ -13,7 +13,7 @@ use Rattle.sets.proofs.walk.seek.Given as goal
 
 abbrev pub invariant-loop-i : goal.invariant-loop-i
 invariant-loop-i l =
-    let s : Set = record { l.lengths = l.lengths; l.bins = l.bins; l.heads = l.heads; l.names = l.names; cells = [] } in
+    let s : Set = record { lengths = l.lengths; bins = l.bins; heads = l.heads; names = l.names; cells = [] } in
     Going s l.base (walk_point l.depth l.initial.indexes) (walk_point l.d l.indexes) × (l.n ≡ length l.names / 2) × (l.h ≡ length l.heads / 3)
 
 abbrev pub decreases-loop-i : goal.decreases-loop-i
