@@ -13,15 +13,19 @@ returns-then-not-known c =
 
 pub run-requires : goal.run-requires
 run-requires c =
-    let k = sym c.calls_fit-known.ensures ∙ c.if-not-known.false in record { ready = ready _ (ap sound_of (sym c.in-Yes.is) ∙ c.sound_index-verdict.ensures); calls_value = known_so_many _ c.calls_in-m.ensures (all_known _ _ k) }
+    let k = sym c.calls_fit-known.ensures ∙ c.if-not-known.false in
+    record {
+      ready = ready _ (ap sound_of (sym c.in-Yes.is) ∙ c.sound_index-verdict.ensures);
+      calls_value = known_so_many _ c.calls_in-m.ensures (all_known _ _ k);
+    }
 
 pub overflow_sub-result : goal.overflow_sub-result
 overflow_sub-result c =
-    omega (arith, c.length_of-after.ensures, c.length_of-before.ensures, c.run.ensures.lines_in_bounds.0)
+    omega (arith, c.length_of-after.ensures, c.length_of-before.ensures, c.run.ensures.lines_in_bounds)
 
 pub overflow_cast-result : goal.overflow_cast-result
 overflow_cast-result c =
-    omega (arith, c.length_of-after.ensures, c.run.ensures.lines_in_bounds.1)
+    omega (arith, c.length_of-after.ensures, c.run.ensures.lines_bound)
 
 pub returns-in-Unfit : goal.returns-in-Unfit
 returns-in-Unfit c =

@@ -23,4 +23,4 @@ loop-k-preserved c =
 pub returns : goal.returns
 returns c =
     let i = c.loop-k.invariant in
-    (turn_end i c.loop-k-test.false, (i.more, turn_most i))
+    record { answers_after = turn_end i c.loop-k-test.false; lines_in_bounds = i.more; lines_bound = turn_most i }

@@ -18,7 +18,14 @@ slice_bounds-save_slot-end c =
 
 pub save_slot-kept-requires : goal.save_slot-kept-requires
 save_slot-kept-requires c =
-    turn_ready c.loop-i.invariant c.loop-i-test.true
+    let r = turn_ready c.loop-i.invariant c.loop-i-test.true in
+    record {
+      names2_len_bound = r.0;
+      null_bound = r.1.0;
+      i_lt_most_slots = r.1.1.0;
+      kept_le_i = r.1.1.1.0;
+      slot_ready = r.1.1.1.1;
+    }
 
 pub loop-i-preserved : goal.loop-i-preserved
 loop-i-preserved c =

@@ -23,7 +23,7 @@ unfolding sum
 returns-then-not-comes_before c =
     rank_here _ _ _ _ _ _ _ _ c.loop-left-test.true c.if-i.false c.name-at.ensures c.name-own.ensures c.get-l.ensures
     c.comes_before.ensures c.word-w.ensures c.comes_before-else-comes_before.ensures
-    c.if-comes_before.false c.if-not-comes_before.true c.wrapping_add_u32.ensures
+    c.if-comes_before.false c.if-not-comes_before.true c.wrapping_add_u32.ensures.value
     ∙ c.loop-left.invariant.0
 
 pub loop-left-preserved : goal.loop-left-preserved
@@ -31,8 +31,8 @@ unfolding sum
 loop-left-preserved c = (
   rank_right _ _ _ _ _ _ _ _ c.loop-left-test.true c.if-i.false c.name-at.ensures c.name-own.ensures c.get-l.ensures
       c.comes_before.ensures c.word-w.ensures c.comes_before-else-comes_before.ensures
-      c.if-comes_before.false c.if-not-comes_before.false c.wrapping_add_u32-else-comes_before.ensures
-      c.wrapping_add_u32-m.ensures c.get-i.ensures
+      c.if-comes_before.false c.if-not-comes_before.false c.wrapping_add_u32-else-comes_before.ensures.value
+      c.wrapping_add_u32-m.ensures.value c.get-i.ensures
       ∙ c.loop-left.invariant.0,
   search rules,
 )

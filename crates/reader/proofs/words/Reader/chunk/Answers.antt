@@ -22,7 +22,7 @@ take-next-requires c =
 
 pub loop-i-preserved-in-Unsaid : goal.loop-i-preserved-in-Unsaid
 loop-i-preserved-in-Unsaid c =
-    turn_on c.loop-i.invariant c.loop-i-test.true (omega (arith, c.type_inv.chunk.given c.loop-i.i))
+    turn_on c.loop-i.invariant c.loop-i-test.true (omega (arith, c.type_inv.chunk c.loop-i.i))
     (ap note_of c.in-Unsaid.is) c.take-next.ensures
     c.take-next.auto.names
     c.take-next.auto.cells
