@@ -1,29 +1,27 @@
 -- A call leaves a fit and sound index, so that the next one needs no check; and no call frees a slot but the one that it removes, so that a
 -- search for a free slot may go on where the last one ended.
-use mathlib.Core.Path.{◌≡◌, refl, ap, sym, ◌∙◌, subst}
+use mathlib.Core.Path.{◌≡◌, refl, sym, ◌∙◌, subst}
 use mathlib.Core.Logic.{◌≢◌, ◌⊎◌, inl, inr}
 use mathlib.Core.Bool.{Bool, true, false}
 use mathlib.Core.List.{List}
-use Prim.Native.Nat.{ℕ, zero, suc, ◌+◌, ◌-◌, ◌*◌, ◌<◌, ◌≤◌}
+use Prim.Native.Nat.{ℕ, zero, suc, ◌+◌, ◌-◌, ◌<◌, ◌≤◌}
 use native.Mathlib.Decide.{ℕ_discrete, dec_lt, dec_le}
 use native.Mathlib.Omega.{arith}
-use lib.ListN.{length}
 use lib.Dec.{eqb, leb, ltb}
 use borrow.Author.Tests.{eq-eqb, ne_eqb, le-leb, ltb-true, ltb-false}
-use Rattle.slots.specs.Words.{null, pick, place, state, free, fields, cell, most_slots}
-use Rattle.slots.specs.Answers.{Answer, Value, some, none, given, refused}
+use Rattle.slots.specs.Words.{null, pick, state, free, fields, cell, most_slots}
+use Rattle.slots.specs.Answers.{Answer, Value, some, none, given}
 use Rattle.slots.proofs.Laws.{number, value, word_out_lem}
 use Rattle.tree_rules.specs.Find.{slots_of}
 use Rattle.tree_rules.specs.Tree.{Tree, slots, times}
-use Rattle.redblack.specs.Balance.{OneFewer}
 use Rattle.index_rules.specs.Live.{Live, Fit, count_of}
 use Rattle.index_rules.specs.Sound.{Sound, sound}
-use Rattle.index_rules.specs.Index.{Index, FitIndex, Outcome, fits_index, JournalLine, insert_kind, remove_kind, noted_kind, replace_kind}
-use Rattle.index_rules.specs.Index.{length_of, lines_of, line_of}
-use Rattle.index_rules.specs.Insert.{free_from, lowest_free, sought_in, grown, inserts}
+use Rattle.index_rules.specs.Index.{Index, FitIndex, Outcome, fits_index, JournalLine}
+use Rattle.index_rules.specs.Index.{length_of, line_of}
+use Rattle.index_rules.specs.Insert.{free_from, lowest_free, sought_in, inserts}
 use Rattle.index_rules.specs.Present.{where_present}
-use Rattle.index_rules.specs.Remove.{shrunk, removes, after_remove}
-use Rattle.index_rules.specs.Replace.{placed_at, replaces, after_replace}
+use Rattle.index_rules.specs.Remove.{removes, after_remove}
+use Rattle.index_rules.specs.Replace.{replaces, after_replace}
 use Rattle.index_rules.specs.Rollback.{Undo, stays, misfit, undone, undone_into, unrolled, rolls}
 use Rattle.index_rules.specs.Checked.{NoneBelow, lesser, raised_by, lowered_by, floor_after, lowest_from, on_checked, inserts_sound}
 use Rattle.index_rules.specs.Checked.{present_sound, removes_sound, replaces_sound, slot_in, freed_by, unrolled_from, rolls_sound}

@@ -5,7 +5,7 @@ use mathlib.Core.List.{List, map}
 use Prim.Native.Nat.{ℕ}
 use native.Mathlib.Omega.{arith}
 use Rattle.slots.specs.Pairs.{pair, pair_of}
-use Rattle.slots.specs.Answers.{none, given, nothing, refused}
+use Rattle.slots.specs.Answers.{given, nothing, refused}
 use Rattle.slots.proofs.Laws.{number, none_some, value}
 use Rattle.tree_rules.specs.Find.{Search, found, slots_of}
 use Rattle.tree_rules.proofs.Claims.{looks_squared}

@@ -1,6 +1,5 @@
 -- The test of fitness holds exactly of fit words: half the names is the only capacity that can be.
 use mathlib.Core.Path.{◌≡◌, refl, sym, ◌∙◌}
-use mathlib.Core.Logic.{◌≢◌}
 use mathlib.Core.Bool.{Bool, true, false, false≢true}
 use Prim.Native.Nat.{◌*◌}
 use native.Mathlib.Omega.{arith}

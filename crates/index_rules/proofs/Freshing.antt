@@ -10,8 +10,8 @@ use native.Mathlib.Decide.{ℕ_discrete, dec_lt}
 use native.Mathlib.Omega.{arith}
 use lib.ListN.{length, get_or, set, length-set, get_or-eq_default}
 use lib.Seq.{get_or-set_same, get_or-set_other}
-use lib.Dec.{ltb, leb}
-use borrow.Author.Tests.{eqb-true, leb-true, eq-eqb, le-leb}
+use lib.Dec.{ltb}
+use borrow.Author.Tests.{eq-eqb}
 use Rattle.slots.specs.Words.{null, place, state, parent, left, right, prev, next, free, fields, parts, cell, name_of, rename, hash_part}
 use Rattle.slots.specs.Words.{key_part}
 use Rattle.slots.specs.Answers.{given, refused}
@@ -22,7 +22,7 @@ use Rattle.tree_rules.specs.Sizes.{size_word, size_in}
 use Rattle.tree_rules.proofs.Counting.{exactly_length}
 use Rattle.index_rules.specs.Live.{Live, Fit, fits, root_of, first_of, count_of}
 use Rattle.index_rules.specs.Sound.{Sound, Cleared, used}
-use Rattle.index_rules.specs.Index.{Index, FitIndex, line_words, lines_of, at}
+use Rattle.index_rules.specs.Index.{Index, FitIndex, lines_of, at}
 use Rattle.index_rules.specs.Insert.{headed}
 use Rattle.index_rules.specs.Remove.{wiped}
 use Rattle.index_rules.specs.Fresh.{FitLengths, fits_lengths, bared, freshes}

@@ -3,16 +3,16 @@
 use mathlib.Core.Path.{◌≡◌, refl, ap, sym, ◌∙◌}
 use mathlib.Core.Logic.{◌≢◌, ◌⊎◌, inl, inr}
 use mathlib.Core.Bool.{true}
-use mathlib.Core.List.{List, [], ◌∷◌, ◌++◌}
+use mathlib.Core.List.{List, ◌∷◌, ◌++◌}
 use Prim.Native.Nat.{ℕ, zero, suc, ◌+◌, ◌-◌, ◌<◌, ◌≤◌}
 use native.Mathlib.Omega.{arith}
 use lib.ListN.{length}
 use Rattle.slots.specs.Words.{null, state, parent, left, right, prev, next, cell, Colour, black, red, code}
-use Rattle.slots.specs.Pairs.{Pair, pair_of, Less}
+use Rattle.slots.specs.Pairs.{Pair, Less}
 use Rattle.slots.specs.Answers.{nothing}
 use Rattle.tree_rules.specs.Find.{slots_of}
 use Rattle.tree_rules.specs.Check.{test, first_failing, passed, LinksNamed, Walks, absent, both, Back}
-use Rattle.tree_rules.specs.Tree.{Tree, leaf, node, top, colour, slots, times, Hangs, Below, Rising, empty, rise, Calm, darkly, redly}
+use Rattle.tree_rules.specs.Tree.{Tree, leaf, node, top, colour, slots, times, Hangs, Rising, Calm, darkly, redly}
 use Rattle.tree_rules.specs.Tree.Hangs.{none as hangsNone, some as hangsSome}
 use Rattle.tree_rules.specs.Chain.{Chain, ended, linked}
 use Rattle.tree_rules.specs.Claims.{Tests}

@@ -7,7 +7,7 @@ use mathlib.Core.List.{List}
 use Prim.Native.Nat.{ℕ}
 use native.Mathlib.Omega.{arith}
 use Rattle.slots.specs.Words.{pick}
-use Rattle.slots.specs.Answers.{Answer, none, refused}
+use Rattle.slots.specs.Answers.{Answer, refused}
 use Rattle.slots.proofs.Laws.{number}
 use Rattle.tree_rules.specs.Find.{Search, ends, found, slots_of}
 use Rattle.tree_rules.specs.Check.{checked, walked, Walk, walk_answer, passed, failed, strayed}

@@ -1,5 +1,5 @@
 -- An empty index is written into lent slices: only their lengths decide whether they can be one.
-use Rattle.std.specs.Prelude.{Bool, ◌≡◌, ℕ, zero, suc, ◌+◌, ◌*◌, ◌≤◌, length, set, eqb, leb}
+use Rattle.std.specs.Prelude.{Bool, ◌≡◌, ℕ, zero, suc, ◌+◌, ◌*◌, ◌≤◌, length, set}
 use Rattle.slots.specs.Words.{null, pick, rename, hash_part, key_part, ◌and◌, most_lines}
 use Rattle.slots.specs.Answers.{given, refused}
 use Rattle.index_rules.specs.Live.{Live, Fit, fits}

@@ -1,8 +1,6 @@
 use mathlib.Core.Path.{◌∙◌}
 use native.Mathlib.Omega.{arith}
 use Rattle.index.proofs.Freshening.{bare_on, bare_end}
-use Rattle.index.proofs.fresh.bare.Reads as reads
-use Rattle.index.proofs.fresh.bare.Lts as lts
 use Rattle.index.proofs.fresh.bare.Goals as goal
 
 pub loop-k-preserved : goal.loop-k-preserved

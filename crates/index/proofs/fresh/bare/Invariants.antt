@@ -4,8 +4,6 @@ use Prim.Native.Nat.{◌≤◌}
 use lib.ListN.{length}
 use Rattle.index_rules.specs.Live.{lent_tree}
 use Rattle.index_rules.specs.Fresh.{bared}
-use Rattle.index.proofs.fresh.bare.Reads as reads
-use Rattle.index.proofs.fresh.bare.Lts as lts
 use Rattle.index.proofs.fresh.bare.Given as goal
 
 abbrev pub invariant-loop-k : goal.invariant-loop-k

@@ -1,10 +1,6 @@
 -- Each way out closes by the tests that led there.
 use borrow.Author.Tests.{not-true, not-false}
 use Rattle.index_rules.specs.Fresh.{fits_lengths}
-use Rattle.index.proofs.fresh.fit_lengths.Reads as reads
-use Rattle.index.proofs.fresh.fit_lengths.Lts as lts
-use Rattle.index.proofs.fit.fit.Reads as fit-reads
-use Rattle.index.proofs.journal.is_whole.Reads as is-whole-reads
 use Rattle.index.proofs.fresh.fit_lengths.Goals as goal
 
 pub returns-then-not-tree : goal.returns-then-not-tree

@@ -1,15 +1,6 @@
 -- What is read is read before a write, and the writes are those of `grown`, in order.
 use Rattle.index.proofs.Growing.{grow_wide, grow_null, grow, follower, top}
 use Rattle.index_rules.specs.Live.{lent_tree}
-use Rattle.index.proofs.grow.grow.Reads as reads
-use Rattle.index.proofs.grow.grow.Lts as lts
-use Rattle.index.proofs.grow.head_put.Reads as head-put-reads
-use Rattle.index.proofs.grow.put_pair.Reads as put-pair-reads
-use Rattle.index.proofs.grow.seat.Reads as seat-reads
-use Rattle.links.proofs.hang.hang_slot.Reads as hang-slot-reads
-use Rattle.slots.proofs.get.Reads as get-reads
-use Rattle.slots.proofs.put.Reads as put_reads
-use Rattle.slots.proofs.word.Reads as word-reads
 use Rattle.index.proofs.grow.grow.Goals as goal
 
 pub returns-then-names-gt-MOST_NAMES : goal.returns-then-names-gt-MOST_NAMES

@@ -1,5 +1,4 @@
 use mathlib.Core.Path.{refl}
-use Prim.Native.Nat.{◌-◌}
 use Rattle.index.proofs.Growing.{free_here, free_on, free_end}
 use Rattle.index.proofs.grow.lowest_free.Goals as goal
 

@@ -1,8 +1,5 @@
 -- The four writes are those of `seated`.
 use Rattle.index.proofs.Growing.{seat}
-use Rattle.index.proofs.grow.seat.Reads as reads
-use Rattle.index.proofs.grow.seat.Lts as lts
-use Rattle.slots.proofs.put.Reads as put_reads
 use Rattle.index.proofs.grow.seat.Goals as goal
 
 pub returns : goal.returns

@@ -1,11 +1,6 @@
 -- Each way out closes by the tests that led there.
 use borrow.Author.Tests.{not-true}
 use Rattle.index_rules.specs.Index.{fits_journal}
-use Rattle.index.proofs.journal.fit_journal.Reads as reads
-use Rattle.index.proofs.journal.fit_journal.Lts as lts
-use Rattle.index.proofs.journal.capacity_of.Reads as capacity-of-reads
-use Rattle.index.proofs.journal.is_whole.Reads as is-whole-reads
-use Rattle.index.proofs.journal.length_of.Reads as length-of-reads
 use Rattle.index.proofs.journal.fit_journal.Goals as goal
 
 pub returns-then-not-whole : goal.returns-then-not-whole

@@ -1,9 +1,6 @@
 -- Each way out closes by the tests that led there.
 use borrow.Author.Tests.{lt-leb, le-leb}
 use Rattle.index_rules.specs.Index.{whole_lines}
-use Rattle.index.proofs.journal.is_whole.Reads as reads
-use Rattle.index.proofs.journal.is_whole.Lts as lts
-use Rattle.index.proofs.journal.capacity_of.Reads as capacity-of-reads
 use Rattle.index.proofs.journal.is_whole.Goals as goal
 
 pub returns-then-capacity-gt-MOST_LINES : goal.returns-then-capacity-gt-MOST_LINES

@@ -1,8 +1,5 @@
 -- The six writes are those of `lined`; a line whose number is not below the length has no word.
 use Rattle.index.proofs.Writing.{line, no_line_lem}
-use Rattle.index.proofs.journal.put_line.Reads as reads
-use Rattle.index.proofs.journal.put_line.Lts as lts
-use Rattle.slots.proofs.put_wide.Reads as put-wide-reads
 use Rattle.index.proofs.journal.put_line.Goals as goal
 
 pub returns-then-lines-k : goal.returns-then-lines-k

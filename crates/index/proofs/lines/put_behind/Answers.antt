@@ -3,11 +3,6 @@ use Prim.{tt}
 use borrow.Enum.Refused.{opened}
 use Rattle.index.proofs.Asking.{sought-at, sought-not}
 use Rattle.index.proofs.Undoing.{behind_none, behind_some}
-use Rattle.index.proofs.lines.put_behind.Reads as reads
-use Rattle.index.proofs.lines.put_behind.Lts as lts
-use Rattle.index.proofs.lines.put_back.Reads as put-back-reads
-use Rattle.slots.proofs.word.Reads as word-reads
-use Rattle.tree.proofs.find.find_tree_node.Reads as find-tree-node-reads
 use Rattle.index.proofs.lines.put_behind.Goals as goal
 
 pub returns-in_default : goal.returns-in_default

@@ -1,7 +1,7 @@
 -- The loop's invariant: what is left of the slots decides whether all are fine, and with the count so far makes up the whole.
 use mathlib.Core.Path.{◌≡◌}
 use mathlib.Core.List.{[]}
-use Prim.Native.Nat.{◌+◌, ◌-◌, ◌≤◌}
+use Prim.Native.Nat.{◌+◌, ◌≤◌}
 use Rattle.tree_rules.specs.Chain.{tally}
 use Rattle.index_rules.specs.Live.{lent_tree}
 use Rattle.index_rules.specs.Sound.{used}

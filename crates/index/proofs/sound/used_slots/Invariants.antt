@@ -1,6 +1,6 @@
 -- The loop's invariant: the count so far and what is left of the slots make the whole.
 use mathlib.Core.Path.{◌≡◌}
-use Prim.Native.Nat.{◌+◌, ◌-◌, ◌≤◌}
+use Prim.Native.Nat.{◌+◌, ◌≤◌}
 use Rattle.tree_rules.specs.Chain.{tally}
 use Rattle.index_rules.specs.Sound.{used}
 use Rattle.index.proofs.sound.used_slots.Given as goal

@@ -9,12 +9,12 @@ pub returns-then-prev : goal.returns-then-prev
 unfolding links_in
 returns-then-prev c =
     elim c.if-parent.branch [
-      then-parent w ↦ elim c.if-left.branch [
-        then-left v ↦ elim c.if-right.branch [ then-right u ↦ grind (arith, common_steps) | else-right u ↦ grind (arith, common_steps) ]
+      | then-parent w ↦ elim c.if-left.branch [
+        | then-left v ↦ elim c.if-right.branch [ then-right u ↦ grind (arith, common_steps) | else-right u ↦ grind (arith, common_steps) ]
         | else-left v ↦ elim c.if-right.branch [ then-right u ↦ grind (arith, common_steps) | else-right u ↦ grind (arith, common_steps) ]
       ]
       | else-parent w ↦ elim c.if-left.branch [
-        then-left v ↦ elim c.if-right.branch [ then-right u ↦ grind (arith, common_steps) | else-right u ↦ grind (arith, common_steps) ]
+        | then-left v ↦ elim c.if-right.branch [ then-right u ↦ grind (arith, common_steps) | else-right u ↦ grind (arith, common_steps) ]
         | else-left v ↦ elim c.if-right.branch [ then-right u ↦ grind (arith, common_steps) | else-right u ↦ grind (arith, common_steps) ]
       ]
     ]
@@ -23,12 +23,12 @@ pub returns-else-prev : goal.returns-else-prev
 unfolding links_in
 returns-else-prev c =
     elim c.if-parent.branch [
-      then-parent w ↦ elim c.if-left.branch [
-        then-left v ↦ elim c.if-right.branch [ then-right u ↦ grind (arith, common_steps) | else-right u ↦ grind (arith, common_steps) ]
+      | then-parent w ↦ elim c.if-left.branch [
+        | then-left v ↦ elim c.if-right.branch [ then-right u ↦ grind (arith, common_steps) | else-right u ↦ grind (arith, common_steps) ]
         | else-left v ↦ elim c.if-right.branch [ then-right u ↦ grind (arith, common_steps) | else-right u ↦ grind (arith, common_steps) ]
       ]
       | else-parent w ↦ elim c.if-left.branch [
-        then-left v ↦ elim c.if-right.branch [ then-right u ↦ grind (arith, common_steps) | else-right u ↦ grind (arith, common_steps) ]
+        | then-left v ↦ elim c.if-right.branch [ then-right u ↦ grind (arith, common_steps) | else-right u ↦ grind (arith, common_steps) ]
         | else-left v ↦ elim c.if-right.branch [ then-right u ↦ grind (arith, common_steps) | else-right u ↦ grind (arith, common_steps) ]
       ]
     ]

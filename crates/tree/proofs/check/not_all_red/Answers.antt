@@ -9,9 +9,9 @@ pub returns-then-not-is_red-2 : goal.returns-then-not-is_red-2
 unfolding not_all_red
 returns-then-not-is_red-2 c =
     elim c.if-not-is_red.branch [
-      then-not-is_red w ↦ grind (arith, common_steps)
+      | then-not-is_red w ↦ grind (arith, common_steps)
       | else-not-is_red w ↦ elim c.if-l.branch [
-        then-l v ↦ grind (arith, common_steps)
+        | then-l v ↦ grind (arith, common_steps)
         | else-l v ↦ elim c.if-r.branch [ then-r u ↦ grind (arith, common_steps) | else-r u ↦ grind (arith, common_steps) ]
       ]
     ]
@@ -20,9 +20,9 @@ pub returns-else-not-is_red-2 : goal.returns-else-not-is_red-2
 unfolding not_all_red
 returns-else-not-is_red-2 c =
     elim c.if-not-is_red.branch [
-      then-not-is_red w ↦ grind (arith, common_steps)
+      | then-not-is_red w ↦ grind (arith, common_steps)
       | else-not-is_red w ↦ elim c.if-l.branch [
-        then-l v ↦ grind (arith, common_steps)
+        | then-l v ↦ grind (arith, common_steps)
         | else-l v ↦ elim c.if-r.branch [ then-r u ↦ grind (arith, common_steps) | else-r u ↦ grind (arith, common_steps) ]
       ]
     ]

@@ -35,7 +35,7 @@ returns-in_default t c =
     let a = c.args in
     let v : Visit a.names.now a.cells.now a.q a.i a.depth a.visits = search rules in
     let lefts : part_of c.if-l.lefts ≡ judged a.names.now a.cells.now a.sizes.now a.i a.last c.get-l.result (a.depth - 1) (a.visits - 1)
-        = elim c.if-l.branch [ then-l w ↦ search (rules, walk_null) | else-l w ↦ search rules ] in
+    = elim c.if-l.branch [ then-l w ↦ search (rules, walk_null) | else-l w ↦ search rules ] in
     search (rules, walk_left_breaks)
 
 pub returns-then-not-rising : goal.returns-then-not-rising
@@ -43,7 +43,7 @@ returns-then-not-rising t c =
     let a = c.args in
     let v : Visit a.names.now a.cells.now a.q a.i a.depth a.visits = search rules in
     let lefts : part_of c.if-l.lefts ≡ judged a.names.now a.cells.now a.sizes.now a.i a.last c.get-l.result (a.depth - 1) (a.visits - 1)
-        = elim c.if-l.branch [ then-l w ↦ search (rules, walk_null) | else-l w ↦ search rules ] in
+    = elim c.if-l.branch [ then-l w ↦ search (rules, walk_null) | else-l w ↦ search rules ] in
     search (rules, walk_falls)
 
 pub returns-in_default-rights : goal.returns-in_default-rights
@@ -51,9 +51,9 @@ returns-in_default-rights t c =
     let a = c.args in
     let v : Visit a.names.now a.cells.now a.q a.i a.depth a.visits = search rules in
     let lefts : part_of c.if-l.lefts ≡ judged a.names.now a.cells.now a.sizes.now a.i a.last c.get-l.result (a.depth - 1) (a.visits - 1)
-        = elim c.if-l.branch [ then-l w ↦ search (rules, walk_null) | else-l w ↦ search rules ] in
+    = elim c.if-l.branch [ then-l w ↦ search (rules, walk_null) | else-l w ↦ search rules ] in
     let rights : part_of c.if-r.rights ≡ judged a.names.now a.cells.now a.sizes.now a.i a.i c.get-r.result (a.depth - 1) c.in-Obeys.rest
-        = elim c.if-r.branch [ then-r w ↦ search (rules, walk_null) | else-r w ↦ search rules ] in
+    = elim c.if-r.branch [ then-r w ↦ search (rules, walk_null) | else-r w ↦ search rules ] in
     walk_right_breaks a.names.now a.cells.now a.sizes.now a.q a.last a.i a.depth a.visits v c.get-l.ensures
     (ap part_of (sym c.in-Obeys.is) ∙ lefts) c.follow-rising.ensures c.if-not-rising.false c.get-r.ensures
     (ap part_of (sym c.in_default-rights.is) ∙ rights)
@@ -63,13 +63,13 @@ returns-then-a-b t c =
     let a = c.args in
     let v : Visit a.names.now a.cells.now a.q a.i a.depth a.visits = search rules in
     let lefts : part_of c.if-l.lefts ≡ judged a.names.now a.cells.now a.sizes.now a.i a.last c.get-l.result (a.depth - 1) (a.visits - 1)
-        = elim c.if-l.branch [ then-l w ↦ search (rules, walk_null) | else-l w ↦ search rules ] in
+    = elim c.if-l.branch [ then-l w ↦ search (rules, walk_null) | else-l w ↦ search rules ] in
     let rights : part_of c.if-r.rights ≡ judged a.names.now a.cells.now a.sizes.now a.i a.i c.get-r.result (a.depth - 1) c.in-Obeys.rest
-        = elim c.if-r.branch [ then-r w ↦ search (rules, walk_null) | else-r w ↦ search rules ] in
+    = elim c.if-r.branch [ then-r w ↦ search (rules, walk_null) | else-r w ↦ search rules ] in
     let w : BothParts a.names.now a.cells.now a.sizes.now a.q a.last a.i a.depth a.visits
-        = both_parts a.names.now a.cells.now a.sizes.now a.q a.last a.i a.depth a.visits v c.get-l.ensures
-        (ap part_of (sym c.in-Obeys.is) ∙ lefts) c.follow-rising.ensures c.if-not-rising.false c.get-r.ensures
-        (ap part_of (sym c.in-Obeys-rights.is) ∙ rights) in
+    = both_parts a.names.now a.cells.now a.sizes.now a.q a.last a.i a.depth a.visits v c.get-l.ensures
+    (ap part_of (sym c.in-Obeys.is) ∙ lefts) c.follow-rising.ensures c.if-not-rising.false c.get-r.ensures
+    (ap part_of (sym c.in-Obeys-rights.is) ∙ rights) in
     walk_uneven w c.if-a-b.true
 
 pub overflow_sub-visits-2 : goal.overflow_sub-visits-2
@@ -77,13 +77,13 @@ overflow_sub-visits-2 t c =
     let a = c.args in
     let v : Visit a.names.now a.cells.now a.q a.i a.depth a.visits = search rules in
     let lefts : part_of c.if-l.lefts ≡ judged a.names.now a.cells.now a.sizes.now a.i a.last c.get-l.result (a.depth - 1) (a.visits - 1)
-        = elim c.if-l.branch [ then-l w ↦ search (rules, walk_null) | else-l w ↦ search rules ] in
+    = elim c.if-l.branch [ then-l w ↦ search (rules, walk_null) | else-l w ↦ search rules ] in
     let rights : part_of c.if-r.rights ≡ judged a.names.now a.cells.now a.sizes.now a.i a.i c.get-r.result (a.depth - 1) c.in-Obeys.rest
-        = elim c.if-r.branch [ then-r w ↦ search (rules, walk_null) | else-r w ↦ search rules ] in
+    = elim c.if-r.branch [ then-r w ↦ search (rules, walk_null) | else-r w ↦ search rules ] in
     let w : BothParts a.names.now a.cells.now a.sizes.now a.q a.last a.i a.depth a.visits
-        = both_parts a.names.now a.cells.now a.sizes.now a.q a.last a.i a.depth a.visits v c.get-l.ensures
-        (ap part_of (sym c.in-Obeys.is) ∙ lefts) c.follow-rising.ensures c.if-not-rising.false c.get-r.ensures
-        (ap part_of (sym c.in-Obeys-rights.is) ∙ rights) in
+    = both_parts a.names.now a.cells.now a.sizes.now a.q a.last a.i a.depth a.visits v c.get-l.ensures
+    (ap part_of (sym c.in-Obeys.is) ∙ lefts) c.follow-rising.ensures c.if-not-rising.false c.get-r.ensures
+    (ap part_of (sym c.in-Obeys-rights.is) ∙ rights) in
     omega (arith, w.first, w.second)
 
 pub returns-then-not-sized : goal.returns-then-not-sized
@@ -91,13 +91,13 @@ returns-then-not-sized t c =
     let a = c.args in
     let v : Visit a.names.now a.cells.now a.q a.i a.depth a.visits = search rules in
     let lefts : part_of c.if-l.lefts ≡ judged a.names.now a.cells.now a.sizes.now a.i a.last c.get-l.result (a.depth - 1) (a.visits - 1)
-        = elim c.if-l.branch [ then-l w ↦ search (rules, walk_null) | else-l w ↦ search rules ] in
+    = elim c.if-l.branch [ then-l w ↦ search (rules, walk_null) | else-l w ↦ search rules ] in
     let rights : part_of c.if-r.rights ≡ judged a.names.now a.cells.now a.sizes.now a.i a.i c.get-r.result (a.depth - 1) c.in-Obeys.rest
-        = elim c.if-r.branch [ then-r w ↦ search (rules, walk_null) | else-r w ↦ search rules ] in
+    = elim c.if-r.branch [ then-r w ↦ search (rules, walk_null) | else-r w ↦ search rules ] in
     let w : BothParts a.names.now a.cells.now a.sizes.now a.q a.last a.i a.depth a.visits
-        = both_parts a.names.now a.cells.now a.sizes.now a.q a.last a.i a.depth a.visits v c.get-l.ensures
-        (ap part_of (sym c.in-Obeys.is) ∙ lefts) c.follow-rising.ensures c.if-not-rising.false c.get-r.ensures
-        (ap part_of (sym c.in-Obeys-rights.is) ∙ rights) in
+    = both_parts a.names.now a.cells.now a.sizes.now a.q a.last a.i a.depth a.visits v c.get-l.ensures
+    (ap part_of (sym c.in-Obeys.is) ∙ lefts) c.follow-rising.ensures c.if-not-rising.false c.get-r.ensures
+    (ap part_of (sym c.in-Obeys-rights.is) ∙ rights) in
     walk_missized w c.if-a-b.false c.has_size-sized.ensures c.if-not-sized.true
 
 pub returns-then-red : goal.returns-then-red
@@ -105,13 +105,13 @@ returns-then-red t c =
     let a = c.args in
     let v : Visit a.names.now a.cells.now a.q a.i a.depth a.visits = search rules in
     let lefts : part_of c.if-l.lefts ≡ judged a.names.now a.cells.now a.sizes.now a.i a.last c.get-l.result (a.depth - 1) (a.visits - 1)
-        = elim c.if-l.branch [ then-l w ↦ search (rules, walk_null) | else-l w ↦ search rules ] in
+    = elim c.if-l.branch [ then-l w ↦ search (rules, walk_null) | else-l w ↦ search rules ] in
     let rights : part_of c.if-r.rights ≡ judged a.names.now a.cells.now a.sizes.now a.i a.i c.get-r.result (a.depth - 1) c.in-Obeys.rest
-        = elim c.if-r.branch [ then-r w ↦ search (rules, walk_null) | else-r w ↦ search rules ] in
+    = elim c.if-r.branch [ then-r w ↦ search (rules, walk_null) | else-r w ↦ search rules ] in
     let w : BothParts a.names.now a.cells.now a.sizes.now a.q a.last a.i a.depth a.visits
-        = both_parts a.names.now a.cells.now a.sizes.now a.q a.last a.i a.depth a.visits v c.get-l.ensures
-        (ap part_of (sym c.in-Obeys.is) ∙ lefts) c.follow-rising.ensures c.if-not-rising.false c.get-r.ensures
-        (ap part_of (sym c.in-Obeys-rights.is) ∙ rights) in
+    = both_parts a.names.now a.cells.now a.sizes.now a.q a.last a.i a.depth a.visits v c.get-l.ensures
+    (ap part_of (sym c.in-Obeys.is) ∙ lefts) c.follow-rising.ensures c.if-not-rising.false c.get-r.ensures
+    (ap part_of (sym c.in-Obeys-rights.is) ∙ rights) in
     walk_red w c.if-a-b.false c.has_size-sized.ensures c.if-not-sized.false c.is_red-red.ensures c.if-red.true
 
 pub overflow_add-result : goal.overflow_add-result
@@ -119,13 +119,13 @@ overflow_add-result t c =
     let a = c.args in
     let v : Visit a.names.now a.cells.now a.q a.i a.depth a.visits = search rules in
     let lefts : part_of c.if-l.lefts ≡ judged a.names.now a.cells.now a.sizes.now a.i a.last c.get-l.result (a.depth - 1) (a.visits - 1)
-        = elim c.if-l.branch [ then-l w ↦ search (rules, walk_null) | else-l w ↦ search rules ] in
+    = elim c.if-l.branch [ then-l w ↦ search (rules, walk_null) | else-l w ↦ search rules ] in
     let rights : part_of c.if-r.rights ≡ judged a.names.now a.cells.now a.sizes.now a.i a.i c.get-r.result (a.depth - 1) c.in-Obeys.rest
-        = elim c.if-r.branch [ then-r w ↦ search (rules, walk_null) | else-r w ↦ search rules ] in
+    = elim c.if-r.branch [ then-r w ↦ search (rules, walk_null) | else-r w ↦ search rules ] in
     let w : BothParts a.names.now a.cells.now a.sizes.now a.q a.last a.i a.depth a.visits
-        = both_parts a.names.now a.cells.now a.sizes.now a.q a.last a.i a.depth a.visits v c.get-l.ensures
-        (ap part_of (sym c.in-Obeys.is) ∙ lefts) c.follow-rising.ensures c.if-not-rising.false c.get-r.ensures
-        (ap part_of (sym c.in-Obeys-rights.is) ∙ rights) in
+    = both_parts a.names.now a.cells.now a.sizes.now a.q a.last a.i a.depth a.visits v c.get-l.ensures
+    (ap part_of (sym c.in-Obeys.is) ∙ lefts) c.follow-rising.ensures c.if-not-rising.false c.get-r.ensures
+    (ap part_of (sym c.in-Obeys-rights.is) ∙ rights) in
     omega (arith, w.shallow, c.if-depth-eq0.false, c.ranges.depth)
 
 pub returns : goal.returns
@@ -133,11 +133,11 @@ returns t c =
     let a = c.args in
     let v : Visit a.names.now a.cells.now a.q a.i a.depth a.visits = search rules in
     let lefts : part_of c.if-l.lefts ≡ judged a.names.now a.cells.now a.sizes.now a.i a.last c.get-l.result (a.depth - 1) (a.visits - 1)
-        = elim c.if-l.branch [ then-l w ↦ search (rules, walk_null) | else-l w ↦ search rules ] in
+    = elim c.if-l.branch [ then-l w ↦ search (rules, walk_null) | else-l w ↦ search rules ] in
     let rights : part_of c.if-r.rights ≡ judged a.names.now a.cells.now a.sizes.now a.i a.i c.get-r.result (a.depth - 1) c.in-Obeys.rest
-        = elim c.if-r.branch [ then-r w ↦ search (rules, walk_null) | else-r w ↦ search rules ] in
+    = elim c.if-r.branch [ then-r w ↦ search (rules, walk_null) | else-r w ↦ search rules ] in
     let w : BothParts a.names.now a.cells.now a.sizes.now a.q a.last a.i a.depth a.visits
-        = both_parts a.names.now a.cells.now a.sizes.now a.q a.last a.i a.depth a.visits v c.get-l.ensures
-        (ap part_of (sym c.in-Obeys.is) ∙ lefts) c.follow-rising.ensures c.if-not-rising.false c.get-r.ensures
-        (ap part_of (sym c.in-Obeys-rights.is) ∙ rights) in
+    = both_parts a.names.now a.cells.now a.sizes.now a.q a.last a.i a.depth a.visits v c.get-l.ensures
+    (ap part_of (sym c.in-Obeys.is) ∙ lefts) c.follow-rising.ensures c.if-not-rising.false c.get-r.ensures
+    (ap part_of (sym c.in-Obeys-rights.is) ∙ rights) in
     walk_black w c.if-a-b.false c.has_size-sized.ensures c.if-not-sized.false c.is_red-red.ensures c.if-red.false
