@@ -1,0 +1,17 @@
+-- The measure is the number of turns that are left.
+use Rattle.std.proofs.Common.{◌≡◌, ◌^◌, ◌<◌, ◌≤◌, length}
+use Rattle.try_answers.proofs.lines.Given as goal
+
+abbrev pub invariant-loop-turns : goal.invariant-loop-turns
+invariant-loop-turns l =
+    (l.turns ≤ 1000)
+    × (l.at < 2 ^ 64)
+    × (l.count < 2 ^ 32)
+    × (l.wrong < 2 ^ 32)
+    × (length l.names ≡ length l.initial.names)
+    × (length l.cells ≡ length l.initial.cells)
+    × (length l.sizes ≡ length l.initial.sizes)
+
+abbrev pub decreases-loop-turns : goal.decreases-loop-turns
+decreases-loop-turns l =
+    l.turns

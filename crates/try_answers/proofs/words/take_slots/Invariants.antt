@@ -1,0 +1,13 @@
+-- The measure is the number of slots that are left.
+use Rattle.std.proofs.Common.{◌≡◌, ◌-◌, ◌^◌, ◌<◌, ◌≤◌, length}
+use Rattle.try_answers.proofs.words.take_slots.Given as goal
+
+abbrev pub invariant-loop-i : goal.invariant-loop-i
+invariant-loop-i l =
+    (l.i ≤ l.slots)
+    × (l.at < 2 ^ 64)
+    × (length l.cells ≡ length l.initial.cells)
+    × (length l.names ≡ length l.initial.names)
+
+abbrev pub decreases-loop-i : goal.decreases-loop-i
+decreases-loop-i l = l.slots - l.i

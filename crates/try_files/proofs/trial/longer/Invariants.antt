@@ -1,0 +1,10 @@
+-- The measure is the bytes that are left.
+use Prim.{Unit}
+use Rattle.std.proofs.Common.{◌-◌}
+use Rattle.try_files.proofs.trial.longer.Given as goal
+
+abbrev pub invariant-loop-k : goal.invariant-loop-k
+invariant-loop-k l = Unit
+
+abbrev pub decreases-loop-k : goal.decreases-loop-k
+decreases-loop-k l = 253 - l.k

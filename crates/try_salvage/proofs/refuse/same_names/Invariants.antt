@@ -1,0 +1,10 @@
+-- The loop's invariant: no word past the last is compared.
+use Rattle.std.proofs.Common.{◌-◌, ◌≤◌, length}
+use Rattle.try_salvage.proofs.refuse.same_names.Given as goal
+
+abbrev pub invariant-loop-k : goal.invariant-loop-k
+invariant-loop-k l =
+    l.k ≤ length l.words
+
+abbrev pub decreases-loop-k : goal.decreases-loop-k
+decreases-loop-k l = length l.words - l.k

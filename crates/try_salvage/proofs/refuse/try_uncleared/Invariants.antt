@@ -1,0 +1,10 @@
+-- The loop's invariant: no trial past the last is made, and there are as many counts as at first.
+use Rattle.std.proofs.Common.{◌≡◌, ◌-◌, ◌≤◌, length}
+use Rattle.try_salvage.proofs.refuse.try_uncleared.Given as goal
+
+abbrev pub invariant-loop-trial : goal.invariant-loop-trial
+invariant-loop-trial l =
+    (l.trial ≤ l.trials) × (length l.counts ≡ length l.initial.counts)
+
+abbrev pub decreases-loop-trial : goal.decreases-loop-trial
+decreases-loop-trial l = l.trials - l.trial

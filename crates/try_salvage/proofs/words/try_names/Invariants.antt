@@ -1,0 +1,10 @@
+-- The loop's invariant: no trial past the last is made, and there are as many words as at first.
+use Rattle.std.proofs.Common.{◌≡◌, ◌-◌, ◌≤◌, length}
+use Rattle.try_salvage.proofs.words.try_names.Given as goal
+
+abbrev pub invariant-loop-trial : goal.invariant-loop-trial
+invariant-loop-trial l =
+    (l.trial ≤ l.trials) × (length l.counts ≡ length l.initial.counts) × (length l.names ≡ length l.initial.names)
+
+abbrev pub decreases-loop-trial : goal.decreases-loop-trial
+decreases-loop-trial l = l.trials - l.trial

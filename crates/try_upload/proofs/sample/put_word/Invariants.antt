@@ -1,0 +1,10 @@
+-- The measure is the bytes that are left.
+use Rattle.std.proofs.Common.{◌≡◌, ◌-◌, length}
+use Rattle.try_upload.proofs.sample.put_word.Given as goal
+
+abbrev pub invariant-loop-k : goal.invariant-loop-k
+invariant-loop-k l =
+    length l.bytes ≡ length l.initial.bytes
+
+abbrev pub decreases-loop-k : goal.decreases-loop-k
+decreases-loop-k l = 8 - l.k

@@ -1,0 +1,10 @@
+-- The loop's invariant: no word past the last is compared.
+use Rattle.std.proofs.Common.{◌-◌, ◌≤◌}
+use Rattle.try_why.proofs.ask.agree.Given as goal
+
+abbrev pub invariant-loop-k : goal.invariant-loop-k
+invariant-loop-k l =
+    l.k ≤ 9
+
+abbrev pub decreases-loop-k : goal.decreases-loop-k
+decreases-loop-k l = 9 - l.k
