@@ -1,0 +1,17 @@
+-- What is written lies within the buffer.
+use native.Mathlib.Omega.{arith}
+use lib.ListN.{length-take}
+use borrow.Author.Rules.{rules}
+use Rattle.finish.proofs.put.Statement.{statement}
+use Rattle.finish.proofs.put.Tie as tie
+
+slice-aggregate-write-all : tie.Need-slice-aggregate-write-all
+slice-aggregate-write-all c = simp length-take (omega arith)
+
+pub put_spec : {M : Type 1} → statement M
+put_spec = tie.close
+    (tie.spec
+    slice-aggregate-write-all
+    (λ c κs. search rules)
+    (λ c. search rules)
+    (λ c. search rules))

@@ -1,0 +1,26 @@
+-- The measure is the cuts that are left.
+use Prim.{Unit, tt}
+use Rattle.std.proofs.Common.{◌+◌, ◌-◌, length, arith, rules}
+use Rattle.try_upload.proofs.cuts.differ_in_all.Statement.{statement}
+use Rattle.try_upload.proofs.cuts.differ_in_all.Tie as tie
+
+abbrev invariant-loop : tie.invariant-loop
+invariant-loop bytes count₀ i₀ count i = Unit
+
+abbrev decreases-loop : tie.decreases-loop
+decreases-loop bytes count₀ i₀ count i = length bytes + 1 - i
+
+loop-holds : tie.Need-loop-init invariant-loop decreases-loop
+loop-holds c = tt
+
+loop-less : tie.Need-loop-smaller invariant-loop decreases-loop
+loop-less c = omega arith
+
+loop-again : tie.Need-loop-preserved invariant-loop decreases-loop
+loop-again c = tt
+
+pub differ-in-all-spec : {M : Type 1} → statement M
+differ-in-all-spec =
+    tie.close
+    (tie.spec
+    invariant-loop decreases-loop loop-holds (λ c κs. search rules) (λ c κs. search rules) (λ c. search rules) loop-less loop-again (λ c. search rules))
