@@ -6,7 +6,7 @@ ghost use Rattle.std.specs.Prelude.{◌≤◌, length, IfOk};
 
 use finisher::answer::answer;
 use std::io;
-use std::io::{Read, Stdin};
+use std::io::{Read, Stderr, Stdin, Stdout};
 
 // One byte more than the longest file has, so that a longer one is seen to be longer.
 const ROOM: usize = 16 + 4 * 8 + 4 * 8160 + 12 * 4096 + 41 * 4096 + 1;
@@ -34,14 +34,33 @@ fn put(to: &impl Print, bytes: &[u8], most: usize) -> io::Result<()> {
     Ok(())
 }
 
+// Reads a set's file, and writes the file of what is left and what came of it.
+fn serve(
+    stdin: Stdin,
+    stdout: Stdout,
+    stderr: Stderr,
+    bytes: &mut [u8],
+    out: &mut [u8],
+    text: &mut [u8],
+) -> io::Result<()> {
+    let got = fill(stdin, bytes)?;
+    let done = answer(&bytes[..got], out, text);
+    let written = done.written;
+    let said = done.said;
+    put(&stdout, out, written)?;
+    put(&stderr, text, said)
+}
+
 fn main(rt: HostRuntime) -> io::Result<()> {
     let mut bytes = [0u8; ROOM];
     let mut out = [0u8; ROOM];
     let mut text = [0u8; 128];
-    let got = fill(rt.stdin(), &mut bytes)?;
-    let done = answer(&bytes[..got], &mut out, &mut text);
-    let written = done.written;
-    let said = done.said;
-    put(&rt.stdout(), &out, written)?;
-    put(&rt.stderr(), &text, said)
+    serve(
+        rt.stdin(),
+        rt.stdout(),
+        rt.stderr(),
+        &mut bytes,
+        &mut out,
+        &mut text,
+    )
 }

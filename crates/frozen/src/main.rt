@@ -56,6 +56,12 @@ fn finish(
     stdout.write_all(&out[..written])
 }
 
+// Room for what is printed. Its length is large, and a proof that has the zeros before it counts them: here it only has that there are so
+// many.
+fn text_room() -> [u8; 524288] {
+    [0; 524288]
+}
+
 fn main(rt: HostRuntime) -> io::Result<()> {
     let mut lengths = [0u32; MOST_TABLES];
     let mut bins = [0u32; MOST_BINS];
@@ -63,7 +69,7 @@ fn main(rt: HostRuntime) -> io::Result<()> {
     let mut names = [0u64; MOST_NAMES];
     let mut cells = [0u32; MOST_CELLS];
     let mut chunk = [0u8; 65536];
-    let mut out = [0u8; 524288];
+    let mut out = text_room();
     let started = Loader::start();
     let loader = serve(
         rt.stdin(),

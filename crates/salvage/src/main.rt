@@ -6,7 +6,7 @@ ghost use Rattle.std.specs.Prelude.{◌≤◌, length, IfOk};
 
 use dump::rescue::rescue;
 use std::io;
-use std::io::{Read, Stdin};
+use std::io::{Read, Stderr, Stdin, Stdout};
 
 // One byte more than the longest dump has, so that a longer one is seen to be longer.
 const ROOM: usize = 28 + 48 * 4096 + 48 * 1024 + 1;
@@ -34,14 +34,39 @@ fn put(to: &impl Print, bytes: &[u8], most: usize) -> io::Result<()> {
     Ok(())
 }
 
+// Reads a dump, and writes the second one and what was lost.
+fn serve(
+    stdin: Stdin,
+    stdout: Stdout,
+    stderr: Stderr,
+    bytes: &mut [u8],
+    out: &mut [u8],
+    text: &mut [u8],
+) -> io::Result<()> {
+    let got = fill(stdin, bytes)?;
+    let saved = rescue(&bytes[..got], out, text);
+    let dumped = saved.dumped;
+    let said = saved.said;
+    put(&stdout, out, dumped)?;
+    put(&stderr, text, said)
+}
+
+// Room for what is printed. Its length is large, and a proof that has the zeros before it counts them: here it only has that there are so
+// many.
+fn text_room() -> [u8; 524288] {
+    [0; 524288]
+}
+
 fn main(rt: HostRuntime) -> io::Result<()> {
     let mut bytes = [0u8; ROOM];
     let mut out = [0u8; ROOM];
-    let mut text = [0u8; 524288];
-    let got = fill(rt.stdin(), &mut bytes)?;
-    let saved = rescue(&bytes[..got], &mut out, &mut text);
-    let dumped = saved.dumped;
-    let said = saved.said;
-    put(&rt.stdout(), &out, dumped)?;
-    put(&rt.stderr(), &text, said)
+    let mut text = text_room();
+    serve(
+        rt.stdin(),
+        rt.stdout(),
+        rt.stderr(),
+        &mut bytes,
+        &mut out,
+        &mut text,
+    )
 }

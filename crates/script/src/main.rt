@@ -89,13 +89,19 @@ fn close(
     stdout.write_all(&out[..written])
 }
 
+// Room for what is printed. Its length is large, and a proof that has the zeros before it counts them: here it only has that there are so
+// many.
+fn text_room() -> [u8; 524288] {
+    [0; 524288]
+}
+
 fn main(rt: HostRuntime) -> io::Result<()> {
     let mut names = [0u64; 1024];
     let mut cells = [0u32; 3584];
     let mut head = [0u32; 3];
     let mut sizes = [0u32; 512];
     let mut lines = [0u64; JOURNAL_WORDS];
-    let mut out = [0u8; 524288];
+    let mut out = text_room();
     let mut chunk = [0u8; 65536];
     fresh(&mut names, &mut cells, &mut head, &mut sizes, &mut lines);
     let line = serve(

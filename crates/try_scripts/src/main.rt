@@ -87,11 +87,21 @@ fn try_all<R: Files>(rt: &R, input: &mut [u8], expected: &mut [u8], out: &mut [u
     differences
 }
 
+// Rooms for a script, its answers and what is printed. Their lengths are large, and a proof that has the zeros before it counts them: here it
+// only has that there are so many.
+fn script_room() -> [u8; 262144] {
+    [0; 262144]
+}
+
+fn text_room() -> [u8; 524288] {
+    [0; 524288]
+}
+
 fn main(rt: HostRuntime) -> io::Result<()> {
     let stdout = rt.stdout();
-    let mut input = [0u8; 262144];
-    let mut expected = [0u8; 262144];
-    let mut out = [0u8; 524288];
+    let mut input = script_room();
+    let mut expected = script_room();
+    let mut out = text_room();
     let differences = try_all(&rt, &mut input, &mut expected, &mut out);
     figure(stdout, b"scripts", SCRIPTS)?;
     figure(stdout, b"runs", 3 * SCRIPTS)?;

@@ -5,7 +5,7 @@ ghost use Rattle.std.specs.Prelude.{◌≤◌, length, IfOk};
 
 use dump::answer::answer;
 use std::io;
-use std::io::{Read, Stdin};
+use std::io::{Read, Stdin, Stdout};
 
 // One byte more than the longest dump has, so that a longer one is seen to be longer.
 const ROOM: usize = 28 + 48 * 4096 + 48 * 1024 + 1;
@@ -25,10 +25,21 @@ fn fill(mut stdin: Stdin, room: &mut [u8]) -> io::Result<usize>
     Ok(done)
 }
 
+// Reads a dump, and prints what is said of it.
+fn serve(stdin: Stdin, stdout: Stdout, bytes: &mut [u8], out: &mut [u8]) -> io::Result<()> {
+    let got = fill(stdin, bytes)?;
+    let written = answer(&bytes[..got], out);
+    stdout.write_all(&out[..written])
+}
+
+// Room for what is printed. Its length is large, and a proof that has the zeros before it counts them: here it only has that there are so
+// many.
+fn text_room() -> [u8; 524288] {
+    [0; 524288]
+}
+
 fn main(rt: HostRuntime) -> io::Result<()> {
     let mut bytes = [0u8; ROOM];
-    let mut out = [0u8; 524288];
-    let got = fill(rt.stdin(), &mut bytes)?;
-    let written = answer(&bytes[..got], &mut out);
-    rt.write_all(&out[..written])
+    let mut out = text_room();
+    serve(rt.stdin(), rt.stdout(), &mut bytes, &mut out)
 }
