@@ -5,7 +5,8 @@ use mathlib.Core.List.{List}
 use Prim.Native.Nat.{ℕ, ◌<◌, ◌≤◌}
 use lib.ListN.{length, drop}
 use borrow.Author.Tests.{lt-ltb, le-ltb}
-use Rattle.script_rules.specs.Text.{read, unread, read_number, read_next, starts_with, plus_word, minus_word, ask_word, roll_word, mark_word}
+use Rattle.script_rules.specs.Text.{read, unread, read_number, read_next, starts_with, plus_word, minus_word, ask_word, roll_word}
+use Rattle.script_rules.specs.Text.{mark_word}
 use Rattle.script_rules.specs.Text.{list_word}
 use Rattle.script_rules.specs.Commands.{Command, insert, remove, find, rollback, mark, list, bad, most64, most32, alone, insert_of}
 use Rattle.script_rules.specs.Commands.{pair_command_of}
@@ -37,7 +38,8 @@ module _ (l : List ℕ) where
     unfolding pair_command_of
     pair_one c e = rw (← first, ← e)
 
-    pub pair_all : (c : ℕ → ℕ → Command) {k : ℕ} {end : List ℕ} → read k end ≡ read_next most64 rest → alone (c h k) end ≡ pair_command_of c l
+    pub pair_all : (c : ℕ → ℕ → Command) {k : ℕ} {end : List ℕ} → read k end ≡ read_next most64 rest
+        → alone (c h k) end ≡ pair_command_of c l
     unfolding pair_command_of
     pair_all c e = rw (← first, ← e)
 

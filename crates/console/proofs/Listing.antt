@@ -66,7 +66,8 @@ entry-typed p names cells i {h} {k} {at} eh ek ep e1 e2 e3 e4 e5 e6 =
     (e6 ∙ ap (λ (x : Paper). typed_one x newline)
     (e5 ∙ ap (λ (x : Paper). typed x (decimal at))
     (e4
-    ∙ ap (λ (x : Paper). typed_one x space) (e3 ∙ ap (λ (x : Paper). typed x (decimal k)) (e2 ∙ ap (λ (x : Paper). typed_one x space) e1)))))
+    ∙ ap (λ (x : Paper). typed_one x space)
+    (e3 ∙ ap (λ (x : Paper). typed x (decimal k)) (e2 ∙ ap (λ (x : Paper). typed_one x space) e1)))))
 
 pub entries_over : (p : Paper) (names cells : List ℕ) (left i : ℕ) → left ≤ 0 → typed p (entry_lines left names cells i) ≡ p
 unfolding entry_lines typed

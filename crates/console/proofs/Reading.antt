@@ -32,7 +32,8 @@ module _ (most v : ℕ) (l : List ℕ) (i : ℕ) where
   pub on_high : i < length l → 57 < get_or l i 0 → read_on most v (drop i l) ≡ read v (drop i l)
   on_high h b = on_stop h (digit_high _ b)
 
-  pub on_wide : i < length l → 48 ≤ get_or l i 0 → get_or l i 0 ≤ 57 → (most - (get_or l i 0 - 48)) / 10 < v → read_on most v (drop i l) ≡ unread
+  pub on_wide : i < length l → 48 ≤ get_or l i 0 → get_or l i 0 ≤ 57 → (most - (get_or l i 0 - 48)) / 10 < v
+      → read_on most v (drop i l) ≡ unread
   unfolding read_on
   on_wide h low high w = rw (from l i h) (simp (digit_in _ low high, lt-leb _ _ w))
 

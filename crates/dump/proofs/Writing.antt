@@ -18,10 +18,12 @@ use Rattle.index_rules.specs.Index.{Index, index, lent, line_words}
 use Rattle.index_rules.specs.Fresh.{freshes}
 use Rattle.night_rules.specs.Salvage.{Salvaged, salvages}
 use Rattle.script_rules.specs.Blanks.{says}
-use Rattle.dump_rules.specs.Dump.{body_bytes, dump_bytes, Measure, whole, stub, slots_out, lines_out, short, long, measured, loaded_as, loaded}
+use Rattle.dump_rules.specs.Dump.{body_bytes, dump_bytes, Measure, whole, stub, slots_out, lines_out, short, long, measured, loaded_as}
+use Rattle.dump_rules.specs.Dump.{loaded}
 use Rattle.dump_rules.specs.Sentence.{measure_text, why_text}
 use Rattle.dump_rules.specs.Rescue.{saved_into, loss_text, loss_texts, kept_of, rescue_text, saved_bytes, saved_text}
-use Rattle.dump_rules.specs.Rescue.{loaded_bytes, loaded_text, zeros, measure_bytes, measure_words, rescue_bytes, rescue_words, papers, rescues}
+use Rattle.dump_rules.specs.Rescue.{loaded_bytes, loaded_text, zeros, measure_bytes, measure_words, rescue_bytes, rescue_words, papers}
+use Rattle.dump_rules.specs.Rescue.{rescues}
 use Rattle.dump.proofs.Telling.{then, nothing-more, loaded_fronts}
 
 -- A number's bytes: the lowest, and then those of the rest.

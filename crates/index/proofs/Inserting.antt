@@ -93,7 +93,8 @@ module _ (floor : ℕ) (ix : Index) (hash key : ℕ) where
 
     pub joined : {x : ℕ} {u : Live} {l : List ℕ} → u ≡ grown t x null hash key p
         → l ≡ appended ix.lines (plain_line insert_kind hash key p)
-        → outcome (given x) (after x) ≡ inserts_sound floor ix hash key p → outcome (given x) (index u l) ≡ inserts_sound floor ix hash key p
+        → outcome (given x) (after x) ≡ inserts_sound floor ix hash key p
+        → outcome (given x) (index u l) ≡ inserts_sound floor ix hash key p
     joined e1 e2 e = rw (e1, e2) e
 
 pub not_at : (r : Inserted) → OneOf (1 ∷ 2 ∷ 3 ∷ 4 ∷ 5 ∷ []) (tag_of the_type r) → (inserted_of r).number ≡ 0 → ⊥

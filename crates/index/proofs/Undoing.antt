@@ -83,7 +83,8 @@ module _ (t : Live) (hash key w : ℕ) where
 
 -- A line of each kind, and of another one.
 module _ (t : Live) (lines : List ℕ) (k x : ℕ) {kind hash key p : ℕ}
-    (e1 : kind ≡ line_word lines k 0) (e2 : hash ≡ line_word lines k 1) (e3 : key ≡ line_word lines k 2) (e4 : p ≡ line_word lines k 3) where
+    (e1 : kind ≡ line_word lines k 0) (e2 : hash ≡ line_word lines k 1) (e3 : key ≡ line_word lines k 2)
+    (e4 : p ≡ line_word lines k 3) where
   pub line_insert : kind ≡ 1 → {o : Undo} → o ≡ taken_back t (sought_in t hash key) p → o ≡ undone_into x t (line_of lines k)
   unfolding undone_into
   line_insert h e = rw (← e1, ← e2, ← e3, ← e4, eq-eqb kind 1 h) e
@@ -213,7 +214,8 @@ pub record Turn (t₀ : Live) (lines : List ℕ) (m count : ℕ) (t : Live) (flo
 
 module _ (lines : List ℕ) (m : ℕ) (t : Live) (floor : ℕ) {x : ℕ} (e0 : x ≡ lowest_from floor t) where
   unroll_on : (c : ℕ) {u : Live} {floor' : ℕ} → 0 < c → stays u ≡ undone_into x t (line_of lines (m + (c - 1)))
-      → floor' ≡ lesser (freed_by t (line_of lines (m + (c - 1)))) x → unrolled_from (c - 1) floor' u lines m ≡ unrolled_from c floor t lines m
+      → floor' ≡ lesser (freed_by t (line_of lines (m + (c - 1)))) x
+      → unrolled_from (c - 1) floor' u lines m ≡ unrolled_from c floor t lines m
   unfolding unrolled_from
   unroll_on zero h e f = absurd (omega arith)
   unroll_on (suc c) h e f = let g = rw (sub-one, e0) at e in let k = rw (sub-one, e0) at f in rw (sub-one, ← g, unrolled_from, k)

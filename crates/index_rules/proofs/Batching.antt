@@ -200,7 +200,8 @@ module _ (calls : List ℕ) where
       rest : List Answer
       rest = singly (made m calls (suc k)) o.left
 
-      words : between (suc k) rest (set answers k w) ≡ take k answers ++ (w ∷ (map answer_word rest ++ drop (k + suc (length rest)) answers))
+      words : between (suc k) rest (set answers k w) ≡ take k answers ++
+          (w ∷ (map answer_word rest ++ drop (k + suc (length rest)) answers))
       words =
           let z : suc k + length rest ≡ k + suc (length rest) = omega arith in
           rw (take-suc-set answers k w (omega arith), drop-set-lt (suc k + length rest) answers k w (omega arith), z)
@@ -309,7 +310,8 @@ module _ (ix : Index) (calls answers : List ℕ) where
       let m : made (calls_in calls) calls 0 ≡ c.made = rw n (sym p.are) in
       let plus : 0 + accepted_in (singly (made (calls_in calls) calls 0) ix) ≡ accepted_in (singly (made (calls_in calls) calls 0) ix) =
       omega arith in
-      let none : 0 + length (singly (made (calls_in calls) calls 0) ix) ≡ length (singly (made (calls_in calls) calls 0) ix) = omega arith in
+      let none : 0 + length (singly (made (calls_in calls) calls 0) ix) ≡ length (singly (made (calls_in calls) calls 0) ix) =
+      omega arith in
       does (index-fits ix fit) (calls_fit_lem calls answers c) (sound_yes fit.tree h)
       ∙ rw (← m) (rw (plus, none) at (runs_made calls (calls_in calls) ix 0 answers 0 (omega (arith, c.room))))
 

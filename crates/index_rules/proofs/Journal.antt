@@ -20,7 +20,8 @@ use Rattle.index_rules.proofs.Fit.{both, fits_fit, fit_fits}
 use Rattle.index_rules.proofs.Rules.{and}
 
 -- The test of whole lines.
-pub whole_is : (lines : List ℕ) → whole_lines lines ≡ true → (lines_of lines ≤ most_lines) × (length lines ≡ 1 + line_words * lines_of lines)
+pub whole_is : (lines : List ℕ) → whole_lines lines ≡ true
+    → (lines_of lines ≤ most_lines) × (length lines ≡ 1 + line_words * lines_of lines)
 unfolding whole_lines
 whole_is lines e =
     let h = both (leb (lines_of lines) most_lines) _ e in
@@ -96,7 +97,8 @@ module _ (lines : List ℕ) (k : ℕ) (j : JournalLine) where
   off : (l : List ℕ) (f g v : ℕ) → g ≢ f → line_word (set l (at k f) v) k g ≡ line_word l k g
   off l f g v d = get_or-set_other l (at k f) (at k g) v 0 (omega arith)
 
-  on : (l : List ℕ) (f v : ℕ) → length l ≡ length lines → at (suc k) 0 ≤ length lines → f < line_words → line_word (set l (at k f) v) k f ≡ v
+  on : (l : List ℕ) (f v : ℕ) → length l ≡ length lines → at (suc k) 0 ≤ length lines → f < line_words
+      → line_word (set l (at k f) v) k f ≡ v
   on l f v e room w = get_or-set_same l (at k f) v 0 (omega arith)
 
   pub lined_line : at (suc k) 0 ≤ length lines → line_of (lined lines k j) k ≡ j
@@ -146,7 +148,8 @@ module _ (lines : List ℕ) (j : JournalLine) (room : at (length_of lines + 1) 0
       record {
         long = length-set (lined lines (length_of lines) j) 0 (length_of lines + 1) ∙ lined-length lines (length_of lines) j;
         count =
-            get_or-set_same (lined lines (length_of lines) j) 0 (length_of lines + 1) 0 (omega (arith, lined-length lines (length_of lines) j));
+            get_or-set_same (lined lines (length_of lines) j) 0 (length_of lines + 1) 0
+            (omega (arith, lined-length lines (length_of lines) j));
         line = same_line (lined lines (length_of lines) j) (appended lines j) (length_of lines) (λ i l h. appended-word i (omega arith))
             ∙ lined_line lines (length_of lines) j (omega arith);
         below = λ i l h. appended-word i l ∙ lined-other lines (length_of lines) j i h;
@@ -195,7 +198,8 @@ unfolding blanked
 blanked-zero zero lines m i room a b = absurd (omega arith)
 blanked-zero (suc c) lines m i room a b =
     go (dec_lt i (at (m + c) 0))
-    (λ l. blanked-zero c (lined lines (m + c) (plain_line 0 0 0 0)) m i (omega (arith, lined-length lines (m + c) (plain_line 0 0 0 0))) a l)
+    (λ l. blanked-zero c (lined lines (m + c) (plain_line 0 0 0 0)) m i
+    (omega (arith, lined-length lines (m + c) (plain_line 0 0 0 0))) a l)
   where
     word : (i : ℕ) → at (m + c) 0 ≤ i → i < at (suc (m + c)) 0 → get_or (lined lines (m + c) (plain_line 0 0 0 0)) i 0 ≡ 0
     word i a b =

@@ -1,5 +1,6 @@
 -- "Take a slice of calls (replaces too) and a slice for answers, check once, and make the calls in order."
-use Rattle.std.specs.Prelude.{◌≡◌, Bool, true, List, [], ◌∷◌, ◌++◌, map, ℕ, zero, suc, ◌+◌, ◌*◌, ◌/◌, ◌<◌, ◌≤◌, length, get_or, set, drop, eqb, leb, ltb}
+use Rattle.std.specs.Prelude.{◌≡◌, Bool, true, List, [], ◌∷◌, ◌++◌, map, ℕ, zero, suc, ◌+◌, ◌*◌, ◌/◌, ◌<◌, ◌≤◌, length, get_or, set, drop}
+use Rattle.std.specs.Prelude.{eqb, leb, ltb}
 use Rattle.slots.specs.Words.{pick, ◌and◌}
 use Rattle.slots.specs.Answers.{Answer, given, refused, answer_word}
 use Rattle.index_rules.specs.Sound.{sound}

@@ -73,7 +73,8 @@ cell_in : {n q : ℕ} {cells : List ℕ} {c : Colour} {l r : Tree.Tree} {i : ℕ
     → Tree.Cell n cells q c (Tree.top l) i (Tree.top r)
 cell_in (Tree.some k u v) = k
 
-left_in_lem : {n q : ℕ} {cells : List ℕ} {c : Colour} {l r : Tree.Tree} {i : ℕ} → Tree.Hangs n cells q (node c l i r) → Tree.Hangs n cells i l
+left_in_lem : {n q : ℕ} {cells : List ℕ} {c : Colour} {l r : Tree.Tree} {i : ℕ} → Tree.Hangs n cells q (node c l i r)
+    → Tree.Hangs n cells i l
 left_in_lem (Tree.some k u v) = u
 
 right_in : {n q : ℕ} {cells : List ℕ} {c : Colour} {l r : Tree.Tree} {i : ℕ} → Tree.Hangs n cells q (node c l i r) → Tree.Hangs n cells i r

@@ -91,7 +91,8 @@ dark_sib_outer : (near far : ℕ) (s : Links) (x xp i j : ℕ) → read s i far 
 unfolding dark_sib
 dark_sib_outer near far s x xp i j e f = rw (e, f)
 
-dark_sib_inner : (near far : ℕ) (s : Links) (x xp i j k z : ℕ) → read s i far ≡ j → is_red s j ≡ false → read s i near ≡ k → is_red s k ≡ true
+dark_sib_inner : (near far : ℕ) (s : Links) (x xp i j k z : ℕ) → read s i far ≡ j → is_red s j ≡ false → read s i near ≡ k
+    → is_red s k ≡ true
     → read (inner_red near far s i) x parent ≡ xp → read (inner_red near far s i) xp far ≡ z
     → dark_sib near far s x xp i ≡ outer_red near far (inner_red near far s i) xp z
 unfolding dark_sib
@@ -239,7 +240,8 @@ inner : {n h : ℕ} {s : Links} {τ ρ : Side} {c e : Colour} {C : Way} {g p q b
     → Wants (suc h) e (frame τ c xp (fork τ black (fork (other τ) red p j q) i b) ∷ C) → RedBlack black h g → RedBlack black h p
     → RedBlack black h q → RedBlack black h b
     → Site n s (frame τ c xp (fork τ black (fork (other τ) red p j q) i b) ∷ C) (fork ρ black t₁ x t₂)
-    → Mended n (resumed m (dark_sib (toward τ) (toward (other τ)) s x xp i)) (frame τ c xp (fork τ black (fork (other τ) red p j q) i b) ∷ C)
+    → Mended n (resumed m (dark_sib (toward τ) (toward (other τ)) s x xp i))
+    (frame τ c xp (fork τ black (fork (other τ) red p j q) i b) ∷ C)
     (fork ρ black t₁ x t₂) g
 unfolding slots
 inner {s = s} {τ} {c = c} {C = C} {p = p} {q} {b} {x = x} {xp} {i} {j} m w sg sp sq sb h =
@@ -410,7 +412,8 @@ sinks_dark {s = s} {τ} {xp = xp} {i} m x sa sb h =
 sinks_black : {n h : ℕ} {s : Links} {τ ω ρ : Side} {c ca cb : Colour} {C : Way} {g a b t₁ t₂ : Sided} {x xp i : ℕ} (m : ℕ) → Restores m
     → length C < m → Wants (suc (suc h)) c C → RedBlack black h g → RedBlack ca h a → RedBlack cb h b
     → Site n s (frame τ black xp (fork ω black a i b) ∷ C) (fork ρ black t₁ x t₂)
-    → Mended n (resumed m (by_sib (toward τ) (toward (other τ)) s x xp)) (frame τ black xp (fork ω black a i b) ∷ C) (fork ρ black t₁ x t₂) g
+    → Mended n (resumed m (by_sib (toward τ) (toward (other τ)) s x xp)) (frame τ black xp (fork ω black a i b) ∷ C)
+    (fork ρ black t₁ x t₂) g
 sinks_black {τ = τ} {ω} {x = x} m again l w sg sa sb h =
     faced τ ω h (λ k. carried (sinks_dark m x sa sb k) (eases_black m again l w sg sa sb k))
     (λ k. carried (sinks_dark m x sb sa k) (eases_black m again l w sg sb sa k))

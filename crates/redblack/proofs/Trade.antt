@@ -394,7 +394,8 @@ traded_by_lem s p t = refl
 traded-is : (s : Links) (cp ct : Colour) (p t a b r w q : ℕ) → read s p state ≡ code cp → read s t state ≡ code ct → read s t right ≡ a
     → read s p left ≡ b → read s p right ≡ r → read s p parent ≡ w → read s t parent ≡ q
     → traded s p t ≡ traded_by s p t cp ct a b r w q
-traded-is s cp ct p t a b r w q e1 e2 e3 e4 e5 e6 e7 = traded_by_lem s p t ∙ rw (colour-is s p cp e1, colour-is s t ct e2, e3, e4, e5, e6, e7)
+traded-is s cp ct p t a b r w q e1 e2 e3 e4 e5 e6 e7 =
+    traded_by_lem s p t ∙ rw (colour-is s p cp e1, colour-is s t ct e2, e3, e4, e5, e6, e7)
 
 lowered-next : (s : Links) (p t q : ℕ) → lowered s p t t q ≡ stored (stored s p parent t) t right p
 unfolding lowered

@@ -58,7 +58,8 @@ below-plug k [] t = omega arith
 below-plug k (frame σ c i b ∷ C) t = omega (arith, below-plug k C (fork σ c t i b))
 
 -- The part in view counts in the whole only by its weight and by what it says of the slot.
-pub below_swap : (k : ℕ) (C : Way) (t u : Sided) → weight t ≡ weight u → size_by k t ≡ size_by k u → size_by k (plug C t) ≡ size_by k (plug C u)
+pub below_swap : (k : ℕ) (C : Way) (t u : Sided) → weight t ≡ weight u → size_by k t ≡ size_by k u
+    → size_by k (plug C t) ≡ size_by k (plug C u)
 below_swap k C t u e f = omega (arith, below-plug k C t, below-plug k C u, ap (λ (w : ℕ). size_along k w C) e)
 
 -- A tree weighs as much as it has slots, and it has no more than there are.

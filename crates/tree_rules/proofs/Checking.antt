@@ -1,6 +1,7 @@
 -- The source's check answers what the rules say: each test means what it is named for, the first that fails is the one of least number,
 -- and the walk's outcome is read back off the answer.
-use Rattle.std.proofs.Common.{◌≡◌, ℕ, zero, suc, ◌+◌, ◌<◌, ◌≤◌, Bool, true, false, eqb, ◌≢◌, ◌⊎◌, ◌↔◌, List, sym, refl, ap, inl, inr, arith, eq-eqb, ne_eqb, eqb-true, le-leb, leb-true}
+use Rattle.std.proofs.Common.{◌≡◌, ℕ, zero, suc, ◌+◌, ◌<◌, ◌≤◌, Bool, true, false, eqb, ◌≢◌, ◌⊎◌, ◌↔◌, List, sym, refl, ap, inl, inr, arith}
+use Rattle.std.proofs.Common.{eq-eqb, ne_eqb, eqb-true, le-leb, leb-true}
 use mathlib.Core.Logic.{⊎_map}
 use mathlib.Core.Bool.{false≢true}
 use native.Mathlib.Decide.{ℕ_discrete}

@@ -19,7 +19,8 @@ not_red red e = absurd (false≢true (sym e))
 calms : Tree → Bool
 calms leaf = true
 calms (node c l i r) =
-    pick (pick (is_red c) (pick (is_red (colour l)) false (pick (is_red (colour r)) false true)) true) (pick (calms l) (calms r) false) false
+    pick (pick (is_red c) (pick (is_red (colour l)) false (pick (is_red (colour r)) false true)) true)
+    (pick (calms l) (calms r) false) false
 
 neither : (a b : Bool) → pick a false (pick b false true) ≡ true → (a ≡ false) × (b ≡ false)
 neither true b e = absurd (false≢true e)

@@ -1,6 +1,7 @@
 -- A tree that obeys T5 and T6 is not deep: each way down meets as many black slots and no two red ones in a row, and a tree with b
 -- black slots on each way has 2 to the b slots but one at least.
-use Rattle.std.proofs.Common.{◌≡◌, ℕ, zero, suc, ◌+◌, ◌*◌, ◌^◌, ◌<◌, ◌≤◌, Bool, true, false, eqb, ltb, leb, List, length, refl, ap, ◌∙◌, mul-le-mul, add_comm, zero-add, add-one, arith, pow_mono, pow-add, ltb-false, ltb-true}
+use Rattle.std.proofs.Common.{◌≡◌, ℕ, zero, suc, ◌+◌, ◌*◌, ◌^◌, ◌<◌, ◌≤◌, Bool, true, false, eqb, ltb, leb, List, length, refl, ap, ◌∙◌}
+use Rattle.std.proofs.Common.{mul-le-mul, add_comm, zero-add, add-one, arith, pow_mono, pow-add, ltb-false, ltb-true}
 use native.Mathlib.Decide.{ℕ_discrete, dec_lt}
 use native.Mathlib.Nat.{two-pow-succ}
 use Rattle.slots.specs.Words.{null, pick, left, right, cell, Colour, black, red}
@@ -81,7 +82,8 @@ data Onward (l r : ℕ) : Look → Type 0 where
   rightward : Onward l r (on r)
 
 onward : (at own l r hash key : ℕ) → Onward l r (decided at own l r hash key)
-onward at own l r hash key = go (dec_lt hash at) (dec_lt at hash) (ℕ_discrete own key) (ℕ_discrete l null) (ℕ_discrete r null) (dec_lt key own)
+onward at own l r hash key =
+    go (dec_lt hash at) (dec_lt at hash) (ℕ_discrete own key) (ℕ_discrete l null) (ℕ_discrete r null) (dec_lt key own)
   where
     c : Looks at own l r hash key
     c = look_claims at own l r hash key

@@ -1,5 +1,6 @@
 -- T6: the walk's number is what every way down meets. There is a way in every tree, so two numbers that differ belong to two ways that do.
-use Rattle.std.proofs.Common.{◌≡◌, ℕ, zero, suc, ◌+◌, ◌≤◌, Bool, true, false, eqb, ◌↔◌, List, length, sym, refl, ap, ◌∙◌, arith, eq-eqb, ne_eqb, eqb-true}
+use Rattle.std.proofs.Common.{◌≡◌, ℕ, zero, suc, ◌+◌, ◌≤◌, Bool, true, false, eqb, ◌↔◌, List, length, sym, refl, ap, ◌∙◌, arith, eq-eqb}
+use Rattle.std.proofs.Common.{ne_eqb, eqb-true}
 use mathlib.Core.Bool.{false≢true}
 use Rattle.slots.specs.Words.{null, pick, Colour, black, red, code}
 use Rattle.slots.specs.Answers.{Value, none, some}

@@ -1,6 +1,7 @@
 -- The size of the left subtree is the number of slots before the slot itself, so the ways down by sizes find the slot of a position and the
 -- position of a pair.
-use Rattle.std.proofs.Common.{◌≡◌, ℕ, zero, suc, ◌+◌, ◌-◌, ◌<◌, ◌≤◌, Bool, true, false, eqb, ◌≢◌, ◌⊎◌, List, [], ◌∷◌, ◌++◌, length, get_or, sym, refl, ap, ◌∙◌, inl, inr, arith, get_or-append-add, le-ltb, lt-ltb, eq-eqb, ne_eqb}
+use Rattle.std.proofs.Common.{◌≡◌, ℕ, zero, suc, ◌+◌, ◌-◌, ◌<◌, ◌≤◌, Bool, true, false, eqb, ◌≢◌, ◌⊎◌, List, [], ◌∷◌, ◌++◌, length, get_or}
+use Rattle.std.proofs.Common.{sym, refl, ap, ◌∙◌, inl, inr, arith, get_or-append-add, le-ltb, lt-ltb, eq-eqb, ne_eqb}
 use mathlib.Core.Bool.{false≢true}
 use native.Mathlib.Decide.{ℕ_discrete, dec_lt}
 use lib.ListN.{get_or-append}
@@ -88,7 +89,8 @@ not_lower : (names : List ℕ) (x y : ℕ) → (Less (pair_of names x) (pair_of 
     → before (name_of names x hash_part) (name_of names x key_part) (name_of names y hash_part) (name_of names y key_part) ≡ false
 not_lower names x y n = go _ refl
   where
-    go : (b : Bool) → before (name_of names x hash_part) (name_of names x key_part) (name_of names y hash_part) (name_of names y key_part) ≡ b
+    go : (b : Bool)
+        → before (name_of names x hash_part) (name_of names x key_part) (name_of names y hash_part) (name_of names y key_part) ≡ b
         → before (name_of names x hash_part) (name_of names x key_part) (name_of names y hash_part) (name_of names y key_part) ≡ false
     go true e = absurd (n ((before_less _ _ _ _).0 e))
     go false e = e

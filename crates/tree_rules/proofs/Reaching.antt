@@ -1,6 +1,7 @@
 -- T3: the walk passes where the words hold a tree, and takes a visit a slot. No slot stands twice: in a tree whose children point back
 -- a slot reached twice stands at two depths, or under two children that are one.
-use Rattle.std.proofs.Common.{◌≡◌, ℕ, zero, suc, ◌+◌, ◌-◌, ◌<◌, ◌≤◌, Bool, true, false, eqb, ltb, ◌≢◌, List, ◌∷◌, length, sym, refl, ap, ◌∙◌, arith, length-append, ltb-true, lt-ltb, eq-eqb, ne_eqb, eqb-true}
+use Rattle.std.proofs.Common.{◌≡◌, ℕ, zero, suc, ◌+◌, ◌-◌, ◌<◌, ◌≤◌, Bool, true, false, eqb, ltb, ◌≢◌, List, ◌∷◌, length, sym, refl, ap}
+use Rattle.std.proofs.Common.{◌∙◌, arith, length-append, ltb-true, lt-ltb, eq-eqb, ne_eqb, eqb-true}
 use mathlib.Core.Bool.{false≢true}
 use native.Mathlib.Decide.{ℕ_discrete, dec_le}
 use borrow.Author.Tests.{eqb-false}
@@ -130,7 +131,8 @@ module _ (n : ℕ) (cells : List ℕ) where
         → Hangs n cells i r → Rank cells parent q d
         → (top l ≡ top r → top l ≡ null) → ((k : ℕ) → times k (slots l) ≤ 1) → ((k : ℕ) → times k (slots r) ≤ 1) → (k : ℕ)
         → times k (slots (node c l i r)) ≤ 1
-    once_node {d = d} {c} {l} {i} {r} w a b rk two ol or k = go (dec_le 1 (times k (slots l))) (dec_le 1 (times k (slots r))) (ℕ_discrete k i)
+    once_node {d = d} {c} {l} {i} {r} w a b rk two ol or k =
+        go (dec_le 1 (times k (slots l))) (dec_le 1 (times k (slots r))) (ℕ_discrete k i)
       where
         at : k ≡ i → Rank cells parent k (suc d)
         at e = rw e (cell_rank w rk)
@@ -140,7 +142,8 @@ module _ (n : ℕ) (cells : List ℕ) where
 
         go : Dec (1 ≤ times k (slots l)) → Dec (1 ≤ times k (slots r)) → Dec (k ≡ i) → times k (slots (node c l i r)) ≤ 1
         go (yes y) (yes z) e =
-            absurd (solid small (top-cell k a y).0 (two (under_one_lem (hangs_under a (cell_rank w rk) y) (hangs_under b (cell_rank w rk) z))))
+            absurd (solid small (top-cell k a y).0
+            (two (under_one_lem (hangs_under a (cell_rank w rk) y) (hangs_under b (cell_rank w rk) z))))
         go (yes y) (no z) (yes e) = absurd (omega (arith, under_deep (hangs_under a (cell_rank w rk) y) (at e)))
         go (no y) (yes z) (yes e) = absurd (omega (arith, under_deep (hangs_under b (cell_rank w rk) z) (at e)))
         go (yes y) (no z) (no e) = omega (arith, times_node k c l i r, times_else k i (slots r) e, ol k)

@@ -1,6 +1,7 @@
 -- T4: the walk reads the slots left, self, right and compares each pair with the last one read. That is enough: the order of pairs is
 -- transitive, so each pair is then below all that come after it.
-use Rattle.std.proofs.Common.{◌≡◌, ℕ, zero, suc, ◌≤◌, Bool, true, false, eqb, ◌≢◌, ◌⊎◌, ◌↔◌, List, [], ◌∷◌, ◌++◌, length, sym, refl, ap, ◌∙◌, inl, inr, arith, eq-eqb, ne_eqb}
+use Rattle.std.proofs.Common.{◌≡◌, ℕ, zero, suc, ◌≤◌, Bool, true, false, eqb, ◌≢◌, ◌⊎◌, ◌↔◌, List, [], ◌∷◌, ◌++◌, length, sym, refl, ap}
+use Rattle.std.proofs.Common.{◌∙◌, inl, inr, arith, eq-eqb, ne_eqb}
 use mathlib.Core.Bool.{false≢true}
 use Rattle.slots.specs.Words.{null, pick, name_of, hash_part, key_part}
 use Rattle.slots.specs.Pairs.{Pair, pair_of, Less, before}
@@ -43,7 +44,8 @@ module _ (names : List ℕ) where
   less_follows m i (inr h) = go (eqb m null)
     where
       go : (x : Bool)
-          → pick x true (before (name_of names m hash_part) (name_of names m key_part) (name_of names i hash_part) (name_of names i key_part))
+          → pick x true
+          (before (name_of names m hash_part) (name_of names m key_part) (name_of names i hash_part) (name_of names i key_part))
           ≡ true
       go true = refl
       go false = (before_less _ _ _ _).1 h
@@ -58,7 +60,8 @@ module _ (names : List ℕ) where
   read-risen m [] solid e = record { under = λ d. last; rising = empty }
   read-risen m (i ∷ l) solid e = go (follows names m i) refl e (λ h. read-risen i l (λ k y. solid k (omega (arith, times_rest k i l))) h)
     where
-      go : (x : Bool) → follows names m i ≡ x → is_some (pick x (read names i l) none) ≡ true → (is_some (read names i l) ≡ true → Risen i l)
+      go : (x : Bool) → follows names m i ≡ x → is_some (pick x (read names i l) none) ≡ true
+          → (is_some (read names i l) ≡ true → Risen i l)
           → Risen m (i ∷ l)
       go true f e again =
           let h = again e in

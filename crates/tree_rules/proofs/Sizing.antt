@@ -103,7 +103,8 @@ module _ (names cells sizes : List ℕ) (root v rest : ℕ) where
   unfolding obeyed_sized
   both_sized w o = rw (w, o)
 
-module _ (names cells sizes : List ℕ) (small : slots_of names ≤ null) (ends : length cells ≤ 7 * null) (long : length sizes ≡ slots_of names)
+module _ (names cells sizes : List ℕ) (small : slots_of names ≤ null) (ends : length cells ≤ 7 * null)
+    (long : length sizes ≡ slots_of names)
     (root m : ℕ) where
   size_shaped : tree_size names cells sizes root ≡ some m → (s : Shaped names cells root m) × SizedSlots sizes s.tree
   unfolding tree_size

@@ -2,7 +2,8 @@
 -- Parts: a turn of the search, and the search; the asserts at a node are our tests; the first that fails, or what follows; our walk is the
 -- walk of the source; an answer of the check says which walk it was.
 use Prim.{Unit, tt}
-use Rattle.std.proofs.Common.{◌≡◌, ℕ, zero, suc, ◌+◌, ◌-◌, Bool, true, false, not, ◌&&◌, ◌||◌, eqb, ltb, leb, ◌≢◌, List, refl, ap, ◌∙◌, arith, ltb-false, ne_eqb}
+use Rattle.std.proofs.Common.{◌≡◌, ℕ, zero, suc, ◌+◌, ◌-◌, Bool, true, false, not, ◌&&◌, ◌||◌, eqb, ltb, leb, ◌≢◌, List, refl, ap, ◌∙◌}
+use Rattle.std.proofs.Common.{arith, ltb-false, ne_eqb}
 use borrow.Author.Tests.{eqb-false}
 use Rattle.slots.specs.Words.{null, pick, parent, left, right, prev, next, cell, name_of, hash_part, key_part}
 use Rattle.slots.specs.Answers.{Value, Answer, none, some, given, nothing, refused}

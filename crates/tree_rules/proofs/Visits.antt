@@ -1,5 +1,6 @@
 -- The walks of T3 and T7 a visit at a time: neither hands back more visits than it was given, and fuel past the visits changes nothing.
-use Rattle.std.proofs.Common.{◌≡◌, ℕ, zero, suc, ◌-◌, ◌<◌, ◌≤◌, Bool, true, false, eqb, ltb, ◌≢◌, List, sym, refl, ◌∙◌, sub-one, arith, le-ltb, lt-ltb, eq-eqb, ne_eqb}
+use Rattle.std.proofs.Common.{◌≡◌, ℕ, zero, suc, ◌-◌, ◌<◌, ◌≤◌, Bool, true, false, eqb, ltb, ◌≢◌, List, sym, refl, ◌∙◌, sub-one, arith}
+use Rattle.std.proofs.Common.{le-ltb, lt-ltb, eq-eqb, ne_eqb}
 use borrow.Author.Tests.{eqb-false}
 use Rattle.slots.specs.Words.{null, pick, left, right, prev, next, cell}
 use Rattle.slots.specs.Answers.{Value, none, some}

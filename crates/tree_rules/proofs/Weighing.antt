@@ -1,6 +1,7 @@
 -- T8: the walk's number is that of the slots below a link, so a slot passes exactly where that is stored for it. A slot of the tree has
 -- what its subtree says, and every other slot 0.
-use Rattle.std.proofs.Common.{◌≡◌, ℕ, zero, suc, ◌+◌, ◌≤◌, Bool, true, false, eqb, ◌↔◌, List, [], ◌∷◌, length, sym, refl, ap, ◌∙◌, arith, eq-eqb, ne_eqb, eqb-true, le-leb}
+use Rattle.std.proofs.Common.{◌≡◌, ℕ, zero, suc, ◌+◌, ◌≤◌, Bool, true, false, eqb, ◌↔◌, List, [], ◌∷◌, length, sym, refl, ap, ◌∙◌, arith}
+use Rattle.std.proofs.Common.{eq-eqb, ne_eqb, eqb-true, le-leb}
 use mathlib.Core.Bool.{false≢true}
 use native.Mathlib.Decide.{ℕ_discrete, dec_le}
 use lib.ListN.{get_or-eq_default}
@@ -36,7 +37,13 @@ unfolding size_in
 size_in_none k leaf e = refl
 size_in_none k (node c l i r) e =
     let n = times_node k c l i r in
-    omega (arith, only_none k i (length (slots (node c l i r))) (omega arith), size_in_none k l (omega arith), size_in_none k r (omega arith))
+    omega (
+      arith,
+      only_none k i (length (slots (node c l i r))) (omega arith),
+      size_in_none k l (omega arith),
+      size_in_none k r
+          (omega arith),
+    )
 
 -- The slot at the top has all, and a slot further down what its side says.
 module _ (c : Colour) (l : Tree) (i : ℕ) (r : Tree) (k : ℕ) (o : times k (slots (node c l i r)) ≤ 1) where
@@ -179,7 +186,8 @@ module _ (n : ℕ) (cells sizes : List ℕ) (small : n ≤ null) (long : length 
       let z : m ≡ length (slots (node c l i r)) = omega (arith, length_node c l i r, x.0, y.0, p.all) in
       (z, each (stored m w.inside p.stored ∙ z) x.1 y.1)
 
-  with_parts_lem : (c : Colour) (l : Tree) (i : ℕ) (r : Tree) → with_parts (length (slots l)) (length (slots r)) ≡ length (slots (node c l i r))
+  with_parts_lem : (c : Colour) (l : Tree) (i : ℕ) (r : Tree)
+      → with_parts (length (slots l)) (length (slots r)) ≡ length (slots (node c l i r))
   unfolding with_parts
   with_parts_lem c l i r = omega (arith, length_node c l i r)
 
@@ -227,7 +235,8 @@ module _ (cells : List ℕ) where
           → ((k : ℕ) → u ≡ some k → (w : ℕ) × (slots_below depth cells [] (cell cells i left) ≡ some w))
           → ((k : ℕ) → v ≡ some k → (w : ℕ) × (slots_below depth cells [] (cell cells i right) ≡ some w))
           → (w : ℕ)
-          × (pick t (some 0) (summed [] i (slots_below depth cells [] (cell cells i left)) (slots_below depth cells [] (cell cells i right)))
+          × (pick t (some 0)
+          (summed [] i (slots_below depth cells [] (cell cells i left)) (slots_below depth cells [] (cell cells i right)))
           ≡ some w)
       go true u v e f g = (0, refl)
       go false none v e f g = refuted e

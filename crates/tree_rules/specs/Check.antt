@@ -149,5 +149,6 @@ pub data Walks (names cells : List ℕ) : ℕ → ℕ → Walk → Type 0 where
   left_stops : {i v : ℕ} {o : Walk} → i ≢ null → i < slots_of names → v ≢ 0 → LinksNamed (slots_of names) cells i
       → first_failing names cells i ≡ 0
       → Walks names cells (cell cells i left) (v - 1) o → ((m : ℕ) → o ≢ passed m) → Walks names cells i v o
-  both : {i v m : ℕ} {o : Walk} → i ≢ null → i < slots_of names → v ≢ 0 → LinksNamed (slots_of names) cells i → first_failing names cells i ≡ 0
+  both : {i v m : ℕ} {o : Walk} → i ≢ null → i < slots_of names → v ≢ 0 → LinksNamed (slots_of names) cells i
+      → first_failing names cells i ≡ 0
       → Walks names cells (cell cells i left) (v - 1) (passed m) → Walks names cells (cell cells i right) m o → Walks names cells i v o

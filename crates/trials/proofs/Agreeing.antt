@@ -67,7 +67,8 @@ yes_came expected from (b ∷ part) e = go (stands expected from b) (yes_came ex
         }
     go (inr o) again = absurd (false≢true (rw (no_test expected from b o) at e))
 
-stood_yes : (expected : List ℕ) (from : ℕ) (part rest : List ℕ) → drop from expected ≡ part ++ rest → (agreed expected from part).same ≡ true
+stood_yes : (expected : List ℕ) (from : ℕ) (part rest : List ℕ) → drop from expected ≡ part ++ rest
+    → (agreed expected from part).same ≡ true
 unfolding agreed
 stood_yes expected from [] rest e = refl
 stood_yes expected from (b ∷ part) rest e = go (dec_lt from (length expected)) (stood_yes expected (suc from) part rest)

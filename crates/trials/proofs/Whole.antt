@@ -14,7 +14,8 @@ use Rattle.index_rules.specs.Index.{Index}
 use Rattle.script_rules.specs.Text.{newline}
 use Rattle.script_rules.specs.Commands.{spoken}
 use Rattle.script_rules.specs.Answers.{Said, carried_out}
-use Rattle.script_rules.specs.Feeding.{Line, blank_line, held_of, noted, Paper, typed_one, typed, longest, Desk, answered, fed_byte, Fed, fed}
+use Rattle.script_rules.specs.Feeding.{Line, blank_line, held_of, noted, Paper, typed_one, typed, longest, Desk, answered, fed_byte, Fed}
+use Rattle.script_rules.specs.Feeding.{fed}
 use Rattle.script_rules.specs.Feeding.{room_left, feeding, feeds, finishes, Heard, prefixed, heard, desk_of, printed}
 use Rattle.script_rules.proofs.Ending.{ends_none, ends_line}
 use Rattle.script_rules.proofs.Room.{answer_short, typed_whole}

@@ -15,4 +15,8 @@ returns-then-count-eq0 c = record { out_after = ends_none _ c.if-out-lt-LONGEST.
 pub returns : goal.returns
 returns c =
     let turn = turn_of_lem _ _ c.obey-written.ensures (sym c.kept_meaning-command.ensures) in
-    record { out_after = ends_line _ c.if-out-lt-LONGEST.false c.if-count-eq0.false turn c.blank-next.ensures; bounds = turn_within _ _ _ turn (omega arith) }
+    record {
+      out_after = ends_line _ c.if-out-lt-LONGEST.false c.if-count-eq0.false turn c.blank-next.ensures;
+      bounds =
+          turn_within _ _ _ turn (omega arith);
+    }

@@ -24,17 +24,20 @@ returns-then-begins-4 c =
 pub returns-then-begins-5 : goal.returns-then-begins-5
 returns-then-begins-5 c =
     by_mark _ (sym c.begins.ensures ∙ c.if-begins.false) (sym c.begins-2.ensures ∙ c.if-begins-2.false)
-    (sym c.begins-3.ensures ∙ c.if-begins-3.false) (sym c.begins-4.ensures ∙ c.if-begins-4.false) (sym c.begins-5.ensures ∙ c.if-begins-5.true)
+    (sym c.begins-3.ensures ∙ c.if-begins-3.false) (sym c.begins-4.ensures ∙ c.if-begins-4.false)
+    (sym c.begins-5.ensures ∙ c.if-begins-5.true)
     c.alone_after.ensures
 
 pub returns-then-begins-6 : goal.returns-then-begins-6
 returns-then-begins-6 c =
     by_list _ (sym c.begins.ensures ∙ c.if-begins.false) (sym c.begins-2.ensures ∙ c.if-begins-2.false)
-    (sym c.begins-3.ensures ∙ c.if-begins-3.false) (sym c.begins-4.ensures ∙ c.if-begins-4.false) (sym c.begins-5.ensures ∙ c.if-begins-5.false)
+    (sym c.begins-3.ensures ∙ c.if-begins-3.false) (sym c.begins-4.ensures ∙ c.if-begins-4.false)
+    (sym c.begins-5.ensures ∙ c.if-begins-5.false)
     (sym c.begins-6.ensures ∙ c.if-begins-6.true) c.alone_after-then-begins-6.ensures
 
 pub returns : goal.returns
 returns c =
     by_none _ (sym c.begins.ensures ∙ c.if-begins.false) (sym c.begins-2.ensures ∙ c.if-begins-2.false)
-    (sym c.begins-3.ensures ∙ c.if-begins-3.false) (sym c.begins-4.ensures ∙ c.if-begins-4.false) (sym c.begins-5.ensures ∙ c.if-begins-5.false)
+    (sym c.begins-3.ensures ∙ c.if-begins-3.false) (sym c.begins-4.ensures ∙ c.if-begins-4.false)
+    (sym c.begins-5.ensures ∙ c.if-begins-5.false)
     (sym c.begins-6.ensures ∙ c.if-begins-6.false)

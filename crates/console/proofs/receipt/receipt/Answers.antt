@@ -8,7 +8,17 @@ pub returns-then-out-lt-LONGEST : goal.returns-then-out-lt-LONGEST
 returns-then-out-lt-LONGEST c = record { result_after = receipt_short _ _ _ c.if-out-lt-LONGEST.true; bounds = search rules }
 
 pub returns-then-number-ne0 : goal.returns-then-number-ne0
-returns-then-number-ne0 c = record { result_after = receipt_refused _ _ _ c.if-out-lt-LONGEST.false c.if-number-ne0.true c.tell.ensures; bounds = text_within _ _ c.tell.ensures (omega arith) }
+returns-then-number-ne0 c =
+    record {
+      result_after = receipt_refused _ _ _ c.if-out-lt-LONGEST.false c.if-number-ne0.true c.tell.ensures;
+      bounds =
+          text_within _ _ c.tell.ensures (omega arith);
+    }
 
 pub returns : goal.returns
-returns c = record { result_after = receipt_listed _ _ _ c.if-out-lt-LONGEST.false c.if-number-ne0.false c.tell_list.ensures; bounds = text_within _ _ c.tell_list.ensures (omega arith) }
+returns c =
+    record {
+      result_after = receipt_listed _ _ _ c.if-out-lt-LONGEST.false c.if-number-ne0.false c.tell_list.ensures;
+      bounds =
+          text_within _ _ c.tell_list.ensures (omega arith);
+    }

@@ -7,7 +7,8 @@ use Rattle.dump.proofs.ways.put_onward.Given as goal
 
 abbrev pub invariant-loop-left : goal.invariant-loop-left
 invariant-loop-left l =
-    (typed (lent_paper l.out l.end) (onward l.left l.cells l.link) ≡ typed (lent_paper l.initial.out l.at) (onward l.budget l.cells l.i)) × (length l.out ≡ length l.initial.out)
+    (typed (lent_paper l.out l.end) (onward l.left l.cells l.link) ≡ typed (lent_paper l.initial.out l.at) (onward l.budget l.cells l.i)) ×
+    (length l.out ≡ length l.initial.out)
 
 abbrev pub decreases-loop-left : goal.decreases-loop-left
 decreases-loop-left l = l.left

@@ -8,7 +8,8 @@ use Rattle.dump.proofs.write.put_wides.Given as goal
 
 abbrev pub invariant-loop-i : goal.invariant-loop-i
 invariant-loop-i l =
-    (typed (lent_paper l.out l.end) (words_bytes 8 (drop l.i l.words)) ≡ typed (lent_paper l.initial.out l.at) (words_bytes 8 l.words)) × (l.i ≤ length l.words)
+    (typed (lent_paper l.out l.end) (words_bytes 8 (drop l.i l.words)) ≡ typed (lent_paper l.initial.out l.at) (words_bytes 8 l.words)) ×
+    (l.i ≤ length l.words)
     × (length l.out ≡ length l.initial.out)
 
 abbrev pub decreases-loop-i : goal.decreases-loop-i

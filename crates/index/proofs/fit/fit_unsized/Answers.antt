@@ -11,12 +11,28 @@ unfolding fits_unsized
 returns-then-cells-n c =
     elim c.if-n-ge1.branch [
       | then-n-ge1 w ↦ elim c.if-n-le-MOST_SLOTS.branch [
-        | then-n-le-MOST_SLOTS v ↦ elim c.if-names-n.branch [ then-names-n u ↦ grind (arith, common_steps) | else-names-n u ↦ grind (arith, common_steps) ]
-        | else-n-le-MOST_SLOTS v ↦ elim c.if-names-n.branch [ then-names-n u ↦ grind (arith, common_steps) | else-names-n u ↦ grind (arith, common_steps) ]
+        | then-n-le-MOST_SLOTS v ↦ elim c.if-names-n.branch [
+          | then-names-n u ↦ grind (arith, common_steps)
+          | else-names-n u ↦ grind
+              (arith, common_steps)
+        ]
+        | else-n-le-MOST_SLOTS v ↦ elim c.if-names-n.branch [
+          | then-names-n u ↦ grind (arith, common_steps)
+          | else-names-n u ↦ grind
+              (arith, common_steps)
+        ]
       ]
       | else-n-ge1 w ↦ elim c.if-n-le-MOST_SLOTS.branch [
-        | then-n-le-MOST_SLOTS v ↦ elim c.if-names-n.branch [ then-names-n u ↦ grind (arith, common_steps) | else-names-n u ↦ grind (arith, common_steps) ]
-        | else-n-le-MOST_SLOTS v ↦ elim c.if-names-n.branch [ then-names-n u ↦ grind (arith, common_steps) | else-names-n u ↦ grind (arith, common_steps) ]
+        | then-n-le-MOST_SLOTS v ↦ elim c.if-names-n.branch [
+          | then-names-n u ↦ grind (arith, common_steps)
+          | else-names-n u ↦ grind
+              (arith, common_steps)
+        ]
+        | else-n-le-MOST_SLOTS v ↦ elim c.if-names-n.branch [
+          | then-names-n u ↦ grind (arith, common_steps)
+          | else-names-n u ↦ grind
+              (arith, common_steps)
+        ]
       ]
     ]
 
@@ -25,11 +41,27 @@ unfolding fits_unsized
 returns-else-cells-n c =
     elim c.if-n-ge1.branch [
       | then-n-ge1 w ↦ elim c.if-n-le-MOST_SLOTS.branch [
-        | then-n-le-MOST_SLOTS v ↦ elim c.if-names-n.branch [ then-names-n u ↦ grind (arith, common_steps) | else-names-n u ↦ grind (arith, common_steps) ]
-        | else-n-le-MOST_SLOTS v ↦ elim c.if-names-n.branch [ then-names-n u ↦ grind (arith, common_steps) | else-names-n u ↦ grind (arith, common_steps) ]
+        | then-n-le-MOST_SLOTS v ↦ elim c.if-names-n.branch [
+          | then-names-n u ↦ grind (arith, common_steps)
+          | else-names-n u ↦ grind
+              (arith, common_steps)
+        ]
+        | else-n-le-MOST_SLOTS v ↦ elim c.if-names-n.branch [
+          | then-names-n u ↦ grind (arith, common_steps)
+          | else-names-n u ↦ grind
+              (arith, common_steps)
+        ]
       ]
       | else-n-ge1 w ↦ elim c.if-n-le-MOST_SLOTS.branch [
-        | then-n-le-MOST_SLOTS v ↦ elim c.if-names-n.branch [ then-names-n u ↦ grind (arith, common_steps) | else-names-n u ↦ grind (arith, common_steps) ]
-        | else-n-le-MOST_SLOTS v ↦ elim c.if-names-n.branch [ then-names-n u ↦ grind (arith, common_steps) | else-names-n u ↦ grind (arith, common_steps) ]
+        | then-n-le-MOST_SLOTS v ↦ elim c.if-names-n.branch [
+          | then-names-n u ↦ grind (arith, common_steps)
+          | else-names-n u ↦ grind
+              (arith, common_steps)
+        ]
+        | else-n-le-MOST_SLOTS v ↦ elim c.if-names-n.branch [
+          | then-names-n u ↦ grind (arith, common_steps)
+          | else-names-n u ↦ grind
+              (arith, common_steps)
+        ]
       ]
     ]

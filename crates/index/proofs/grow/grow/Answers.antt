@@ -26,8 +26,10 @@ returns c =
     c.word-count.ensures
     c.if-count.false
     c.word-root.ensures
-    (follower t a.x a.y c.word-first.ensures c.if-y-eq-NULL.branch-raw c.get-behind.ensures (λ w. (w.if-y-eq-NULL.true, w.q-is)) (λ w. (w.if-y-eq-NULL.false, w.q-is)))
-    (top t a.x a.y c.word-first.ensures c.if-y-eq-NULL-2.branch-raw (λ w. (w.if-y-eq-NULL-2.true, w.front-is)) (λ w. (w.if-y-eq-NULL-2.false, w.front-is)))
+    (follower t a.x a.y c.word-first.ensures c.if-y-eq-NULL.branch-raw c.get-behind.ensures (λ w. (w.if-y-eq-NULL.true, w.q-is))
+    (λ w. (w.if-y-eq-NULL.false, w.q-is)))
+    (top t a.x a.y c.word-first.ensures c.if-y-eq-NULL-2.branch-raw (λ w. (w.if-y-eq-NULL-2.true, w.front-is))
+    (λ w. (w.if-y-eq-NULL-2.false, w.front-is)))
     c.put_pair.ensures
     c.put.ensures
     c.seat.ensures

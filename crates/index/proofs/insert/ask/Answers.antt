@@ -19,14 +19,16 @@ overflow_cast-names c =
 pub returns-then-x : goal.returns-then-x
 returns-then-x c =
     full _ _ _ _ (ap sound_of (sym c.in-Yes.is) ∙ c.taken_as_sound-verdict.ensures)
-    (sought-not _ _ _ c.word-root.ensures c.find_tree_node-found.result c.find_tree_node-found.ensures (opened c.in_default.in_default-own.keys2))
+    (sought-not _ _ _ c.word-root.ensures c.find_tree_node-found.result c.find_tree_node-found.ensures
+    (opened c.in_default.in_default-own.keys2))
     c.lowest_free-x.ensures
     c.if-x.true
 
 pub returns-then-full : goal.returns-then-full
 returns-then-full c =
     journal_full _ _ _ _ (ap sound_of (sym c.in-Yes.is) ∙ c.taken_as_sound-verdict.ensures)
-    (sought-not _ _ _ c.word-root.ensures c.find_tree_node-found.result c.find_tree_node-found.ensures (opened c.in_default.in_default-own.keys2))
+    (sought-not _ _ _ c.word-root.ensures c.find_tree_node-found.result c.find_tree_node-found.ensures
+    (opened c.in_default.in_default-own.keys2))
     c.lowest_free-x.ensures
     c.if-x.false
     (sym c.is_full-full.ensures ∙ c.if-full.true)
@@ -40,7 +42,8 @@ returns-in-No c = damaged _ _ _ _ (ap sound_of (sym c.in-No.is) ∙ c.taken_as_s
 pub returns-else-full : goal.returns-else-full
 returns-else-full c =
     taken _ _ _ _ (ap sound_of (sym c.in-Yes.is) ∙ c.taken_as_sound-verdict.ensures)
-    (sought-not _ _ _ c.word-root.ensures c.find_tree_node-found.result c.find_tree_node-found.ensures (opened c.in_default.in_default-own.keys2))
+    (sought-not _ _ _ c.word-root.ensures c.find_tree_node-found.result c.find_tree_node-found.ensures
+    (opened c.in_default.in_default-own.keys2))
     c.lowest_free-x.ensures
     c.if-x.false
     (sym c.is_full-full.ensures ∙ c.if-full.false)

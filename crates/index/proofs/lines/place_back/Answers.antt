@@ -10,7 +10,8 @@ use Rattle.index.proofs.lines.place_back.Goals as goal
 pub returns-in_default : goal.returns-in_default
 returns-in_default c = record {
   sizes_after = place_absent _ _ _ _
-      (sought-not _ _ _ c.word-root.ensures c.find_tree_node-found.result c.find_tree_node-found.ensures (opened c.in_default.in_default-own.keys2));
+      (sought-not _ _ _ c.word-root.ensures c.find_tree_node-found.result c.find_tree_node-found.ensures
+      (opened c.in_default.in_default-own.keys2));
   freed_is = tt;
 }
 
@@ -22,4 +23,8 @@ returns-then-own-places c =
 pub returns : goal.returns
 returns c =
     let s = sought-at _ _ _ c.word-root.ensures c.find_tree_node-found.result c.find_tree_node-found.ensures c.in-At.is in
-    record { sizes_after = place-done _ _ _ _ s c.get-own.ensures c.if-own-places.false (omega (arith, c.ranges.places)) c.put.ensures; freed_is = refl }
+    record {
+      sizes_after =
+          place-done _ _ _ _ s c.get-own.ensures c.if-own-places.false (omega (arith, c.ranges.places)) c.put.ensures;
+      freed_is = refl;
+    }

@@ -20,7 +20,8 @@ pub returns-then-x-eq-NULL : goal.returns-then-x-eq-NULL
 returns-then-x-eq-NULL c =
     let a = c.args in record {
       by_index = λ kind prehash prekey. put_full _ (line_made kind a.hash a.key a.place prehash prekey) a.x a.y
-          (sought-not _ _ _ c.word-root.ensures c.find_tree_node-found.result c.find_tree_node-found.ensures (opened c.in_default.in_default-own.keys2))
+          (sought-not _ _ _ c.word-root.ensures c.find_tree_node-found.result c.find_tree_node-found.ensures
+          (opened c.in_default.in_default-own.keys2))
           c.if-x-eq-NULL.true;
       freed_is = tt;
     }
@@ -29,7 +30,8 @@ pub returns-then-place-ge-MOST_PLACES : goal.returns-then-place-ge-MOST_PLACES
 returns-then-place-ge-MOST_PLACES c =
     let a = c.args in record {
       by_index = λ kind prehash prekey. put_wide _ (line_made kind a.hash a.key a.place prehash prekey) a.x a.y
-          (sought-not _ _ _ c.word-root.ensures c.find_tree_node-found.result c.find_tree_node-found.ensures (opened c.in_default.in_default-own.keys2))
+          (sought-not _ _ _ c.word-root.ensures c.find_tree_node-found.result c.find_tree_node-found.ensures
+          (opened c.in_default.in_default-own.keys2))
           c.if-x-eq-NULL.false c.if-place-ge-MOST_PLACES.true;
       freed_is = tt;
     }
@@ -38,7 +40,8 @@ pub returns : goal.returns
 returns c =
     let a = c.args in record {
       by_index = λ kind prehash prekey. put-done _ (line_made kind a.hash a.key a.place prehash prekey) a.x a.y
-          (sought-not _ _ _ c.word-root.ensures c.find_tree_node-found.result c.find_tree_node-found.ensures (opened c.in_default.in_default-own.keys2))
+          (sought-not _ _ _ c.word-root.ensures c.find_tree_node-found.result c.find_tree_node-found.ensures
+          (opened c.in_default.in_default-own.keys2))
           c.if-x-eq-NULL.false c.if-place-ge-MOST_PLACES.false
           (c.grow.ensures ∙ grown-is _ c.requires.names_len_bound _ _ _ _ _ c.requires.null_bound);
       freed_is = refl;

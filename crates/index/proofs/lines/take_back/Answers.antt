@@ -11,7 +11,8 @@ use Rattle.index.proofs.lines.take_back.Goals as goal
 pub returns-in_default : goal.returns-in_default
 returns-in_default c = record {
   sizes_after = back_absent _ _ _ _
-      (sought-not _ _ _ c.word-root.ensures c.find_tree_node-found.result c.find_tree_node-found.ensures (opened c.in_default.in_default-own.keys2));
+      (sought-not _ _ _ c.word-root.ensures c.find_tree_node-found.result c.find_tree_node-found.ensures
+      (opened c.in_default.in_default-own.keys2));
   freed_is = tt;
 }
 
@@ -23,4 +24,9 @@ returns-then-own-place c =
 pub returns : goal.returns
 returns c =
     let s = sought-at _ _ _ c.word-root.ensures c.find_tree_node-found.result c.find_tree_node-found.ensures c.in-At.is in
-    record { sizes_after = back_done _ _ _ _ s c.get-own.ensures c.if-own-place.false (c.shrink.ensures ∙ shrunk-is _ c.requires _); freed_is = ap slot_in (sym s) }
+    record {
+      sizes_after =
+          back_done _ _ _ _ s c.get-own.ensures c.if-own-place.false (c.shrink.ensures ∙ shrunk-is _ c.requires _);
+      freed_is =
+          ap slot_in (sym s);
+    }

@@ -9,7 +9,8 @@ use Rattle.index.proofs.present.present.Goals as goal
 pub returns-in_default : goal.returns-in_default
 returns-in_default c =
     absent _ _ _ (ap sound_of (sym c.in-Yes.is) ∙ c.taken_as_sound-verdict.ensures)
-    (sought-not _ _ _ c.word-root.ensures c.find_tree_node-found.result c.find_tree_node-found.ensures (opened c.in_default.in_default-own.keys2))
+    (sought-not _ _ _ c.word-root.ensures c.find_tree_node-found.result c.find_tree_node-found.ensures
+    (opened c.in_default.in_default-own.keys2))
 
 pub returns-then-full : goal.returns-then-full
 returns-then-full c =

@@ -13,7 +13,8 @@ pub returns-in_default : goal.returns-in_default
 unfolding replaces_sound
 returns-in_default c =
     let a = c.args in
-    kept _ _ _ (settled _ a.hash a.key a.place) _ (not_at c.present-asked.result (opened c.in_default.in_default-own.keys2)) (c.present-asked.ensures _)
+    kept _ _ _ (settled _ a.hash a.key a.place) _ (not_at c.present-asked.result (opened c.in_default.in_default-own.keys2))
+    (c.present-asked.ensures _)
 
 pub returns : goal.returns
 unfolding replaces_sound

@@ -16,7 +16,14 @@ pub undo-undone-requires : goal.undo-undone-requires
 undo-undone-requires c =
     let a = c.args in
     let o = (opening _ a.mark _ (ap rolled_of (sym c.in-Lines.is) ∙ c.ask-asked.ensures)) in
-    record { names_len_bound = names_most o; cells_len_bound = cells_most o; head_len = head_three o; sizes_len_bound = sizes_most o; count_bound = count_room o }
+    record {
+      names_len_bound = names_most o;
+      cells_len_bound = cells_most o;
+      head_len = head_three o;
+      sizes_len_bound =
+          sizes_most o;
+      count_bound = count_room o;
+    }
 
 pub returns-in_default-undone : goal.returns-in_default-undone
 returns-in_default-undone c =

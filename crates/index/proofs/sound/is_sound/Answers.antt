@@ -15,12 +15,16 @@ pub returns-then-rules_of_the_tree : goal.returns-then-rules_of_the_tree
 unfolding rule2
 returns-then-rules_of_the_tree c =
     rw (in_four _ c.requires, ← c.rules_of_the_slots.ensures, ← c.rule7.ensures c.args.sizes.now)
-    (and-next _ c.if-rules_of_the_slots.branch-raw (λ w. (w.if-rules_of_the_slots.true, w.value-is ∙ w.rule2.ensures)) (λ w. (w.if-rules_of_the_slots.false, w.value-is))
-    (and-next _ c.if-rule2.branch-raw (λ w. (w.if-rule2.true, w.value-is ∙ w.rules_of_the_tree.ensures)) (λ w. (w.if-rule2.false, w.value-is)) (rw c.if-rules_of_the_tree.true)))
+    (and-next _ c.if-rules_of_the_slots.branch-raw (λ w. (w.if-rules_of_the_slots.true, w.value-is ∙ w.rule2.ensures))
+    (λ w. (w.if-rules_of_the_slots.false, w.value-is))
+    (and-next _ c.if-rule2.branch-raw (λ w. (w.if-rule2.true, w.value-is ∙ w.rules_of_the_tree.ensures))
+    (λ w. (w.if-rule2.false, w.value-is)) (rw c.if-rules_of_the_tree.true)))
 
 pub returns-else-rules_of_the_tree : goal.returns-else-rules_of_the_tree
 unfolding rule2
 returns-else-rules_of_the_tree c =
     rw (in_four _ c.requires, ← c.rules_of_the_slots.ensures)
-    (and-next _ c.if-rules_of_the_slots.branch-raw (λ w. (w.if-rules_of_the_slots.true, w.value-is ∙ w.rule2.ensures)) (λ w. (w.if-rules_of_the_slots.false, w.value-is))
-    (and-next _ c.if-rule2.branch-raw (λ w. (w.if-rule2.true, w.value-is ∙ w.rules_of_the_tree.ensures)) (λ w. (w.if-rule2.false, w.value-is)) (rw c.if-rules_of_the_tree.false)))
+    (and-next _ c.if-rules_of_the_slots.branch-raw (λ w. (w.if-rules_of_the_slots.true, w.value-is ∙ w.rule2.ensures))
+    (λ w. (w.if-rules_of_the_slots.false, w.value-is))
+    (and-next _ c.if-rule2.branch-raw (λ w. (w.if-rule2.true, w.value-is ∙ w.rules_of_the_tree.ensures))
+    (λ w. (w.if-rule2.false, w.value-is)) (rw c.if-rules_of_the_tree.false)))

@@ -7,7 +7,8 @@ use Rattle.index_rules.specs.Sound.{slots_fine}
 use Rattle.index.proofs.sound.slots_fine.Given as goal
 
 abbrev pub invariant-loop-k : goal.invariant-loop-k
-invariant-loop-k l = (slots_fine l.k l.n (lent_tree l.names l.cells [] []) ≡ slots_fine l.n l.n (lent_tree l.names l.cells [] [])) × (l.k ≤ l.n)
+invariant-loop-k l =
+    (slots_fine l.k l.n (lent_tree l.names l.cells [] []) ≡ slots_fine l.n l.n (lent_tree l.names l.cells [] [])) × (l.k ≤ l.n)
 
 abbrev pub decreases-loop-k : goal.decreases-loop-k
 decreases-loop-k l = l.k

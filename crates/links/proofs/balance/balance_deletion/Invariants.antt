@@ -6,7 +6,8 @@ use Rattle.links.proofs.balance.balance_deletion.Given as goal
 
 abbrev pub invariant-loop-turns : goal.invariant-loop-turns
 invariant-loop-turns l =
-    (balanced_deletion l.turns (lent_links l.cells l.top l.sizes) l.at ≡ balanced_deletion l.budget (lent_links l.initial.cells l.root l.initial.sizes) l.x)
+    (balanced_deletion l.turns (lent_links l.cells l.top l.sizes) l.at ≡ balanced_deletion l.budget
+    (lent_links l.initial.cells l.root l.initial.sizes) l.x)
     × (l.top < 2 ^ 32)
     × (l.at < 2 ^ 32)
     × (length l.cells ≡ length l.initial.cells)

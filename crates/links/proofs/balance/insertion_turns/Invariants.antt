@@ -6,7 +6,8 @@ use Rattle.links.proofs.balance.insertion_turns.Given as goal
 
 abbrev pub invariant-loop-turns : goal.invariant-loop-turns
 invariant-loop-turns l =
-    (insertion_turns l.turns (lent_links l.cells l.top l.sizes) l.at ≡ insertion_turns l.budget (lent_links l.initial.cells l.root l.initial.sizes) l.x)
+    (insertion_turns l.turns (lent_links l.cells l.top l.sizes) l.at ≡ insertion_turns l.budget
+    (lent_links l.initial.cells l.root l.initial.sizes) l.x)
     × (l.top < 2 ^ 32)
     × (l.at < 2 ^ 32)
     × (length l.cells ≡ length l.initial.cells)

@@ -5,7 +5,8 @@ use Rattle.links.proofs.sizes.climb.Given as goal
 
 abbrev pub invariant-loop-rest : goal.invariant-loop-rest
 invariant-loop-rest l =
-    (climbed l.rest l.cells l.sizes l.at l.d ≡ climbed l.budget l.cells l.initial.sizes l.p l.d) × (l.at < 2 ^ 32) × (length l.sizes ≡ length l.initial.sizes)
+    (climbed l.rest l.cells l.sizes l.at l.d ≡ climbed l.budget l.cells l.initial.sizes l.p l.d) × (l.at < 2 ^ 32) ×
+    (length l.sizes ≡ length l.initial.sizes)
 
 abbrev pub decreases-loop-rest : goal.decreases-loop-rest
 decreases-loop-rest l = l.rest

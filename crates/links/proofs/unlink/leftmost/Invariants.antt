@@ -6,7 +6,8 @@ use Rattle.links.proofs.unlink.leftmost.Given as goal
 
 abbrev pub invariant-loop-rest : goal.invariant-loop-rest
 invariant-loop-rest l =
-    ((root : ℕ) (sizes : List ℕ) → leftmost l.rest (lent_links l.cells root sizes) l.at ≡ leftmost l.budget (lent_links l.cells root sizes) l.q)
+    ((root : ℕ) (sizes : List ℕ)
+    → leftmost l.rest (lent_links l.cells root sizes) l.at ≡ leftmost l.budget (lent_links l.cells root sizes) l.q)
     × (l.at < 2 ^ 32)
 
 abbrev pub decreases-loop-rest : goal.decreases-loop-rest

@@ -14,4 +14,8 @@ slice_bounds-feed-end c = simp length-take (omega arith)
 
 pub returns : goal.returns
 returns c =
-    record { out_after = c.feed-2.ensures.out_after; bounds = (c.feed-2.ensures.bounds.0, omega (arith, simp length-take at c.feed-2.ensures.bounds.1)) }
+    record {
+      out_after = c.feed-2.ensures.out_after;
+      bounds =
+          (c.feed-2.ensures.bounds.0, omega (arith, simp length-take at c.feed-2.ensures.bounds.1));
+    }
