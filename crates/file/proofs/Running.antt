@@ -144,7 +144,7 @@ module _ (l : List ℕ) (b : Bytes l) (h : 41 ≤ length l) where
       ≡ little 8 (word_in 8 l 0) ++ (little 8 (word_in 8 l 1)
       ++ (little 4 (word_in 4 l 4) ++ (little 1 (get_or l 20 0) ++ (little 4 (word_in 4 links 0)
       ++ (little 4 (word_in 4 links 1) ++
-          (little 4 (word_in 4 links 2) ++ (little 4 (word_in 4 links 3) ++ little 4 (word_in 4 links 4))))))))
+      (little 4 (word_in 4 links 2) ++ (little 4 (word_in 4 links 3) ++ little 4 (word_in 4 links 4))))))))
   unfolding words_bytes words_in
   slot_front =
       let w0 = word_bytes 8 l 0 b (omega arith) (omega arith) in

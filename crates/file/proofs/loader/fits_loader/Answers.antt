@@ -44,4 +44,4 @@ returns c =
     c.counts_fit-counted.ensures
     c.if-not-counted.false
     c.if-all-come.false c.next_width-width.ensures c.if-width-bytes.false c.power-over.ensures c.if-over-r.false
-        (λ e. absurd (c.if-r-eq4.false e))
+    (λ e. absurd (c.if-r-eq4.false e))

@@ -73,4 +73,3 @@ two_below-returns t c =
     let a = c.args in
     let s : Set = record { lengths = a.lengths.now; bins = a.bins.now; heads = a.heads.now; names = a.names.now; cells = a.cells.now } in
     below_both s a.left a.k a.i a.may a.visits c.if-left-eq0.false c.length_at-length.ensures c.in-Left.ensures c.bin_fine.ensures
-

@@ -11,7 +11,7 @@ use Rattle.sets.proofs.fit.fit_tables.Goals.{then-t-lt1-via-then-t-lt1, then-t-l
 pub returns-then-t-lt1 : goal.returns-then-t-lt1
 returns-then-t-lt1 c =
     elim c.then-t-lt1.branch [
-      then-t-lt1-via-then-t-lt1 w ↦ search (rules, no_table)
+      | then-t-lt1-via-then-t-lt1 w ↦ search (rules, no_table)
       | then-t-lt1-via-else-t-lt1+then-t-gt8 w ↦ search (rules, too_many)
     ]
 

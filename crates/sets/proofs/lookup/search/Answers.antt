@@ -19,10 +19,9 @@ loop-k-preserved c =
     let a = c.args in
     let s : Set = record { lengths = a.lengths.now; bins = a.bins.now; heads = a.heads.now; names = a.names.now; cells = a.cells.now } in
     let told : bin_as c.home_bin-bin.result ≡ home_bin s c.loop-k.k a.hash
-        = rw (c.home_bin-bin.ensures, c.length_at-length.ensures, c.loop-k.invariant.4) refl in
-    (
+    = rw (c.home_bin-bin.ensures, c.length_at-length.ensures, c.loop-k.invariant.4) refl in (
       at_moved s a.hash a.key c.loop-k.k c.loop-k.invariant.0 c.loop-k.invariant.1
-    (ap bin_as (sym c.in-Moved.is) ∙ told),
+          (ap bin_as (sym c.in-Moved.is) ∙ told),
       omega (arith, c.if-lengths-k.false),
       search rules,
       search rules,
@@ -35,7 +34,7 @@ returns-in-Empty c =
     let a = c.args in
     let s : Set = record { lengths = a.lengths.now; bins = a.bins.now; heads = a.heads.now; names = a.names.now; cells = a.cells.now } in
     let told : bin_as c.home_bin-bin.result ≡ home_bin s c.loop-k.k a.hash
-        = rw (c.home_bin-bin.ensures, c.length_at-length.ensures, c.loop-k.invariant.4) refl in
+    = rw (c.home_bin-bin.ensures, c.length_at-length.ensures, c.loop-k.invariant.4) refl in
     at-empty s a.hash a.key c.loop-k.k c.loop-k.invariant.0 c.loop-k.invariant.1
     (ap bin_as (sym c.in-Empty.is) ∙ told)
 
@@ -44,7 +43,7 @@ returns-then-lengths-k c =
     let a = c.args in
     let s : Set = record { lengths = a.lengths.now; bins = a.bins.now; heads = a.heads.now; names = a.names.now; cells = a.cells.now } in
     let told : bin_as c.home_bin-bin.result ≡ home_bin s c.loop-k.k a.hash
-        = rw (c.home_bin-bin.ensures, c.length_at-length.ensures, c.loop-k.invariant.4) refl in
+    = rw (c.home_bin-bin.ensures, c.length_at-length.ensures, c.loop-k.invariant.4) refl in
     at_last s a.hash a.key c.loop-k.k c.loop-k.invariant.0 c.loop-k.invariant.1
     (ap bin_as (sym c.in-Moved.is) ∙ told) c.if-lengths-k.true
 
@@ -53,7 +52,7 @@ returns-in-List c =
     let a = c.args in
     let s : Set = record { lengths = a.lengths.now; bins = a.bins.now; heads = a.heads.now; names = a.names.now; cells = a.cells.now } in
     let told : bin_as c.home_bin-bin.result ≡ home_bin s c.loop-k.k a.hash
-        = rw (c.home_bin-bin.ensures, c.length_at-length.ensures, c.loop-k.invariant.4) refl in
+    = rw (c.home_bin-bin.ensures, c.length_at-length.ensures, c.loop-k.invariant.4) refl in
     at_list s a.hash a.key c.loop-k.k c.loop-k.invariant.0 c.loop-k.invariant.1
     (ap bin_as (sym c.in-List.is) ∙ told) c.find_in_list.ensures
 
@@ -62,7 +61,7 @@ returns-in-Tree c =
     let a = c.args in
     let s : Set = record { lengths = a.lengths.now; bins = a.bins.now; heads = a.heads.now; names = a.names.now; cells = a.cells.now } in
     let told : bin_as c.home_bin-bin.result ≡ home_bin s c.loop-k.k a.hash
-        = rw (c.home_bin-bin.ensures, c.length_at-length.ensures, c.loop-k.invariant.4) refl in
+    = rw (c.home_bin-bin.ensures, c.length_at-length.ensures, c.loop-k.invariant.4) refl in
     at_tree s a.hash a.key c.loop-k.k c.loop-k.invariant.0 c.loop-k.invariant.1
     (ap bin_as (sym c.in-Tree.is) ∙ told) c.header-root.ensures c.find_tree_node.ensures
 
@@ -71,6 +70,6 @@ returns-in-Bad c =
     let a = c.args in
     let s : Set = record { lengths = a.lengths.now; bins = a.bins.now; heads = a.heads.now; names = a.names.now; cells = a.cells.now } in
     let told : bin_as c.home_bin-bin.result ≡ home_bin s c.loop-k.k a.hash
-        = rw (c.home_bin-bin.ensures, c.length_at-length.ensures, c.loop-k.invariant.4) refl in
+    = rw (c.home_bin-bin.ensures, c.length_at-length.ensures, c.loop-k.invariant.4) refl in
     at_bad s a.hash a.key c.loop-k.k c.loop-k.invariant.0 c.loop-k.invariant.1
     (ap bin_as (sym c.in-Bad.is) ∙ told)
