@@ -14,9 +14,11 @@ returns-then-n-gt-MOST_SLOTS c =
 
 pub returns-then-c-gt-MOST_LINES : goal.returns-then-c-gt-MOST_LINES
 returns-then-c-gt-MOST_LINES c =
-    gauge_lines _ c.if-bytes-lt8.false c.word_at-n.ensures c.if-n-lt1.false c.if-n-gt-MOST_SLOTS.false c.word_at-c.ensures c.if-c-gt-MOST_LINES.true
+    gauge_lines _ c.if-bytes-lt8.false c.word_at-n.ensures c.if-n-lt1.false c.if-n-gt-MOST_SLOTS.false
+    c.word_at-c.ensures c.if-c-gt-MOST_LINES.true
 
 pub returns : goal.returns
 returns c =
-    gauge_weighed _ c.if-bytes-lt8.false c.word_at-n.ensures c.if-n-lt1.false c.if-n-gt-MOST_SLOTS.false c.word_at-c.ensures c.if-c-gt-MOST_LINES.false
+    gauge_weighed _ c.if-bytes-lt8.false c.word_at-n.ensures c.if-n-lt1.false c.if-n-gt-MOST_SLOTS.false
+    c.word_at-c.ensures c.if-c-gt-MOST_LINES.false
     c.weigh.ensures

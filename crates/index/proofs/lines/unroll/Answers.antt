@@ -7,7 +7,8 @@ returns-in_default c =
 
 pub loop-c-preserved : goal.loop-c-preserved
 loop-c-preserved c =
-    turn_on c.loop-c.invariant c.lowest_free-x.ensures c.loop-c-test.true c.undo_line-undone.ensures.sizes_after c.undo_line-undone.ensures.freed_is
+    turn_on c.loop-c.invariant c.lowest_free-x.ensures c.loop-c-test.true c.undo_line-undone.ensures.sizes_after
+    c.undo_line-undone.ensures.freed_is
     c.in-Freed.is
     c.lesser-floor.ensures
     c.undo_line-undone.auto.names
