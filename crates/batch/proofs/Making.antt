@@ -58,7 +58,8 @@ module _ (calls answers : List ℕ) {m : ℕ} (e : m ≡ calls_in calls) where
 
 -- The words of a call.
 module _ (calls : List ℕ) (k : ℕ) {kind hash key p : ℕ}
-    (e0 : kind ≡ call_word calls k 0) (e1 : hash ≡ call_word calls k 1) (e2 : key ≡ call_word calls k 2) (e3 : p ≡ call_word calls k 3) where
+    (e0 : kind ≡ call_word calls k 0) (e1 : hash ≡ call_word calls k 1) (e2 : key ≡ call_word calls k 2)
+    (e3 : p ≡ call_word calls k 3) where
   pub is_insert : kind ≡ insert_kind → insert_call hash key p ≡ call_at calls k
   is_insert h = sym (at_insert calls k (sym e0 ∙ h) ∙ rw (e1, e2, e3))
 
@@ -73,7 +74,8 @@ module _ (calls : List ℕ) (k : ℕ) {kind hash key p : ℕ}
   unfolding call_fits
   small h d =
       let w =
-      both (pick (eqb kind insert_kind) true (eqb kind replace_kind)) (ltb p 4294967296) (rw (← e0, ← e3, ne_eqb kind remove_kind d) at h) in
+      both (pick (eqb kind insert_kind) true (eqb kind replace_kind)) (ltb p 4294967296)
+      (rw (← e0, ← e3, ne_eqb kind remove_kind d) at h) in
       ltb-true p 4294967296 w.1
 
 module _ {ix : Index} {floor : ℕ} (r : Ready ix floor) where

@@ -3,7 +3,8 @@ use mathlib.Core.Path.{◌≡◌, refl, ap, sym, ◌∙◌}
 use Rattle.night_rules.specs.Account.{Account}
 use Rattle.night_rules.specs.Breach.{Breach, stray_link, stray_state, left_hash, left_key, left_field, stray_root, stray_first, miscount}
 use Rattle.night_rules.specs.Breach.{root_count}
-use Rattle.night_rules.specs.Breach.{first_count, root_under, orphan, disowned, child_elsewhere, child_twice, off_root, falls, red_root, red_under}
+use Rattle.night_rules.specs.Breach.{first_count, root_under, orphan, disowned, child_elsewhere, child_twice, off_root, falls, red_root}
+use Rattle.night_rules.specs.Breach.{red_under}
 use Rattle.night_rules.specs.Breach.{uneven, first_behind, prev_astray, next_astray, off_first, wrong_size, free_size}
 use Rattle.night_rules.specs.Finding.{Finding, sound, broken, unfit}
 use Rattle.night.specs.Breaches.{breach_of}

@@ -24,7 +24,8 @@ use Rattle.index.specs.Reads.{sound_of}
 use Rattle.index.specs.declared.sound.Soundness.{Soundness}
 use Rattle.index.specs.declared.sound.Soundness.TheVariants.{Yes, No, Unfit}
 use Rattle.index.specs.contracts.sound.Soundness.{the_type}
-use Rattle.night_rules.specs.Salvage.{Salvage, salvaging, came_from, unknown_state, salvaged_pair, salvaged_slot, salvaged_from, salvaged_all}
+use Rattle.night_rules.specs.Salvage.{Salvage, salvaging, came_from, unknown_state, salvaged_pair, salvaged_slot, salvaged_from}
+use Rattle.night_rules.specs.Salvage.{salvaged_all}
 use Rattle.night_rules.specs.Salvage.{is_cleared_tree, fits_salvage, salvaged, salvages}
 use Rattle.night_rules.specs.Saved.{FitSalvage, kept_below}
 use Rattle.index_rules.proofs.Fit.{fit_fits}

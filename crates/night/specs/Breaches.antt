@@ -1,7 +1,8 @@
 -- What the code's breach stands for.
 use Rattle.night_rules.specs.Breach.{Breach, stray_link, stray_state, left_hash, left_key, left_field, stray_root, stray_first, miscount}
 use Rattle.night_rules.specs.Breach.{root_count}
-use Rattle.night_rules.specs.Breach.{first_count, root_under, orphan, disowned, child_elsewhere, child_twice, off_root, falls, red_root, red_under}
+use Rattle.night_rules.specs.Breach.{first_count, root_under, orphan, disowned, child_elsewhere, child_twice, off_root, falls, red_root}
+use Rattle.night_rules.specs.Breach.{red_under}
 use Rattle.night_rules.specs.Breach.{uneven, first_behind, prev_astray, next_astray, off_first, wrong_size, free_size}
 use Rattle.night.specs.declared.breach.Breach.{Breach as BreachCode}
 use Rattle.night.specs.declared.breach.Breach.TheVariants.{StrayLink, StrayState, LeftHash, LeftKey, LeftField, StrayRoot}

@@ -1,8 +1,9 @@
 -- A step of each way down, on plain values: each law takes what the reads and the tests gave, in the order of the code.
-use Rattle.std.proofs.Common.{◌≡◌, ℕ, zero, suc, ◌+◌, ◌-◌, ◌<◌, ◌≤◌, Bool, true, false, eqb, ltb, ◌≢◌, List, get_or, sym, refl, ◌∙◌, sub-one, arith, le-ltb, lt-ltb, eq-eqb, ne_eqb}
+use Rattle.std.proofs.Common.{◌≡◌, ℕ, zero, suc, ◌+◌, ◌-◌, ◌<◌, ◌≤◌, Bool, true, false, eqb, ltb, ◌≢◌, List, get_or}
+use Rattle.std.proofs.Common.{sym, refl, ◌∙◌, sub-one, arith, le-ltb, lt-ltb, eq-eqb, ne_eqb}
 use Rattle.slots.specs.Words.{null, pick, left, right, cell, name_of, hash_part, key_part, sum}
 use Rattle.slots.specs.Pairs.{before}
-use Rattle.slots.specs.Answers.{Value, some, none}
+use Rattle.slots.specs.Answers.{some, none}
 use Rattle.tree_rules.specs.Sizes.{size_word}
 use Rattle.tree_rules.specs.Ranks.{kth_from, rank_from}
 
@@ -42,7 +43,8 @@ module _ (names cells sizes : List ℕ) (i hash key m : ℕ) where
   rank_end zero h = refl
   rank_end (suc steps) h = absurd (omega arith)
 
-  rank_step : (steps : ℕ) → 0 < steps → {at own l : ℕ} → at ≡ name_of names i hash_part → own ≡ name_of names i key_part → l ≡ cell cells i left
+  rank_step : (steps : ℕ) → 0 < steps → {at own l : ℕ} → at ≡ name_of names i hash_part → own ≡ name_of names i key_part
+      → l ≡ cell cells i left
       → rank_from steps names cells sizes i hash key m
       ≡ pick (eqb i null) none (pick (before hash key at own) (rank_from (steps - 1) names cells sizes l hash key m)
       (pick (before at own hash key)

@@ -14,8 +14,10 @@ use Rattle.index_rules.specs.Index.{Index, Outcome, outcome, fits_index, length_
 use Rattle.index_rules.specs.Sound.{sound}
 use Rattle.index_rules.specs.Insert.{inserts}
 use Rattle.index_rules.specs.Rollback.{rolls}
-use Rattle.upload_rules.specs.Reader.{Note, unsaid, said, Reader, reader_of, new_reader, noting, FitReader, fits_reader, is_open, reader_answer}
-use Rattle.upload_rules.specs.Reading.{Session, session, ReadOutcome, read_outcome, goes_up, back_mark, turned_down, count_byte, name_byte, owing}
+use Rattle.upload_rules.specs.Reader.{Note, unsaid, said, Reader, reader_of, new_reader, noting, FitReader, fits_reader, is_open}
+use Rattle.upload_rules.specs.Reader.{reader_answer}
+use Rattle.upload_rules.specs.Reading.{Session, session, ReadOutcome, read_outcome, goes_up, back_mark, turned_down, count_byte, name_byte}
+use Rattle.upload_rules.specs.Reading.{owing}
 use Rattle.upload_rules.specs.Reading.{kind_came, count_came, in_hash, entry_came, entry_place, came_of, last_came, byte_came, byte_read}
 use Rattle.upload_rules.specs.Reading.{bytes_read, end_came}
 use Rattle.upload_rules.specs.Reading.{end_read, read_chunk, read_end, read_start}

@@ -6,7 +6,8 @@ use Rattle.batch.proofs.batch.run.Given as goal
 
 abbrev pub invariant-loop-k : goal.invariant-loop-k
 invariant-loop-k l =
-    Turn (lent l.initial.names l.initial.cells l.initial.head l.initial.sizes l.initial.lines) l.calls l.m l.initial.answers (lent l.names l.cells l.head l.sizes l.lines) l.answers l.floor l.k
+    Turn (lent l.initial.names l.initial.cells l.initial.head l.initial.sizes l.initial.lines) l.calls l.m l.initial.answers
+    (lent l.names l.cells l.head l.sizes l.lines) l.answers l.floor l.k
 
 abbrev pub decreases-loop-k : goal.decreases-loop-k
 decreases-loop-k l =

@@ -27,7 +27,10 @@ take_count-reader-requires c =
 
 pub returns-then-r-lt3 : goal.returns-then-r-lt3
 returns-then-r-lt3 c =
-    record { same = came_count _ _ _ c.if-r-eq4.false c.if-r-eq0.false c.if-r-lt3.true c.take_count-reader.ensures; ready = c.requires.ready }
+    record {
+      same = came_count _ _ _ c.if-r-eq4.false c.if-r-eq0.false c.if-r-lt3.true c.take_count-reader.ensures;
+      ready = c.requires.ready;
+    }
 
 pub take_entry-reader-requires : goal.take_entry-reader-requires
 take_entry-reader-requires c =
