@@ -101,7 +101,8 @@ run_words s cs l (w ∷ ws) j t (a_four small others) k =
     ∙ ap (λ (n : ℕ). loading (after_words (between_words s 0 cs) n) (words_put (put_field t (field_of s j) w) s (suc j) ws)) z
 
 -- The first n words of the bytes.
-pub words_run : (s : ℕ) (cs rest : List ℕ) (j n : ℕ) (t : Set) → s < 3 → Bytes rest → 4 * n ≤ length rest → j < section_words s (get_or cs s 0)
+pub words_run : (s : ℕ) (cs rest : List ℕ) (j n : ℕ) (t : Set) → s < 3 → Bytes rest → 4 * n ≤ length rest
+    → j < section_words s (get_or cs s 0)
     → j + n ≤ section_words s (get_or cs s 0)
     → bytes_loaded (loading (between_words s (suc j) cs) t) (take (4 * n) rest)
     ≡ loading (after_words (between_words s 0 cs) (suc (j + n))) (words_put t s j (words_in 4 rest 0 n))
@@ -142,7 +143,8 @@ module _ (l : List ℕ) (b : Bytes l) (h : 41 ≤ length l) where
   slot_front : take 41 l
       ≡ little 8 (word_in 8 l 0) ++ (little 8 (word_in 8 l 1)
       ++ (little 4 (word_in 4 l 4) ++ (little 1 (get_or l 20 0) ++ (little 4 (word_in 4 links 0)
-      ++ (little 4 (word_in 4 links 1) ++ (little 4 (word_in 4 links 2) ++ (little 4 (word_in 4 links 3) ++ little 4 (word_in 4 links 4))))))))
+      ++ (little 4 (word_in 4 links 1) ++
+          (little 4 (word_in 4 links 2) ++ (little 4 (word_in 4 links 3) ++ little 4 (word_in 4 links 4))))))))
   unfolding words_bytes words_in
   slot_front =
       let w0 = word_bytes 8 l 0 b (omega arith) (omega arith) in
@@ -156,7 +158,8 @@ module _ (l : List ℕ) (b : Bytes l) (h : 41 ≤ length l) where
       ∙ rw (← w0, ← w1, ← p, ← s, ← ls, append-nil)
 
 -- A slot, from between two slots.
-module _ (i : ℕ) (cs : List ℕ) (owed : i < get_or cs 3 0) (lengths bins heads names cells l : List ℕ) (b : Bytes l) (h : 41 ≤ length l) where
+module _ (i : ℕ) (cs : List ℕ) (owed : i < get_or cs 3 0) (lengths bins heads names cells l : List ℕ) (b : Bytes l)
+    (h : 41 ≤ length l) where
   one_slot : bytes_loaded (loading (between_words 3 (suc (9 * i)) cs) (lent_set lengths bins heads names cells)) (take 41 l)
       ≡ loading (after_words (between_words 3 0 cs) (suc (9 * i + 9)))
       (lent_set lengths bins heads (slot_names names i l) (slot_cells cells i l))
@@ -207,7 +210,8 @@ slots_on lengths bins heads names cells cs rest from (suc n) b l h =
     ∙ ap (λ (k : ℕ). loading (after_words (between_words 3 0 cs) k)
     (lent_set lengths bins heads (slot_names x (from + n) (drop (41 * n) rest)) (slot_cells y (from + n) (drop (41 * n) rest)))) z
 
-pub slots_run : (lengths bins heads names cells cs rest : List ℕ) (from n : ℕ) → Bytes rest → from < get_or cs 3 0 → from + n ≤ get_or cs 3 0
+pub slots_run : (lengths bins heads names cells cs rest : List ℕ) (from n : ℕ) → Bytes rest → from < get_or cs 3 0
+    → from + n ≤ get_or cs 3 0
     → 41 * n ≤ length rest
     → bytes_loaded (loading (between_words 3 (suc (9 * from)) cs) (lent_set lengths bins heads names cells)) (take (41 * n) rest)
     ≡ loading (after_words (between_words 3 0 cs) (suc (9 * (from + n))))

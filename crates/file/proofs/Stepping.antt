@@ -61,7 +61,8 @@ between r f h u e =
     λ i. loader_of r.section (e i) (none i) r.counts (u i)
 
 -- The slice of a section of words holds what its count says.
-pub section_room : (lengths bins heads names cells : List ℕ) (s c : ℕ) → s < 3 → can_hold (lent_set lengths bins heads names cells) s c ≡ true
+pub section_room : (lengths bins heads names cells : List ℕ) (s c : ℕ) → s < 3
+    → can_hold (lent_set lengths bins heads names cells) s c ≡ true
     → section_words s c ≤ length (slice_in (lent_set lengths bins heads [] []) (field_of s 0).slice)
 unfolding section_words can_hold field_of
 section_room lengths bins heads names cells zero c l h = leb-true _ _ h

@@ -28,7 +28,8 @@ use Rattle.move_rules.proofs.Deciding.{may_move}
 use Rattle.mover.specs.Moved.{halves_laid, FitAccepted}
 
 -- Both halves laid, one after the other.
-pub both : (s : Set) (k i j g h low high : ℕ) {a b : ℕ} {t u v : Set} → a ≡ half_first s k i i → b ≡ half_first s k i j → t ≡ bin_taken s k i
+pub both : (s : Set) (k i j g h low high : ℕ) {a b : ℕ} {t u v : Set} → a ≡ half_first s k i i → b ≡ half_first s k i j
+    → t ≡ bin_taken s k i
     → u ≡ half_laid t (k + 1) i g a low
     → v ≡ half_laid u (k + 1) j h b high
     → v ≡ halves_laid s k i j g h low high

@@ -46,12 +46,14 @@ module _ (names cells : List ℕ) (len i p : ℕ) {w : ℕ} where
   first_spent zero h e = h
   first_spent (suc v) h e = absurd (omega arith)
 
-  pub first_here : (v : ℕ) {b : Bool} → first_home v names cells len i p ≡ w → p ≢ null → v ≢ 0 → b ≡ is_home names len i p → b ≡ true → p ≡ w
+  pub first_here : (v : ℕ) {b : Bool} → first_home v names cells len i p ≡ w → p ≢ null → v ≢ 0 → b ≡ is_home names len i p → b ≡ true
+      → p ≡ w
   unfolding first_home
   first_here zero h d n e f = absurd (n refl)
   first_here (suc v) h d n e f = rw (ne_eqb p null d, ← e, f) at h
 
-  pub first_on : (v : ℕ) {q : ℕ} {b : Bool} → first_home v names cells len i p ≡ w → p ≢ null → v ≢ 0 → b ≡ is_home names len i p → b ≡ false
+  pub first_on : (v : ℕ) {q : ℕ} {b : Bool} → first_home v names cells len i p ≡ w → p ≢ null → v ≢ 0 → b ≡ is_home names len i p
+      → b ≡ false
       → q ≡ cell cells p next
       → first_home (v - 1) names cells len i q ≡ w
   unfolding first_home

@@ -115,7 +115,8 @@ unfolding move_told
 gone_most u f r k i a e l = omega (arith, ap (λ (x : Finish). x.gone) e, most (eqb a.number 0) (eqb a.number 16))
   where
     most : (b c : Bool)
-        → (pick b (moved_on (finish_of f u) (move_outcome a u)) (pick c (finish_of f u) (stopped_at (finish_of f u) k i (move_outcome a u)))).gone
+        → (pick b (moved_on (finish_of f u) (move_outcome a u))
+          (pick c (finish_of f u) (stopped_at (finish_of f u) k i (move_outcome a u)))).gone
         ≤ f.gone + 8192
     most true c = omega arith
     most false true = omega arith

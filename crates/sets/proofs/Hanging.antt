@@ -10,7 +10,7 @@ use native.Mathlib.Omega.{arith}
 use lib.ListN.{length}
 use types.Run.{OneOf}
 use denote.Enum.Declared.{tag_of}
-use Rattle.slots.specs.Words.{null, pick, next, cell, name_of, hash_part, key_part, most_slots, most_names, ◌and◌}
+use Rattle.slots.specs.Words.{null, pick, next, cell, name_of, hash_part, key_part, most_slots, most_names}
 use Rattle.slots.specs.Pairs.{pair, pair_of}
 use Rattle.slots.specs.Answers.{Answer, Value, none, some, nothing}
 use Rattle.slots.proofs.Laws.{number, nothing-given}

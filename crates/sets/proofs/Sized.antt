@@ -38,7 +38,8 @@ begins_past l j h (suc k) g = go (ℕ_discrete (suc k) j) (λ n. begins_past l j
     go (no n) rest = omega (arith, rest n, get_or-eq_default l 0 {n = k} (omega arith))
 
 -- Where each table is twice as long as the one before, it has as many bins as those before it and the first again.
-pub begins_at : (l : List ℕ) (k : ℕ) → ((j : ℕ) → j < k → get_or l (suc j) 0 ≡ 2 * get_or l j 0) → bins_before l k + get_or l 0 0 ≡ get_or l k 0
+pub begins_at : (l : List ℕ) (k : ℕ) → ((j : ℕ) → j < k → get_or l (suc j) 0 ≡ 2 * get_or l j 0)
+    → bins_before l k + get_or l 0 0 ≡ get_or l k 0
 unfolding bins_before
 begins_at l zero twice = omega arith
 begins_at l (suc k) twice = omega (arith, twice k (omega arith), begins_at l k (λ j b. twice j (omega arith)))

@@ -16,8 +16,10 @@ use Rattle.slots.specs.Answers.{Value, none, some}
 use Rattle.tree_rules.specs.Rules.{then}
 use Rattle.tree_rules.specs.Find.{slots_of}
 use Rattle.index_rules.proofs.Fit.{both}
-use Rattle.set_rules.specs.Words.{Set, fits, tables_of, length_at, headers_in, bins_before, Bin, empty, moved, bad, list, tree, bin_of, bin_at}
-use Rattle.set_rules.specs.Accepting.{is_home, is_list_slot, same_pair, unlike, list_slot_fine, list_fine, is_own, chain_own, tree_home, is_blank}
+use Rattle.set_rules.specs.Words.{Set, fits, tables_of, length_at, headers_in, bins_before, Bin, empty, moved, bad, list, tree, bin_of}
+use Rattle.set_rules.specs.Words.{bin_at}
+use Rattle.set_rules.specs.Accepting.{is_home, is_list_slot, same_pair, unlike, list_slot_fine, list_fine, is_own, chain_own, tree_home}
+use Rattle.set_rules.specs.Accepting.{is_blank}
 use Rattle.set_rules.specs.Accepting.{filled, names_header}
 use Rattle.set_rules.specs.Accepting.{tree_fine, may_stand, own_fine, is_moved, bin_asks, bin_fine, below_fine, table_fine}
 use Rattle.set_rules.proofs.Fit.{fits_fit, length_bound}

@@ -20,7 +20,8 @@ use Rattle.set_rules.specs.Walk.{steps_on}
 use Rattle.set_rules.specs.Walk.{nexts}
 use Rattle.set_rules.proofs.Standing.{inside}
 use Rattle.set_rules.proofs.Cursors.{fine-right, right-stands}
-use Rattle.set_rules.proofs.Seeking.{bare, no_cells, left_at, seeks, at_end, at-empty, at_bad, at_list, at_moved, at_last, at_tree, at_stray}
+use Rattle.set_rules.proofs.Seeking.{bare, no_cells, left_at, seeks, at_end, at-empty, at_bad, at_list, at_moved, at_last, at_tree}
+use Rattle.set_rules.proofs.Seeking.{at_stray}
 use Rattle.set_rules.proofs.Seeking.{falls-onward, falls_below, good_onward, good_below}
 use Rattle.tree_rules.specs.Find.{slots_of}
 

@@ -22,7 +22,7 @@ pub loop-i-preserved : goal.loop-i-preserved
 loop-i-preserved c =
     let a = c.args in
     let here =
-    lent_desk (held_line c.loop-i.auto) c.loop-i.names c.loop-i.cells c.loop-i.head c.loop-i.sizes
+    lent_desk (held_line c.loop-i.kept) c.loop-i.names c.loop-i.cells c.loop-i.head c.loop-i.sizes
     c.loop-i.lines c.loop-i.out c.loop-i.written in (
       feeding_on a.chunk.now c.loop-i.i here c.loop-i-test.true c.if-out-written-lt-LONGEST.false c.take_byte-step.ensures
           ∙ c.loop-i.invariant.0,
@@ -31,7 +31,7 @@ loop-i-preserved c =
       search rules,
       search rules,
       search rules,
-      c.take_byte-step.auto.out ∙ c.loop-i.invariant.6,
+      c.take_byte-step.auto.sizes ∙ c.loop-i.invariant.6,
       search rules,
       search rules,
       search rules,

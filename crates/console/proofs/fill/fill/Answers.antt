@@ -15,9 +15,9 @@ loop-i-preserved c =
     let l = c.loop-i in
     let b = get_or a.sentence.now l.i 0 in
     let step : c.if-blank.k ≡ taken_after b l.k =
-    ⊎_elim (λ w. taken_blank b l.k c.is_blank-blank.ensures w.0.taken w.1)
-    (λ w. taken-other b l.k c.is_blank-blank.ensures w.0.left w.1) c.if-blank.branch in
-    let more : c.if-blank.k ≤ l.i + 1 = ⊎_elim (λ w. omega arith) (λ w. omega arith) c.if-blank.branch in (
+    ⊎_elim (λ w. taken_blank b l.k c.is_blank-blank.ensures w.if-blank.true w.k-is)
+    (λ w. taken-other b l.k c.is_blank-blank.ensures w.if-blank.false w.k-is) c.if-blank.branch-raw in
+    let more : c.if-blank.k ≤ l.i + 1 = ⊎_elim (λ w. omega arith) (λ w. omega arith) c.if-blank.branch-raw in (
       filled_on (lent_paper l.out l.end) _ a.sentence.now a.numbers.now l.i l.k c.loop-i-test.true
           (c.put_piece-end.ensures ∙ ap (λ v. typed (lent_paper l.out l.end) (piece b v)) c.wide-v.ensures) step
           ∙ l.invariant.0,

@@ -37,7 +37,8 @@ returns-then-s-eq2 c =
 
 pub put_slot_word-requires : goal.put_slot_word-requires
 put_slot_word-requires c =
-    (omega (arith, c.requires.0), omega arith, slot_small _ _ _ (omega (arith, c.if-s-eq0.false, c.if-s-eq1.false, c.if-s-eq2.false)) c.requires.1)
+    (omega (arith, c.requires.0), omega arith, slot_small _ _ _
+        (omega (arith, c.if-s-eq0.false, c.if-s-eq1.false, c.if-s-eq2.false)) c.requires.1)
 
 pub returns : goal.returns
 returns c =

@@ -10,9 +10,11 @@ use Rattle.file.proofs.load.take_all.Given as goal
 
 abbrev pub invariant-loop-at : goal.invariant-loop-at
 invariant-loop-at l =
-    Going (loading (loader_words l.initial.loader) (lent_set l.initial.lengths l.initial.bins l.initial.heads l.initial.names l.initial.cells)) l.chunk
+    Going (loading (loader_words l.initial.loader)
+        (lent_set l.initial.lengths l.initial.bins l.initial.heads l.initial.names l.initial.cells)) l.chunk
     (loading (loader_words l.loader) (lent_set l.lengths l.bins l.heads l.names l.cells)) l.at
-    × (length l.lengths ≡ length l.initial.lengths) × (length l.bins ≡ length l.initial.bins) × (length l.heads ≡ length l.initial.heads) × (length l.names ≡ length l.initial.names)
+    × (length l.lengths ≡ length l.initial.lengths) × (length l.bins ≡ length l.initial.bins) × (length l.heads ≡ length l.initial.heads) ×
+        (length l.names ≡ length l.initial.names)
     × (length l.cells ≡ length l.initial.cells)
 
 abbrev pub decreases-loop-at : goal.decreases-loop-at

@@ -43,4 +43,5 @@ returns c =
     in_fits (loader_words c.args.r) c.count_of-count.ensures c.section_words-all.ensures.0 refl c.if-r-gt4.false
     c.counts_fit-counted.ensures
     c.if-not-counted.false
-    c.if-all-come.false c.next_width-width.ensures c.if-width-bytes.false c.power-over.ensures c.if-over-r.false (λ e. absurd (c.if-r-eq4.false e))
+    c.if-all-come.false c.next_width-width.ensures c.if-width-bytes.false c.power-over.ensures c.if-over-r.false
+        (λ e. absurd (c.if-r-eq4.false e))

@@ -1,5 +1,4 @@
 use mathlib.Core.Path.{◌≡◌}
-use Prim.Native.Nat.{◌-◌}
 use native.Mathlib.Omega.{arith}
 use Rattle.file.specs.Meanings.{loader_words}
 use Rattle.file.proofs.Ranging.{wholes_none, wholes_on}
@@ -14,7 +13,8 @@ whole_long-bytes-requires c =
 
 pub overflow_add-bytes : goal.overflow_add-bytes
 overflow_add-bytes c =
-    let most = c.requires.sections in omega (arith, c.loop-s.invariant.1, c.loop-s.invariant.2, c.loop-s-test.true, c.whole_long-bytes.ensures.1)
+    let most = c.requires.sections in
+    omega (arith, c.loop-s.invariant.1, c.loop-s.invariant.2, c.loop-s-test.true, c.whole_long-bytes.ensures.1)
 
 pub overflow_add-s : goal.overflow_add-s
 overflow_add-s c =

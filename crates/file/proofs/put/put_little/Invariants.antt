@@ -8,7 +8,8 @@ use Rattle.file.proofs.put.put_little.Given as goal
 
 abbrev pub invariant-loop-i : goal.invariant-loop-i
 invariant-loop-i l =
-    (sets l.out (l.at + l.i) (little (l.k - l.i) l.rest) ≡ sets l.initial.out l.at (little l.k l.x)) × (l.i ≤ l.k) × (length l.out ≡ length l.initial.out)
+    (sets l.out (l.at + l.i) (little (l.k - l.i) l.rest) ≡ sets l.initial.out l.at (little l.k l.x)) × (l.i ≤ l.k) ×
+        (length l.out ≡ length l.initial.out)
 
 abbrev pub decreases-loop-i : goal.decreases-loop-i
 decreases-loop-i l = l.k - l.i

@@ -10,7 +10,8 @@ use Rattle.file.proofs.put.put_slots.Given as goal
 
 abbrev pub invariant-loop-i : goal.invariant-loop-i
 invariant-loop-i l =
-    (l.out ≡ sets l.initial.out l.at (slots_bytes (lent_set [] [] [] l.names l.cells) l.i)) × (l.i ≤ l.n) × (l.n ≡ length l.names / 2) × (length l.out ≡ length l.initial.out)
+    (l.out ≡ sets l.initial.out l.at (slots_bytes (lent_set [] [] [] l.names l.cells) l.i)) × (l.i ≤ l.n) × (l.n ≡ length l.names / 2) ×
+        (length l.out ≡ length l.initial.out)
 
 abbrev pub decreases-loop-i : goal.decreases-loop-i
 decreases-loop-i l = l.n - l.i

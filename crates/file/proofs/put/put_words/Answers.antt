@@ -1,5 +1,4 @@
 use mathlib.Core.Path.{refl, sym, ◌∙◌}
-use Prim.Native.Nat.{◌-◌}
 use native.Mathlib.Omega.{arith}
 use Rattle.file.proofs.Laying.{words_start, word-put, words_end}
 use Rattle.file.proofs.put.put_words.Goals as goal

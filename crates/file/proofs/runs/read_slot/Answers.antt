@@ -10,7 +10,7 @@ read_pair-requires c =
 
 pub overflow_cast-bytes : goal.overflow_cast-bytes
 overflow_cast-bytes c =
-    omega (arith, c.type_inv.bytes.given 20)
+    omega (arith, c.type_inv.bytes 20)
 
 pub read_links-requires : goal.read_links-requires
 read_links-requires c =

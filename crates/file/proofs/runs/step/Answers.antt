@@ -18,7 +18,7 @@ pub returns-in_default : goal.returns-in_default
 returns-in_default c =
     let a = c.args in
     let s = lent_set a.lengths.now a.bins.now a.heads.now a.names.now a.cells.now in
-    let b = all_bytes a.rest.now (λ i. omega (arith, c.type_inv.rest.given i)) in
+    let b = all_bytes a.rest.now (λ i. omega (arith, c.type_inv.rest i)) in
     step_said (loader_words a.r) s a.rest.now c.requires.0 b (ap load_note_of c.in_default.is) c.requires.1
 
 pub section_words-end-requires : goal.section_words-end-requires
@@ -33,7 +33,7 @@ pub read_section-n-requires : goal.read_section-n-requires
 read_section-n-requires c =
     let a = c.args in
     let s = lent_set a.lengths.now a.bins.now a.heads.now a.names.now a.cells.now in
-    let b = all_bytes a.rest.now (λ i. omega (arith, c.type_inv.rest.given i)) in
+    let b = all_bytes a.rest.now (λ i. omega (arith, c.type_inv.rest i)) in
     let u = ap load_note_of c.in-Unsaid.is in
     let ready = c.words_ready-words.ensures c.if-words.true in (
       ready.section,
@@ -51,7 +51,7 @@ pub after_words-loader-requires : goal.after_words-loader-requires
 after_words-loader-requires c =
     let a = c.args in
     let s = lent_set a.lengths.now a.bins.now a.heads.now a.names.now a.cells.now in
-    let b = all_bytes a.rest.now (λ i. omega (arith, c.type_inv.rest.given i)) in
+    let b = all_bytes a.rest.now (λ i. omega (arith, c.type_inv.rest i)) in
     let u = ap load_note_of c.in-Unsaid.is in
     let ready = c.words_ready-words.ensures c.if-words.true in
     let few = words_least (loader_words a.r) s a.rest.now c.requires.0 b u (c.words_ready-words.ensures c.if-words.true)
@@ -65,7 +65,7 @@ pub returns-then-words : goal.returns-then-words
 returns-then-words c =
     let a = c.args in
     let s = lent_set a.lengths.now a.bins.now a.heads.now a.names.now a.cells.now in
-    let b = all_bytes a.rest.now (λ i. omega (arith, c.type_inv.rest.given i)) in
+    let b = all_bytes a.rest.now (λ i. omega (arith, c.type_inv.rest i)) in
     let u = ap load_note_of c.in-Unsaid.is in
     step_words (loader_words a.r) s a.rest.now c.requires.0 b u (c.words_ready-words.ensures c.if-words.true)
     c.count_of-count.ensures c.section_words-end.ensures.0 c.read_section-n.ensures.0
@@ -75,7 +75,7 @@ pub overflow_sub-r : goal.overflow_sub-r
 overflow_sub-r c =
     let a = c.args in
     let s = lent_set a.lengths.now a.bins.now a.heads.now a.names.now a.cells.now in
-    let b = all_bytes a.rest.now (λ i. omega (arith, c.type_inv.rest.given i)) in
+    let b = all_bytes a.rest.now (λ i. omega (arith, c.type_inv.rest i)) in
     let u = ap load_note_of c.in-Unsaid.is in
     let behind = slots-behind (loader_words a.r) s a.rest.now c.requires.0 b u (c.slots_ready-slots.ensures c.if-slots.true) in
     let small = fit_small (loader_words a.r) c.requires.0.fit 3 in
@@ -85,7 +85,16 @@ pub slice_bounds-read_slots-count : goal.slice_bounds-read_slots-count
 slice_bounds-read_slots-count c =
     let a = c.args in
     let s = lent_set a.lengths.now a.bins.now a.heads.now a.names.now a.cells.now in
-    let b = all_bytes a.rest.now (λ i. omega (arith, c.type_inv.rest.given i)) in
+    let b = all_bytes a.rest.now (λ i. omega (arith, c.type_inv.rest i)) in
+    let u = ap load_note_of c.in-Unsaid.is in
+    let room = slots_within (loader_words a.r) s a.rest.now c.requires.0 b u (c.slots_ready-slots.ensures c.if-slots.true) in
+    omega (arith, room.0)
+
+pub slice_bounds-read_slots-start : goal.slice_bounds-read_slots-start
+slice_bounds-read_slots-start c =
+    let a = c.args in
+    let s = lent_set a.lengths.now a.bins.now a.heads.now a.names.now a.cells.now in
+    let b = all_bytes a.rest.now (λ i. omega (arith, c.type_inv.rest i)) in
     let u = ap load_note_of c.in-Unsaid.is in
     let room = slots_within (loader_words a.r) s a.rest.now c.requires.0 b u (c.slots_ready-slots.ensures c.if-slots.true) in
     omega (arith, room.0)
@@ -94,7 +103,16 @@ pub slice_bounds-read_slots-count-then-slots : goal.slice_bounds-read_slots-coun
 slice_bounds-read_slots-count-then-slots c =
     let a = c.args in
     let s = lent_set a.lengths.now a.bins.now a.heads.now a.names.now a.cells.now in
-    let b = all_bytes a.rest.now (λ i. omega (arith, c.type_inv.rest.given i)) in
+    let b = all_bytes a.rest.now (λ i. omega (arith, c.type_inv.rest i)) in
+    let u = ap load_note_of c.in-Unsaid.is in
+    let room = slots_within (loader_words a.r) s a.rest.now c.requires.0 b u (c.slots_ready-slots.ensures c.if-slots.true) in
+    omega (arith, room.1)
+
+pub slice_bounds-read_slots-start-then-slots : goal.slice_bounds-read_slots-start-then-slots
+slice_bounds-read_slots-start-then-slots c =
+    let a = c.args in
+    let s = lent_set a.lengths.now a.bins.now a.heads.now a.names.now a.cells.now in
+    let b = all_bytes a.rest.now (λ i. omega (arith, c.type_inv.rest i)) in
     let u = ap load_note_of c.in-Unsaid.is in
     let room = slots_within (loader_words a.r) s a.rest.now c.requires.0 b u (c.slots_ready-slots.ensures c.if-slots.true) in
     omega (arith, room.1)
@@ -103,7 +121,7 @@ pub read_slots-requires : goal.read_slots-requires
 read_slots-requires c =
     let a = c.args in
     let s = lent_set a.lengths.now a.bins.now a.heads.now a.names.now a.cells.now in
-    let b = all_bytes a.rest.now (λ i. omega (arith, c.type_inv.rest.given i)) in
+    let b = all_bytes a.rest.now (λ i. omega (arith, c.type_inv.rest i)) in
     let u = ap load_note_of c.in-Unsaid.is in
     let few = slots_least (loader_words a.r) s a.rest.now c.requires.0 b u (c.slots_ready-slots.ensures c.if-slots.true)
     c.lesser-n.ensures in
@@ -114,7 +132,7 @@ pub overflow_mul-n : goal.overflow_mul-n
 overflow_mul-n c =
     let a = c.args in
     let s = lent_set a.lengths.now a.bins.now a.heads.now a.names.now a.cells.now in
-    let b = all_bytes a.rest.now (λ i. omega (arith, c.type_inv.rest.given i)) in
+    let b = all_bytes a.rest.now (λ i. omega (arith, c.type_inv.rest i)) in
     let u = ap load_note_of c.in-Unsaid.is in
     let few = slots_least (loader_words a.r) s a.rest.now c.requires.0 b u (c.slots_ready-slots.ensures c.if-slots.true)
     c.lesser-n.ensures in
@@ -125,7 +143,7 @@ pub overflow_add-come-then-slots : goal.overflow_add-come-then-slots
 overflow_add-come-then-slots c =
     let a = c.args in
     let s = lent_set a.lengths.now a.bins.now a.heads.now a.names.now a.cells.now in
-    let b = all_bytes a.rest.now (λ i. omega (arith, c.type_inv.rest.given i)) in
+    let b = all_bytes a.rest.now (λ i. omega (arith, c.type_inv.rest i)) in
     let u = ap load_note_of c.in-Unsaid.is in
     let few = slots_least (loader_words a.r) s a.rest.now c.requires.0 b u (c.slots_ready-slots.ensures c.if-slots.true)
     c.lesser-n.ensures in
@@ -136,7 +154,7 @@ pub after_words-loader-requires-then-slots : goal.after_words-loader-requires-th
 after_words-loader-requires-then-slots c =
     let a = c.args in
     let s = lent_set a.lengths.now a.bins.now a.heads.now a.names.now a.cells.now in
-    let b = all_bytes a.rest.now (λ i. omega (arith, c.type_inv.rest.given i)) in
+    let b = all_bytes a.rest.now (λ i. omega (arith, c.type_inv.rest i)) in
     let u = ap load_note_of c.in-Unsaid.is in
     let few = slots_least (loader_words a.r) s a.rest.now c.requires.0 b u (c.slots_ready-slots.ensures c.if-slots.true)
     c.lesser-n.ensures in
@@ -148,7 +166,7 @@ pub overflow_mul-result-then-slots : goal.overflow_mul-result-then-slots
 overflow_mul-result-then-slots c =
     let a = c.args in
     let s = lent_set a.lengths.now a.bins.now a.heads.now a.names.now a.cells.now in
-    let b = all_bytes a.rest.now (λ i. omega (arith, c.type_inv.rest.given i)) in
+    let b = all_bytes a.rest.now (λ i. omega (arith, c.type_inv.rest i)) in
     let u = ap load_note_of c.in-Unsaid.is in
     let few = slots_least (loader_words a.r) s a.rest.now c.requires.0 b u (c.slots_ready-slots.ensures c.if-slots.true)
     c.lesser-n.ensures in
@@ -159,7 +177,7 @@ pub returns-then-slots : goal.returns-then-slots
 returns-then-slots c =
     let a = c.args in
     let s = lent_set a.lengths.now a.bins.now a.heads.now a.names.now a.cells.now in
-    let b = all_bytes a.rest.now (λ i. omega (arith, c.type_inv.rest.given i)) in
+    let b = all_bytes a.rest.now (λ i. omega (arith, c.type_inv.rest i)) in
     let u = ap load_note_of c.in-Unsaid.is in
     let n = c.lesser-n.result in
     let from = a.r.at / 72 in
@@ -176,6 +194,6 @@ pub returns : goal.returns
 returns c =
     let a = c.args in
     let s = lent_set a.lengths.now a.bins.now a.heads.now a.names.now a.cells.now in
-    let b = all_bytes a.rest.now (λ i. omega (arith, c.type_inv.rest.given i)) in
+    let b = all_bytes a.rest.now (λ i. omega (arith, c.type_inv.rest i)) in
     let u = ap load_note_of c.in-Unsaid.is in
     step_byte (loader_words a.r) s a.rest.now c.requires.0 b u c.requires.1 refl c.take_byte-loader.ensures

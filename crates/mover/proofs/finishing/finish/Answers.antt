@@ -19,7 +19,8 @@ returns-in_default c =
     let a = c.args in
     let s = lent_set a.lengths.now a.bins.now a.heads.now a.names.now a.cells.now in
     let fit = sym c.fit_set-fit.ensures ∙ c.if-not-fit.false in
-    c.stop_first-in_default.ensures s refl (all_damaged s c.accept-judged.result fit c.accept-judged.ensures (opened c.in_default.in_default-own.keys2))
+    c.stop_first-in_default.ensures s refl
+        (all_damaged s c.accept-judged.result fit c.accept-judged.ensures (opened c.in_default.in_default-own.keys2))
 
 pub finish_tables-requires : goal.finish_tables-requires
 finish_tables-requires c =

@@ -10,7 +10,8 @@ use Rattle.mover.proofs.finishing.finish_tables.Given as goal
 
 abbrev pub invariant-loop-k : goal.invariant-loop-k
 invariant-loop-k l =
-    (finish_of l.told (lent_set l.lengths l.bins l.heads l.names l.cells) ≡ tables_finished l.k (finish_begun (lent_set l.lengths l.initial.bins l.initial.heads l.names l.initial.cells)))
+    (finish_of l.told (lent_set l.lengths l.bins l.heads l.names l.cells) ≡ tables_finished l.k
+        (finish_begun (lent_set l.lengths l.initial.bins l.initial.heads l.names l.initial.cells)))
     × FitAccepted (lent_set l.lengths l.bins l.heads l.names l.cells)
     × (l.told.gone ≤ 33554432 * l.k)
     × (l.k + 1 ≤ length l.lengths)

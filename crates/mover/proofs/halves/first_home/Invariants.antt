@@ -6,7 +6,8 @@ use Rattle.mover.proofs.halves.first_home.Given as goal
 
 abbrev pub invariant-loop-p : goal.invariant-loop-p
 invariant-loop-p l =
-    (first_home l.left l.names l.cells l.length l.i l.p ≡ first_home l.most l.names l.cells l.length l.i l.first) × (l.p < 2 ^ 32) × (l.left ≤ l.most)
+    (first_home l.left l.names l.cells l.length l.i l.p ≡ first_home l.most l.names l.cells l.length l.i l.first) × (l.p < 2 ^ 32) ×
+        (l.left ≤ l.most)
 
 abbrev pub decreases-loop-p : goal.decreases-loop-p
 decreases-loop-p l = l.left

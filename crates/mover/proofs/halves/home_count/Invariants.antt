@@ -6,7 +6,8 @@ use Rattle.mover.proofs.halves.home_count.Given as goal
 
 abbrev pub invariant-loop-p : goal.invariant-loop-p
 invariant-loop-p l =
-    (l.count + home_count l.left l.names l.cells l.length l.i l.p ≡ home_count l.most l.names l.cells l.length l.i l.first) × (l.p < 2 ^ 32) × (l.count + l.left ≤ l.most)
+    (l.count + home_count l.left l.names l.cells l.length l.i l.p ≡ home_count l.most l.names l.cells l.length l.i l.first) ×
+        (l.p < 2 ^ 32) × (l.count + l.left ≤ l.most)
 
 abbrev pub decreases-loop-p : goal.decreases-loop-p
 decreases-loop-p l = l.left

@@ -1,4 +1,3 @@
-use Prim.Native.Nat.{◌-◌}
 use borrow.Author.Rules.{rules}
 use Rattle.mover.proofs.Heading.{spare_own, spare_blank, spare_on, spare_out}
 use Rattle.mover.proofs.headers.spare.Goals as goal

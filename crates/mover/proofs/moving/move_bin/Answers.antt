@@ -23,7 +23,8 @@ pub returns-in_default : goal.returns-in_default
 returns-in_default c =
     let a = c.args in
     let s = lent_set a.lengths.now a.bins.now a.heads.now a.names.now a.cells.now in
-    damaged_moves s a.table a.bin (sym c.fit_set-fit.ensures ∙ not-false c.fit_set-fit.result c.if-not-fit.false-raw) c.if-lengths-table.false
+    damaged_moves s a.table a.bin
+        (sym c.fit_set-fit.ensures ∙ not-false c.fit_set-fit.result c.if-not-fit.false-raw) c.if-lengths-table.false
     c.accept-judged.result
     c.accept-judged.ensures
     (opened c.in_default.in_default-own.keys2)

@@ -5,4 +5,4 @@ use Rattle.mover.proofs.passes.join.Goals as goal
 pub returns : goal.returns
 returns c =
     let h = c.hang_slot in
-    joins _ _ _ _ _ _ _ _ _ h.new.1.1.0 c.requires c.name-hash.ensures c.name-key.ensures h.auto.1.1.0 h.ensures
+    joins _ _ _ _ _ _ _ _ _ h.new.sizes c.requires c.name-hash.ensures c.name-key.ensures h.auto.sizes h.ensures

@@ -7,7 +7,8 @@ use Rattle.mover.proofs.passes.plain.Given as goal
 
 abbrev pub invariant-loop-p : goal.invariant-loop-p
 invariant-loop-p l =
-    (plained l.left l.cells l.p ≡ plained l.most l.initial.cells l.first) × (l.p < 2 ^ 32) × (l.left ≤ l.most) × (length l.cells ≡ length l.initial.cells)
+    (plained l.left l.cells l.p ≡ plained l.most l.initial.cells l.first) × (l.p < 2 ^ 32) × (l.left ≤ l.most) ×
+        (length l.cells ≡ length l.initial.cells)
 
 abbrev pub decreases-loop-p : goal.decreases-loop-p
 decreases-loop-p l = l.left

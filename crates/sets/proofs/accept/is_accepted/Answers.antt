@@ -20,10 +20,12 @@ pub returns-then-headers_fine : goal.returns-then-headers_fine
 unfolding accepted
 returns-then-headers_fine c =
     rw (← c.slots_fine.ensures, ← c.all_held.ensures)
-    (and-next _ c.if-slots_fine.branch (λ w. (w.0.taken, w.2 ∙ w.1.ensures)) (λ w. (w.0.left, w.1)) (rw c.if-headers_fine.true))
+    (and-next _ c.if-slots_fine.branch-raw (λ w. (w.if-slots_fine.true, w.value-is ∙ w.headers_fine.ensures))
+    (λ w. (w.if-slots_fine.false, w.value-is)) (rw c.if-headers_fine.true))
 
 pub returns-else-headers_fine : goal.returns-else-headers_fine
 unfolding accepted
 returns-else-headers_fine c =
     rw (← c.slots_fine.ensures)
-    (and-next _ c.if-slots_fine.branch (λ w. (w.0.taken, w.2 ∙ w.1.ensures)) (λ w. (w.0.left, w.1)) (rw c.if-headers_fine.false))
+    (and-next _ c.if-slots_fine.branch-raw (λ w. (w.if-slots_fine.true, w.value-is ∙ w.headers_fine.ensures))
+    (λ w. (w.if-slots_fine.false, w.value-is)) (rw c.if-headers_fine.false))

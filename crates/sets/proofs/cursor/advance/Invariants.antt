@@ -7,7 +7,8 @@ use Rattle.sets.proofs.cursor.advance.Given as goal
 
 abbrev pub invariant-loop-d : goal.invariant-loop-d
 invariant-loop-d l =
-    (advanced l.d l.lengths l.base l.indexes ≡ advanced l.depth l.lengths l.base l.initial.indexes) × (l.d ≤ l.depth) × (get_or l.indexes 0 0 + 1 < 2 ^ 32)
+    (advanced l.d l.lengths l.base l.indexes ≡ advanced l.depth l.lengths l.base l.initial.indexes) × (l.d ≤ l.depth) ×
+        (get_or l.indexes 0 0 + 1 < 2 ^ 32)
 
 abbrev pub decreases-loop-d : goal.decreases-loop-d
 decreases-loop-d l = l.d

@@ -1,6 +1,5 @@
 use mathlib.Core.Path.{◌≡◌, ◌∙◌, ap, sym}
 use borrow.Author.Rules.{rules}
-use Prim.Native.Nat.{◌-◌}
 use native.Mathlib.Omega.{arith}
 use Rattle.set_rules.specs.Words.{bins_before}
 use Rattle.sets.proofs.Sized.{begins_on, begins_past}

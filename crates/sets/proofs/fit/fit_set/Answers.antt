@@ -15,7 +15,8 @@ unfolding fits fit_slots
 returns-then-bins-bins_in c =
     let a = c.args in
     rw (← c.fit_tables.ensures, ← c.fit_slots.ensures)
-    (and-next _ c.if-fit_tables.branch (λ w. (w.0.taken, w.2 ∙ ap (eqb (length a.bins.now)) w.1.ensures)) (λ w. (w.0.left, w.1))
+    (and-next _ c.if-fit_tables.branch-raw (λ w. (w.if-fit_tables.true, w.value-is ∙ ap (eqb (length a.bins.now)) w.bins_in.ensures))
+    (λ w. (w.if-fit_tables.false, w.value-is))
     (rw c.if-bins-bins_in.true))
 
 pub returns-else-bins-bins_in : goal.returns-else-bins-bins_in
@@ -23,5 +24,6 @@ unfolding fits
 returns-else-bins-bins_in c =
     let a = c.args in
     rw (← c.fit_tables.ensures)
-    (and-next _ c.if-fit_tables.branch (λ w. (w.0.taken, w.2 ∙ ap (eqb (length a.bins.now)) w.1.ensures)) (λ w. (w.0.left, w.1))
+    (and-next _ c.if-fit_tables.branch-raw (λ w. (w.if-fit_tables.true, w.value-is ∙ ap (eqb (length a.bins.now)) w.bins_in.ensures))
+    (λ w. (w.if-fit_tables.false, w.value-is))
     (rw c.if-bins-bins_in.false))

@@ -1,14 +1,19 @@
 -- Their number is bounded first; the three tests in a row are the model's.
 use mathlib.Core.Path.{◌∙◌}
-use mathlib.Core.Logic.{⊎_elim}
-use borrow.Author.Tests.{ltb-true, ltb-false, le-leb}
+use borrow.Author.Rules.{rules}
+use borrow.Author.Tests.{ltb-false, le-leb}
 use Rattle.slots.proofs.Laws.{and-next}
 use Rattle.set_rules.specs.Words.{fit_tables}
 use Rattle.sets.proofs.Sized.{no_table, too_many}
 use Rattle.sets.proofs.fit.fit_tables.Goals as goal
+use Rattle.sets.proofs.fit.fit_tables.Goals.{then-t-lt1-via-then-t-lt1, then-t-lt1-via-else-t-lt1+then-t-gt8}
 
 pub returns-then-t-lt1 : goal.returns-then-t-lt1
-returns-then-t-lt1 c = ⊎_elim (λ w. no_table _ w.taken) (λ w. too_many _ w.0.left (ltb-true _ _ w.1.taken)) c.then-t-lt1.branch
+returns-then-t-lt1 c =
+    elim c.then-t-lt1.branch [
+      then-t-lt1-via-then-t-lt1 w ↦ search (rules, no_table)
+      | then-t-lt1-via-else-t-lt1+then-t-gt8 w ↦ search (rules, too_many)
+    ]
 
 pub returns-then-doubled : goal.returns-then-doubled
 unfolding fit_tables
@@ -20,7 +25,8 @@ returns-then-doubled c =
       ← c.is_power.ensures,
       ← c.word.ensures,
     )
-    (and-next _ c.if-is_power.branch (λ w. (w.0.taken, w.2 ∙ w.1.ensures)) (λ w. (w.0.left, w.1)) (rw c.if-doubled.true))
+    (and-next _ c.if-is_power.branch-raw (λ w. (w.if-is_power.true, w.value-is ∙ w.doubled.ensures))
+    (λ w. (w.if-is_power.false, w.value-is)) (rw c.if-doubled.true))
 
 pub returns-else-doubled : goal.returns-else-doubled
 unfolding fit_tables
@@ -31,4 +37,5 @@ returns-else-doubled c =
       ← c.length_at.ensures,
       ← c.is_power.ensures,
     )
-    (and-next _ c.if-is_power.branch (λ w. (w.0.taken, w.2 ∙ w.1.ensures)) (λ w. (w.0.left, w.1)) (rw c.if-doubled.false))
+    (and-next _ c.if-is_power.branch-raw (λ w. (w.if-is_power.true, w.value-is ∙ w.doubled.ensures))
+    (λ w. (w.if-is_power.false, w.value-is)) (rw c.if-doubled.false))

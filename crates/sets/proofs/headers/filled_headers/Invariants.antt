@@ -1,6 +1,6 @@
 -- The loop's invariant: the count so far and what is left of the headers make the whole.
 use mathlib.Core.Path.{◌≡◌}
-use Prim.Native.Nat.{◌+◌, ◌-◌, ◌≤◌}
+use Prim.Native.Nat.{◌+◌, ◌≤◌}
 use Rattle.tree_rules.specs.Chain.{tally}
 use Rattle.set_rules.specs.Accepting.{filled}
 use Rattle.sets.proofs.headers.filled_headers.Given as goal

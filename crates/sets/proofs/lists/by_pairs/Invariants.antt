@@ -6,7 +6,8 @@ use Rattle.sets.proofs.lists.by_pairs.Given as goal
 
 abbrev pub invariant-loop-x : goal.invariant-loop-x
 invariant-loop-x l =
-    (list_fine l.left l.names l.cells l.length l.i l.x ≡ list_fine l.visits l.names l.cells l.length l.i l.first) × (l.x < 2 ^ 32) × (l.left ≤ l.visits)
+    (list_fine l.left l.names l.cells l.length l.i l.x ≡ list_fine l.visits l.names l.cells l.length l.i l.first) × (l.x < 2 ^ 32) ×
+        (l.left ≤ l.visits)
 
 abbrev pub decreases-loop-x : goal.decreases-loop-x
 decreases-loop-x l = l.left

@@ -32,7 +32,7 @@ pub returns-in_default : goal.returns-in_default
 returns-in_default c =
     let a = c.args in
     repeated a.names.now a.cells.now a.bins a.i a.first a.visits c.requires c.loop-x.invariant.0
-    c.loop-x-test.true c.if-left-eq0.false c.name-hash.ensures c.type_inv.links.ensures
+    c.loop-x-test.true c.if-left-eq0.false c.name-hash.ensures c.name-key.ensures
     (answer_else c.find_tree_node-found.result c.find_tree_node-found.ensures (opened c.in_default.in_default-own.keys2))
 
 pub loop-x-preserved : goal.loop-x-preserved
@@ -40,7 +40,7 @@ loop-x-preserved c =
     let a = c.args in (
       rw c.get-next.ensures
           (hung a.names.now a.cells.now a.bins a.i a.first a.visits c.requires c.loop-x.invariant.0
-          c.loop-x-test.true c.if-left-eq0.false c.name-hash.ensures c.type_inv.links.ensures
+          c.loop-x-test.true c.if-left-eq0.false c.name-hash.ensures c.name-key.ensures
           (sym c.slot_home-home.ensures ∙ not-false c.slot_home-home.result c.if-not-home.false-raw)
           (answer_none c.find_tree_node-found.result c.find_tree_node-found.ensures c.in-Nothing.is)
           c.hang_slot-top.ensures),

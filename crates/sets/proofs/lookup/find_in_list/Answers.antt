@@ -1,4 +1,3 @@
-use Prim.Native.Nat.{◌-◌}
 use native.Mathlib.Omega.{arith}
 use borrow.Author.Rules.{rules}
 use Rattle.tree.proofs.Searching.{begun, ended, strayed, wanting, met, onward}
@@ -51,7 +50,7 @@ loop-p-preserved c =
           c.if-visits-eq0.false
           c.loop-p.invariant.2
           (read_on_lem _ _ _ _ _ c.has_pair-has.ensures c.if-has.false c.get-p.ensures),
-      omega (arith, c.get-p.type-inv),
+      omega (arith, c.get-p.type_inv),
       omega (arith, c.loop-p.invariant.2),
       search rules,
     )

@@ -10,7 +10,8 @@ use Rattle.sets.proofs.lookup.search.Given as goal
 abbrev pub invariant-loop-k : goal.invariant-loop-k
 invariant-loop-k l =
     let s : Set = record { lengths = l.lengths; bins = l.bins; heads = l.heads; names = l.names; cells = l.cells } in
-    (counted (forwarded (length l.lengths - l.k) s l.k l.hash l.key) ≡ counted (forwarded (length l.lengths - l.table) s l.table l.hash l.key))
+    (counted (forwarded (length l.lengths - l.k) s l.k l.hash l.key) ≡ counted
+        (forwarded (length l.lengths - l.table) s l.table l.hash l.key))
     × (l.k < length l.lengths)
     × (l.n ≡ length l.names / 2)
     × (l.h ≡ length l.heads / 3)

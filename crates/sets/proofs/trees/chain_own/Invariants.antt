@@ -6,7 +6,8 @@ use Rattle.sets.proofs.trees.chain_own.Given as goal
 
 abbrev pub invariant-loop-x : goal.invariant-loop-x
 invariant-loop-x l =
-    (chain_own l.left l.names l.cells l.length l.i l.x ≡ chain_own l.most l.names l.cells l.length l.i l.first) × (l.x < 2 ^ 32) × (l.left ≤ l.most)
+    (chain_own l.left l.names l.cells l.length l.i l.x ≡ chain_own l.most l.names l.cells l.length l.i l.first) × (l.x < 2 ^ 32) ×
+        (l.left ≤ l.most)
 
 abbrev pub decreases-loop-x : goal.decreases-loop-x
 decreases-loop-x l = l.left

@@ -38,7 +38,7 @@ advance-d-requires c =
     base_more s a.base c.loop-i.d c.loop-i.indexes (walk_point a.depth a.indexes.now) c.loop-i.invariant.0
     c.index_at-i.ensures c.length_at-length.ensures c.if-length-i.false
     c.length_at-first.ensures c.bin_from-bin.ensures in
-    let most = c.type_inv.lengths.given a.base in
+    let most = c.type_inv.lengths a.base in
     (omega (arith, g.deep, g.few), omega (arith, g.deep, g.few), omega (arith, more, most))
 
 pub loop-i-smaller-in-Empty : goal.loop-i-smaller-in-Empty
@@ -134,7 +134,7 @@ advance-after-requires c =
     base_more s a.base c.loop-i.d c.loop-i.indexes (walk_point a.depth a.indexes.now) c.loop-i.invariant.0
     c.index_at-i.ensures c.length_at-length.ensures c.if-length-i.false
     c.length_at-first.ensures c.bin_from-bin.ensures in
-    let most = c.type_inv.lengths.given a.base in
+    let most = c.type_inv.lengths a.base in
     (omega (arith, g.deep, g.few), omega (arith, g.deep, g.few), omega (arith, more, most))
 
 pub advance-after-requires-in-Tree : goal.advance-after-requires-in-Tree
@@ -146,7 +146,7 @@ advance-after-requires-in-Tree c =
     base_more s a.base c.loop-i.d c.loop-i.indexes (walk_point a.depth a.indexes.now) c.loop-i.invariant.0
     c.index_at-i.ensures c.length_at-length.ensures c.if-length-i.false
     c.length_at-first.ensures c.bin_from-bin.ensures in
-    let most = c.type_inv.lengths.given a.base in
+    let most = c.type_inv.lengths a.base in
     (omega (arith, g.deep, g.few), omega (arith, g.deep, g.few), omega (arith, more, most))
 
 pub returns-then-length-i : goal.returns-then-length-i

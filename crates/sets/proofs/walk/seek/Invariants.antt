@@ -14,7 +14,8 @@ use Rattle.sets.proofs.walk.seek.Given as goal
 abbrev pub invariant-loop-i : goal.invariant-loop-i
 invariant-loop-i l =
     let s : Set = record { lengths = l.lengths; bins = l.bins; heads = l.heads; names = l.names; cells = [] } in
-    Going s l.base (walk_point l.depth l.initial.indexes) (walk_point l.d l.indexes) × (l.n ≡ length l.names / 2) × (l.h ≡ length l.heads / 3)
+    Going s l.base (walk_point l.depth l.initial.indexes) (walk_point l.d l.indexes) × (l.n ≡ length l.names / 2) ×
+        (l.h ≡ length l.heads / 3)
 
 abbrev pub decreases-loop-i : goal.decreases-loop-i
 decreases-loop-i l = left l.lengths l.base l.d l.indexes

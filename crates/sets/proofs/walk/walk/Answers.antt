@@ -39,7 +39,7 @@ returns-in-At c =
     c.get-link.ensures
     c.trim-indexes.ensures
     c.if-link.false
-    (ap (λ (o : Sought). sought_of o c.type_inv.indexes.new.1.1.1.1.1.1.0) (sym c.in-At.is) ∙ c.type_inv.indexes.ensures)
+    (ap (λ (o : Sought). sought_of o c.seek-sought.new.indexes) (sym c.in-At.is) ∙ c.seek-sought.ensures)
 
 pub returns-in-Ended : goal.returns-in-Ended
 returns-in-Ended c =
@@ -53,8 +53,8 @@ returns-in-Ended c =
     c.get-link.ensures
     c.trim-indexes.ensures
     c.if-link.false
-    (ap (λ (o : Sought). sought_of o c.type_inv.indexes.new.1.1.1.1.1.1.0) (sym c.in-Ended.is)
-    ∙ c.type_inv.indexes.ensures))
+    (ap (λ (o : Sought). sought_of o c.seek-sought.new.indexes) (sym c.in-Ended.is)
+    ∙ c.seek-sought.ensures))
 
 pub returns-in-Lost : goal.returns-in-Lost
 returns-in-Lost c =
@@ -67,4 +67,4 @@ returns-in-Lost c =
     c.get-link.ensures
     c.trim-indexes.ensures
     c.if-link.false
-    (ap (λ (o : Sought). sought_of o c.type_inv.indexes.new.1.1.1.1.1.1.0) (sym c.in-Lost.is) ∙ c.type_inv.indexes.ensures)
+    (ap (λ (o : Sought). sought_of o c.seek-sought.new.indexes) (sym c.in-Lost.is) ∙ c.seek-sought.ensures)
