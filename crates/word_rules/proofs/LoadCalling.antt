@@ -10,8 +10,6 @@ use lib.ListN.{length}
 use lib.Dec.{eqb, ltb}
 use borrow.Author.Tests.{eq-eqb, ne_eqb}
 use Rattle.slots.specs.Answers.{Answer, refused, answer_word}
-use Rattle.slots.proofs.Laws.{number}
-use Rattle.endian.specs.Bytes as B
 use Rattle.endian.specs.Bytes.{Bytes}
 use Rattle.upload_rules.specs.Reader.{Note, unsaid, said, note_answer}
 use Rattle.upload_rules.proofs.Ranges.{pick_both}

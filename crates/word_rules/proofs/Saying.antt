@@ -11,7 +11,6 @@ use lib.ListN.{length, get_or}
 use lib.Dec.{eqb}
 use borrow.Author.Tests.{eq-eqb, ne_eqb, eqb-true, eqb-false, lt-ltb, le-ltb}
 use Rattle.slots.specs.Answers.{Answer, some, given, refused, answer_word}
-use Rattle.slots.proofs.Laws.{number, value}
 use Rattle.upload_rules.specs.Reader.{Note, said, Reader, reader_of}
 use Rattle.reader.specs.Notes.{plain_at, note_with, note_at}
 use Rattle.upload_rules.specs.Notes.{NoteSaid, known, unknown, note_word}
