@@ -31,7 +31,8 @@ module _ (t : List ℕ) where
     pub refused_high : sets ≤ most_sets → {refused : ℕ} → refused ≡ refused_in t → most_sets - sets < refused → false ≡ fits_totals t
     refused_high k f h = too_high (omega arith)
 
-    pub words_asked : sets ≤ most_sets → {refused : ℕ} → refused ≡ refused_in t → refused ≤ most_sets - sets → {b : Bool} → b ≡ words_fit 37 t
+    pub words_asked : sets ≤ most_sets → {refused : ℕ} → refused ≡ refused_in t → refused ≤ most_sets - sets → {b : Bool}
+        → b ≡ words_fit 37 t
         → b ≡ fits_totals t
     unfolding fits_totals
     words_asked k f h i =

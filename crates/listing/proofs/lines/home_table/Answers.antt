@@ -1,5 +1,4 @@
 use mathlib.Core.Path.{refl, sym, ◌∙◌}
-use Prim.Native.Nat.{◌-◌}
 use native.Mathlib.Omega.{arith}
 use Rattle.set_rules.specs.Words.{lent_set}
 use Rattle.listing.proofs.Lining.{home_here, home_on, home_last}

@@ -13,7 +13,8 @@ abbrev pub invariant-loop-left : goal.invariant-loop-left
 invariant-loop-left l =
     (typed (lent_paper l.out l.end) (walk_lines l.left (lent_set l.lengths l.bins l.heads l.names l.cells) (cursor_of l.cursor))
     ≡ typed (lent_paper l.initial.out l.at)
-    (walk_lines (length l.names / 2) (lent_set l.lengths l.bins l.heads l.names l.cells) (starts (lent_set l.lengths l.bins l.heads l.names l.cells) 0).cursor))
+    (walk_lines (length l.names / 2) (lent_set l.lengths l.bins l.heads l.names l.cells)
+        (starts (lent_set l.lengths l.bins l.heads l.names l.cells) 0).cursor))
     × (length l.out ≡ length l.initial.out)
 
 abbrev pub decreases-loop-left : goal.decreases-loop-left

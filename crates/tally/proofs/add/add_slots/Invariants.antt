@@ -8,7 +8,8 @@ use Rattle.tally.proofs.add.add_slots.Given as goal
 
 abbrev pub invariant-loop-x : goal.invariant-loop-x
 invariant-loop-x l =
-    (l.totals ≡ slots_tallied (lent_set l.lengths l.bins l.heads l.names l.cells) l.x l.initial.totals) × (l.x ≤ l.n) × (l.n ≡ length l.names / 2)
+    (l.totals ≡ slots_tallied (lent_set l.lengths l.bins l.heads l.names l.cells) l.x l.initial.totals) × (l.x ≤ l.n) ×
+        (l.n ≡ length l.names / 2)
 
 abbrev pub decreases-loop-x : goal.decreases-loop-x
 decreases-loop-x l = l.n - l.x

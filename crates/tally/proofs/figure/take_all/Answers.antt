@@ -1,5 +1,4 @@
 use mathlib.Core.Path.{refl, ◌∙◌}
-use Prim.Native.Nat.{◌-◌}
 use native.Mathlib.Omega.{arith}
 use lib.ListN.{length-drop}
 use Rattle.endian.proofs.Reading.{from_place}
@@ -29,14 +28,14 @@ pub loop-at-preserved : goal.loop-at-preserved
 loop-at-preserved c =
     let piece = c.args.piece.now in
     let inv = c.loop-at.invariant in
-    let kept = c.step-next.auto.bins in (
+    let kept = c.step-next.auto in (
       going_on inv.0 (from_place piece c.loop-at.at) c.step-next.ensures,
-      kept.0 ∙ inv.1,
-      kept.1.0 ∙ inv.2,
-      kept.1.1.0 ∙ inv.3,
-      kept.1.1.1.0 ∙ inv.4,
-      kept.1.1.1.1.0 ∙ inv.5,
-      kept.1.1.1.1.1.0 ∙ inv.6,
+      kept.lengths ∙ inv.1,
+      kept.bins ∙ inv.2,
+      kept.heads ∙ inv.3,
+      kept.names ∙ inv.4,
+      kept.cells ∙ inv.5,
+      kept.totals ∙ inv.6,
     )
 
 pub shape_of-lengths : goal.shape_of-lengths

@@ -9,9 +9,11 @@ use Rattle.tally.proofs.figure.take_all.Given as goal
 
 abbrev pub invariant-loop-at : goal.invariant-loop-at
 invariant-loop-at l =
-    Going (stream_of l.initial.stream (lent_set l.initial.lengths l.initial.bins l.initial.heads l.initial.names l.initial.cells) l.initial.totals) l.piece
+    Going (stream_of l.initial.stream
+        (lent_set l.initial.lengths l.initial.bins l.initial.heads l.initial.names l.initial.cells) l.initial.totals) l.piece
     (stream_of l.stream (lent_set l.lengths l.bins l.heads l.names l.cells) l.totals) l.at
-    × (length l.lengths ≡ length l.initial.lengths) × (length l.bins ≡ length l.initial.bins) × (length l.heads ≡ length l.initial.heads) × (length l.names ≡ length l.initial.names)
+    × (length l.lengths ≡ length l.initial.lengths) × (length l.bins ≡ length l.initial.bins) × (length l.heads ≡ length l.initial.heads) ×
+        (length l.names ≡ length l.initial.names)
     × (length l.cells ≡ length l.initial.cells) × (length l.totals ≡ length l.initial.totals)
 
 abbrev pub decreases-loop-at : goal.decreases-loop-at

@@ -19,22 +19,22 @@ await_set-stream-requires c =
     let a = c.args in
     let s = lent_set a.lengths.now a.bins.now a.heads.now a.names.now a.cells.now in
     let d = stream_of a.r s a.totals.now in
-    let k = all_bytes a.rest.now (λ i. omega (arith, c.type_inv.rest.given i)) in
+    let k = all_bytes a.rest.now (λ i. omega (arith, c.type_inv.rest i)) in
     chunk_goes d a.rest.now c.requires.2 c.requires.0 c.own_bytes-used.ensures k c.chunk-load.ensures
 
 pub shape_of-lengths : goal.shape_of-lengths
 shape_of-lengths c =
-    c.await_set-stream.auto.heads ∙ c.chunk-load.auto.1.0
+    c.await_set-stream.auto.lengths ∙ c.chunk-load.auto.lengths
 
 pub shape_of-bins : goal.shape_of-bins
 shape_of-bins c =
-    c.await_set-stream.auto.names ∙ c.chunk-load.auto.1.1.0
+    c.await_set-stream.auto.bins ∙ c.chunk-load.auto.bins
 
 pub returns : goal.returns
 returns c =
     let a = c.args in
     let s = lent_set a.lengths.now a.bins.now a.heads.now a.names.now a.cells.now in
     let d = stream_of a.r s a.totals.now in
-    let k = all_bytes a.rest.now (λ i. omega (arith, c.type_inv.rest.given i)) in
+    let k = all_bytes a.rest.now (λ i. omega (arith, c.type_inv.rest i)) in
     set_step d a.rest.now c.requires.2 c.requires.0 c.own_bytes-used.ensures k c.chunk-load.ensures c.requires.1
     c.await_set-stream.ensures

@@ -1,5 +1,4 @@
 use mathlib.Core.Path.{refl, ◌∙◌}
-use Prim.Native.Nat.{◌-◌}
 use native.Mathlib.Omega.{arith}
 use Rattle.script_rules.specs.Feeding.{lent_paper}
 use Rattle.tally.proofs.Telling.{row_told, rows_turn, rows_over}

@@ -8,7 +8,8 @@ use Rattle.tally.proofs.tell.tell_rows.Given as goal
 
 abbrev pub invariant-loop-i : goal.invariant-loop-i
 invariant-loop-i l =
-    (typed (lent_paper l.out l.end) (rows_text (33 - l.i) l.totals l.i) ≡ typed (lent_paper l.initial.out l.initial.end) (rows_text 32 l.totals 1))
+    (typed (lent_paper l.out l.end) (rows_text (33 - l.i) l.totals l.i) ≡ typed (lent_paper l.initial.out l.initial.end)
+        (rows_text 32 l.totals 1))
     × (length l.out ≡ length l.initial.out)
     × (1 ≤ l.i)
 

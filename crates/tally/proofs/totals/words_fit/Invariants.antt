@@ -1,6 +1,6 @@
 -- The loop's invariant: the words up to here are in their ranges exactly if all are.
 use mathlib.Core.Path.{◌≡◌}
-use Prim.Native.Nat.{◌-◌, ◌≤◌}
+use Prim.Native.Nat.{◌≤◌}
 use Rattle.figure_rules.specs.Totals.{words_fit}
 use Rattle.tally.proofs.totals.words_fit.Given as goal
 
