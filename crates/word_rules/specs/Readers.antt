@@ -52,8 +52,10 @@ read_into w o = read_worded (answer_word o.answer) o.left.index (reader_written 
 
 unfoldable pub chunk_read : Index → List ℕ → List ℕ → ReadWorded
 chunk_read ix w chunk =
-    elim (reader_in w) [ saying r ↦ read_into w (read_chunk (session r ix) chunk)
-        | saying_none ↦ read_worded (answer_word (refused 1)) ix w ]
+    elim (reader_in w) [
+      | saying r ↦ read_into w (read_chunk (session r ix) chunk)
+      | saying_none ↦ read_worded (answer_word (refused 1)) ix w
+    ]
 
 unfoldable pub ended_reader : Index → List ℕ → ReadWorded
 ended_reader ix w =

@@ -36,7 +36,7 @@ returns c =
     let ready = c.requires.slot_ready in (
       pair-kept _ _ _ _ _ _ c.name-hash.ensures c.name-key.ensures
           (sought-not _ _ _ c.word-root.ensures c.find_tree_node-found.result c.find_tree_node-found.ensures
-              (opened c.in_default.in_default-own.keys2))
+          (opened c.in_default.in_default-own.keys2))
           c.get-place.ensures
           (c.grow.ensures ∙ grown-is _ c.requires.names2_len_bound _ _ _ _ _ c.requires.null_bound)
           c.put_word-2.ensures,

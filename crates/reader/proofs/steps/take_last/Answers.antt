@@ -59,7 +59,7 @@ pub returns-in_default : goal.returns-in_default
 returns-in_default c =
     step_down
     (last_refused _ _ _ c.name_byte-key.ensures c.enter-entered.ensures.same
-        (not_at c.enter-entered.result.inserted (opened c.in_default.in_default-own.keys2))
+    (not_at c.enter-entered.result.inserted (opened c.in_default.in_default-own.keys2))
     c.of_inserted-reply.ensures c.turn_down-reader.ensures)
 
 pub returns : goal.returns

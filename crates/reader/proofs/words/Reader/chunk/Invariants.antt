@@ -10,7 +10,7 @@ use Rattle.reader.proofs.words.Reader.chunk.Given as goal
 abbrev pub invariant-loop-i : goal.invariant-loop-i
 invariant-loop-i l =
     Turn (session (words_of l.initial.at.reader)
-        (lent l.initial.names l.initial.cells l.initial.head l.initial.sizes l.initial.lines)) l.chunk
+    (lent l.initial.names l.initial.cells l.initial.head l.initial.sizes l.initial.lines)) l.chunk
     (words_of l.at.reader) l.at.checked l.at.floor (lent l.names l.cells l.head l.sizes l.lines) l.i
 
 abbrev pub decreases-loop-i : goal.decreases-loop-i
