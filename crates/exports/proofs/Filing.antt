@@ -39,7 +39,8 @@ module _ (w : List ℕ) where
 
 -- The eight words, read and written one by one.
 module _ (w : List ℕ) where
-  pub loader_eight : {a b c d e f g : ℕ} (n : Note) → a ≡ get_or w 0 0 → b ≡ get_or w 1 0 → c ≡ get_or w 2 0 → d ≡ get_or w 3 0 → e ≡ get_or w 4 0
+  pub loader_eight : {a b c d e f g : ℕ} (n : Note) → a ≡ get_or w 0 0 → b ≡ get_or w 1 0 → c ≡ get_or w 2 0 → d ≡ get_or w 3 0
+      → e ≡ get_or w 4 0
       → f ≡ get_or w 5 0 → g ≡ get_or w 6 0
       → saying_loader (loader_of a b c (d ∷ (e ∷ (f ∷ (g ∷ [])))) n) ≡ loader_noted w (known n)
   loader_eight n e1 e2 e3 e4 e5 e6 e7 = rw (e1, e2, e3, e4, e5, e6, e7)

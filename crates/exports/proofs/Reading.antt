@@ -42,7 +42,8 @@ module _ (w : List ℕ) where
 
 -- The eight words, read and written one by one.
 module _ (w : List ℕ) where
-  pub eight_read : {a b c d e m t : ℕ} (n : Note) → a ≡ get_or w 0 0 → b ≡ get_or w 1 0 → c ≡ get_or w 2 0 → d ≡ get_or w 3 0 → e ≡ get_or w 4 0
+  pub eight_read : {a b c d e m t : ℕ} (n : Note) → a ≡ get_or w 0 0 → b ≡ get_or w 1 0 → c ≡ get_or w 2 0 → d ≡ get_or w 3 0
+      → e ≡ get_or w 4 0
       → m ≡ get_or w 5 0 - 1 → t ≡ get_or w 6 0
       → saying (reader_of a b c d e m t n) ≡ with_note w (known n)
   eight_read n e1 e2 e3 e4 e5 e6 e7 = rw (e1, e2, e3, e4, e5, e6, e7)

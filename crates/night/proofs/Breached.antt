@@ -1,7 +1,6 @@
 -- Which part of the model is asked, by the number of the rule that is told.
 use mathlib.Core.Path.{◌≡◌}
 use mathlib.Core.Logic.{◌≢◌}
-use Prim.Native.Nat.{ℕ}
 use borrow.Author.Tests.{eq-eqb, ne_eqb}
 use Rattle.slots.specs.Words.{null}
 use Rattle.index_rules.specs.Live.{Live}

@@ -1,5 +1,5 @@
 -- What is found, from what was told.
-use mathlib.Core.Path.{◌≡◌, refl, sym, ◌∙◌}
+use mathlib.Core.Path.{◌≡◌, refl}
 use mathlib.Core.Logic.{◌≢◌}
 use mathlib.Core.Bool.{Bool, true, false}
 use Prim.Native.Nat.{ℕ, ◌≤◌}
@@ -12,7 +12,7 @@ use Rattle.night_rules.specs.Account.{Account}
 use Rattle.night_rules.specs.Why.{why}
 use Rattle.night_rules.specs.Breach.{Breach, breach}
 use Rattle.night_rules.specs.Finding.{Finding, sound, broken, unfit, examined}
-use Rattle.night.specs.Shown.{Telling, refuses, tells, why_told}
+use Rattle.night.specs.Shown.{refuses, tells, why_told}
 use Rattle.night.proofs.Sought.{few_names}
 
 module _ (t : Live) where

@@ -1,7 +1,7 @@
 -- Every claim of the crate holds: an answer is read back off its number and value, and a call's answer is the model's.
 use Rattle.std.proofs.Common.{◌≡◌, ℕ, eqb, sym, refl, ◌∙◌}
 use Rattle.slots.specs.Words.{pick}
-use Rattle.slots.specs.Answers.{Answer, Value, some, none}
+use Rattle.slots.specs.Answers.{Value, some, none}
 use Rattle.slots.proofs.Claims.{answer_one_to_one}
 use Rattle.slots.proofs.Laws.{told_apart}
 use Rattle.ranks.specs.Calls.{kth_of, position_of}

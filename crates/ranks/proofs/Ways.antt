@@ -1,9 +1,9 @@
 -- A step of each way down, on plain values: each law takes what the reads and the tests gave, in the order of the code.
-use Rattle.std.proofs.Common.{◌≡◌, ℕ, zero, suc, ◌+◌, ◌-◌, ◌<◌, ◌≤◌, Bool, true, false, eqb, ltb, ◌≢◌, List, get_or, sym, refl, ◌∙◌}
-use Rattle.std.proofs.Common.{sub-one, arith, le-ltb, lt-ltb, eq-eqb, ne_eqb}
+use Rattle.std.proofs.Common.{◌≡◌, ℕ, zero, suc, ◌+◌, ◌-◌, ◌<◌, ◌≤◌, Bool, true, false, eqb, ltb, ◌≢◌, List, get_or}
+use Rattle.std.proofs.Common.{sym, refl, ◌∙◌, sub-one, arith, le-ltb, lt-ltb, eq-eqb, ne_eqb}
 use Rattle.slots.specs.Words.{null, pick, left, right, cell, name_of, hash_part, key_part, sum}
 use Rattle.slots.specs.Pairs.{before}
-use Rattle.slots.specs.Answers.{Value, some, none}
+use Rattle.slots.specs.Answers.{some, none}
 use Rattle.tree_rules.specs.Sizes.{size_word}
 use Rattle.tree_rules.specs.Ranks.{kth_from, rank_from}
 

@@ -6,7 +6,7 @@ use mathlib.Core.Path.{◌≡◌, refl, ap, sym, ◌∙◌, subst}
 use mathlib.Core.Logic.{◌≢◌}
 use mathlib.Core.Bool.{Bool, true, false}
 use mathlib.Core.List.{List, [], ◌++◌}
-use Prim.Native.Nat.{ℕ, ◌+◌, ◌/◌, ◌<◌, ◌≤◌}
+use Prim.Native.Nat.{ℕ, ◌/◌, ◌<◌, ◌≤◌}
 use native.Mathlib.Decide.{ℕ_discrete}
 use native.Mathlib.Omega.{arith}
 use lib.ListN.{length}
@@ -23,7 +23,8 @@ use Rattle.index_rules.proofs.Sounding.{yes_sound, unsound}
 use Rattle.endian.specs.Bytes as B
 use Rattle.endian.specs.Bytes.{Bytes}
 use Rattle.upload_rules.specs.Reader.{Note, unsaid, said, Reader, new_reader, FitReader, fits_reader, note_answer, reader_answer}
-use Rattle.upload_rules.specs.Reading.{Session, session, new_session, ReadOutcome, read_outcome, byte_read, bytes_read, read_start, read_chunk}
+use Rattle.upload_rules.specs.Reading.{Session, session, new_session, ReadOutcome, read_outcome, byte_read, bytes_read, read_start}
+use Rattle.upload_rules.specs.Reading.{read_chunk}
 use Rattle.upload_rules.specs.Reading.{end_read, read_end, read_whole}
 use Rattle.upload_rules.specs.Steps.{Foreign, unfit, damaged, bad_mark, misfit, Fault, kind, long, short, entry, ByteStep, moves, takes}
 use Rattle.upload_rules.specs.Steps.{stops, foreign, cut_short}

@@ -260,7 +260,8 @@ module _ (names cells : List ℕ) where
   onward-ends rest (stops l k b) again = stops l k b
   onward-ends rest loses again = loses
 
-  fails_ends : (i : ℕ) → i < slots_of names → eqb (first_failing names cells i) 0 ≡ false → CheckEnds (failed (first_failing names cells i) i)
+  fails_ends : (i : ℕ) → i < slots_of names → eqb (first_failing names cells i) 0 ≡ false
+      → CheckEnds (failed (first_failing names cells i) i)
   unfolding first_failing
   fails_ends i b e =
       let d : first_from 8 names cells 1 i ≢ 0 = eqb-false (first_from 8 names cells 1 i) 0 e in

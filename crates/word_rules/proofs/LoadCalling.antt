@@ -10,8 +10,6 @@ use lib.ListN.{length}
 use lib.Dec.{eqb, ltb}
 use borrow.Author.Tests.{eq-eqb, ne_eqb}
 use Rattle.slots.specs.Answers.{Answer, refused, answer_word}
-use Rattle.slots.proofs.Laws.{number}
-use Rattle.endian.specs.Bytes as B
 use Rattle.endian.specs.Bytes.{Bytes}
 use Rattle.upload_rules.specs.Reader.{Note, unsaid, said, note_answer}
 use Rattle.upload_rules.proofs.Ranges.{pick_both}
@@ -19,7 +17,8 @@ use Rattle.set_rules.specs.Words.{Set, fits}
 use Rattle.set_rules.specs.Accepting.{accepted}
 use Rattle.file_rules.specs.Layout.{section_words}
 use Rattle.file_rules.specs.Loader.{Loader, new_loader, count_taken, next_width, FitLoader, taken_of, loader_answer}
-use Rattle.file_rules.specs.Loading.{Loading, loading, LoadOutcome, load_outcome, load_refused, after_words, with_count, may_count, word_came}
+use Rattle.file_rules.specs.Loading.{Loading, loading, LoadOutcome, load_outcome, load_refused, after_words, with_count, may_count}
+use Rattle.file_rules.specs.Loading.{word_came}
 use Rattle.file_rules.specs.Loading.{with_byte, byte_stored, byte_loaded, bytes_loaded, cut_out, end_judged, end_loaded, GoesOn, may_go_on}
 use Rattle.file_rules.specs.Loading.{load_chunk}
 use Rattle.file_rules.specs.Loading.{load_end, load_whole}

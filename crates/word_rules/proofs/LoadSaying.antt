@@ -151,7 +151,8 @@ pub data SaidIn (w : List ℕ) : Type 0 where
   says : (r : Loader) → loader_in w ≡ saying_loader r → LoaderWords w r → SaidIn w
   none : loader_in w ≡ saying_no_loader → ((r : Loader) → LoaderWords w r → ⊥) → SaidIn w
 
-loader_read : {w : List ℕ} → OfLength 8 w → (n : Note) → NoteTold LoaderAnswer n (get_or w 7 0) → load_note_at (get_or w 7 0) ≡ known n → SaidIn w
+loader_read : {w : List ℕ} → OfLength 8 w → (n : Note) → NoteTold LoaderAnswer n (get_or w 7 0) → load_note_at (get_or w 7 0) ≡ known n
+    → SaidIn w
 unfolding loader_in
 loader_read (one a (one b (one c (one d (one e (one f (one g (one h end)))))))) n t k =
     says (loader_of a b c (d ∷ (e ∷ (f ∷ (g ∷ [])))) n) (rw k)

@@ -8,7 +8,8 @@ use Rattle.slots.specs.Answers.{Answer, refused, answer_word}
 use Rattle.set_rules.specs.Words.{Set, tables_of, fits}
 use Rattle.set_rules.specs.Accepting.{accepted}
 use Rattle.set_rules.proofs.Fit.{fits_fit}
-use Rattle.move_rules.specs.Moving.{half_count, high_index, low_header, high_header, lacks, movable, MoveOutcome, move_outcome, moves_bin, moves}
+use Rattle.move_rules.specs.Moving.{half_count, high_index, low_header, high_header, lacks, movable, MoveOutcome, move_outcome, moves_bin}
+use Rattle.move_rules.specs.Moving.{moves}
 use Rattle.move_rules.proofs.Claims.{claims}
 use Rattle.mover.proofs.Moves.{half_most}
 use Rattle.word_rules.specs.Told.{Valued, gives}

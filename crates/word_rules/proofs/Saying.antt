@@ -11,7 +11,6 @@ use lib.ListN.{length, get_or}
 use lib.Dec.{eqb}
 use borrow.Author.Tests.{eq-eqb, ne_eqb, eqb-true, eqb-false, lt-ltb, le-ltb}
 use Rattle.slots.specs.Answers.{Answer, some, given, refused, answer_word}
-use Rattle.slots.proofs.Laws.{number, value}
 use Rattle.upload_rules.specs.Reader.{Note, said, Reader, reader_of}
 use Rattle.reader.specs.Notes.{plain_at, note_with, note_at}
 use Rattle.upload_rules.specs.Notes.{NoteSaid, known, unknown, note_word}
@@ -176,7 +175,8 @@ pub data SaidIn (w : List ℕ) : Type 0 where
   none : reader_in w ≡ saying_none → ((r : Reader) → ReaderWords w r → ⊥) → SaidIn w
 
 -- The eight words read are those of the table.
-reader_read : {w : List ℕ} → OfLength 8 w → (n : Note) → get_or w 5 0 ≢ 0 → get_or w 5 0 < 4294967297 → NoteTold ReaderAnswer n (get_or w 7 0)
+reader_read : {w : List ℕ} → OfLength 8 w → (n : Note) → get_or w 5 0 ≢ 0 → get_or w 5 0 < 4294967297
+    → NoteTold ReaderAnswer n (get_or w 7 0)
     → note_at (get_or w 7 0) ≡ known n → SaidIn w
 unfolding reader_in
 reader_read (one a (one b (one c (one d (one e (one f (one g (one h end)))))))) n z l t k =
@@ -198,7 +198,8 @@ pub said_in : (w : List ℕ) → SaidIn w
 unfolding reader_in
 said_in w = go (ℕ_discrete (length w) 8) (ℕ_discrete (get_or w 5 0) 0) (dec_lt (get_or w 5 0) 4294967297) (note_at (get_or w 7 0)) refl
   where
-    go : Dec (length w ≡ 8) → Dec (get_or w 5 0 ≡ 0) → Dec (get_or w 5 0 < 4294967297) → (n : NoteSaid) → note_at (get_or w 7 0) ≡ n → SaidIn w
+    go : Dec (length w ≡ 8) → Dec (get_or w 5 0 ≡ 0) → Dec (get_or w 5 0 < 4294967297) → (n : NoteSaid) → note_at (get_or w 7 0) ≡ n
+        → SaidIn w
     go (no d) z m n e = none (rw (ne_eqb (length w) 8 d)) (λ r h. d h.eight)
     go (yes l) (yes z) m n e = none (rw (eq-eqb (length w) 8 l, eq-eqb (get_or w 5 0) 0 z)) (λ r h. omega (arith, h.mark, z))
     go (yes l) (no z) (no d) n e =

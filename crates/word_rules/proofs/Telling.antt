@@ -77,11 +77,14 @@ one_word p q = omega (arith, p.number, q.number, p.value, q.value, one_value p.v
 abbrev pub plain_number : ℕ → Bool
 plain_number n = leb 1 n and leb n 18 and pick (eqb n 3) false true
 
-pub plainly : {bare : ℕ} (n : ℕ) → plain_number n ≡ true → Valued bare (refused n) 0
-plainly n e =
+plain_range : (n : ℕ) → plain_number n ≡ true → (1 ≤ n) × ((n ≤ 18) × (n ≢ 3))
+plain_range n e =
     let a = both (leb 1 n) _ e in
     let b = both (leb n 18) _ a.1 in
-    refuses (leb-true 1 n a.0) (leb-true n 18 b.0) (λ z. false≢true (sym (pick_eq false true z) ∙ b.1))
+    (leb-true 1 n a.0, (leb-true n 18 b.0, λ z. false≢true (sym (pick_eq false true z) ∙ b.1)))
+
+pub plainly : {bare : ℕ} (n : ℕ) → plain_number n ≡ true → Valued bare (refused n) 0
+plainly n e = let r = plain_range n e in refuses r.0 r.1.0 r.1.1
 
 -- Where something always comes, none is a bare number 0.
 pub never_bare : {a : Answer} {v : ℕ} → Valued 4294967296 a v → a ≡ nothing → ⊥
@@ -102,10 +105,10 @@ refusal_is l d k (fails b c m) e = absurd (omega arith)
 pub told-when : {bare : ℕ} {a : Answer} {word : ℕ} {P : Type 0} → WordTells bare a word → (n : ℕ) → plain_number n ≡ true
     → (a ≡ refused n) ↔ P
     → (word / 4294967296 ≡ n) ↔ P
-told-when {a = a} {word} {P} t n e h = go (plainly {bare = 4294967296} n e)
+told-when {a = a} {word} {P} t n e h = go (plain_range n e)
   where
-    go : Valued 4294967296 (refused n) 0 → (word / 4294967296 ≡ n) ↔ P
-    go (refuses l k d) =
+    go : (1 ≤ n) × ((n ≤ 18) × (n ≢ 3)) → (word / 4294967296 ≡ n) ↔ P
+    go (l, (k, d)) =
         (λ w. h.0 (refusal_is l d (omega arith) t.valued (sym t.number ∙ w)), λ p. t.number ∙ number (h.1 p))
 
 -- What comes with number 0 is its own word.

@@ -24,7 +24,8 @@ pub data LoaderSaid : Type 0 where
 
 abbrev pub loader_noted : List ℕ → NoteSaid → LoaderSaid
 loader_noted w (known n) =
-    saying_loader (loader_of (get_or w 0 0) (get_or w 1 0) (get_or w 2 0) (get_or w 3 0 ∷ (get_or w 4 0 ∷ (get_or w 5 0 ∷ (get_or w 6 0 ∷ [])))) n)
+    saying_loader
+    (loader_of (get_or w 0 0) (get_or w 1 0) (get_or w 2 0) (get_or w 3 0 ∷ (get_or w 4 0 ∷ (get_or w 5 0 ∷ (get_or w 6 0 ∷ [])))) n)
 loader_noted w unknown = saying_no_loader
 
 -- 1 where "the loader is not eight words".
@@ -46,7 +47,8 @@ loader_worded word w = record { word = word; loader = w }
 
 unfoldable pub started_loader : List ℕ → LoaderWorded
 started_loader w =
-    pick (eqb (length w) 8) (loader_worded (answer_word (given 1)) (loader_written w new_loader)) (loader_worded (answer_word (refused 1)) w)
+    pick (eqb (length w) 8) (loader_worded (answer_word (given 1)) (loader_written w new_loader))
+    (loader_worded (answer_word (refused 1)) w)
 
 -- What a chunk or an end call comes to: its word, and what it leaves in the slices and in the loader's words.
 pub record LoadWorded : Type 0 where

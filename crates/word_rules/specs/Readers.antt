@@ -14,7 +14,8 @@ pub data ReaderSaid : Type 0 where
   saying_none : ReaderSaid
 
 abbrev pub with_note : List ℕ → NoteSaid → ReaderSaid
-with_note w (known n) = saying (reader_of (get_or w 0 0) (get_or w 1 0) (get_or w 2 0) (get_or w 3 0) (get_or w 4 0) (get_or w 5 0 - 1) (get_or w 6 0) n)
+with_note w (known n) =
+    saying (reader_of (get_or w 0 0) (get_or w 1 0) (get_or w 2 0) (get_or w 3 0) (get_or w 4 0) (get_or w 5 0 - 1) (get_or w 6 0) n)
 with_note w unknown = saying_none
 
 -- "A reader of another length than eight words is 1." Word 5 is "the mark of the start, and 1 more", "so that eight zeros are no reader".
@@ -51,7 +52,10 @@ read_into w o = read_worded (answer_word o.answer) o.left.index (reader_written 
 
 unfoldable pub chunk_read : Index → List ℕ → List ℕ → ReadWorded
 chunk_read ix w chunk =
-    elim (reader_in w) [ saying r ↦ read_into w (read_chunk (session r ix) chunk) | saying_none ↦ read_worded (answer_word (refused 1)) ix w ]
+    elim (reader_in w) [
+      | saying r ↦ read_into w (read_chunk (session r ix) chunk)
+      | saying_none ↦ read_worded (answer_word (refused 1)) ix w
+    ]
 
 unfoldable pub ended_reader : Index → List ℕ → ReadWorded
 ended_reader ix w =

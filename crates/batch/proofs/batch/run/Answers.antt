@@ -1,4 +1,3 @@
-use Prim.Native.Nat.{◌-◌}
 use Rattle.batch.proofs.Making.{turn_start, turn_on, turn_fits, turn_end, turn_most}
 use Rattle.batch.proofs.batch.run.Goals as goal
 

@@ -1,6 +1,5 @@
 -- The loop's invariant: what is left of the calls decides the whole.
 use mathlib.Core.Path.{◌≡◌}
-use Prim.Native.Nat.{◌-◌}
 use Rattle.index_rules.specs.Batch.{all_fit}
 use Rattle.batch.proofs.calls.all_fit.Given as goal
 

@@ -17,12 +17,12 @@ returns-then-kind-eq-INSERT c =
 pub returns-then-kind-eq-REPLACE : goal.returns-then-kind-eq-REPLACE
 returns-then-kind-eq-REPLACE c =
     let a = c.args in
-    fits_replace a.calls.now a.k c.call_word-kind.ensures c.call_word-place.ensures
-    c.if-kind-eq-REMOVE.false c.if-kind-eq-INSERT.false c.if-kind-eq-REPLACE.true
+    fits_replace a.calls.now a.k c.call_word-kind.ensures c.call_word-place.ensures c.if-kind-eq-REMOVE.false
+    c.if-kind-eq-INSERT.false c.if-kind-eq-REPLACE.true
 
 pub returns-else-kind-eq-REPLACE : goal.returns-else-kind-eq-REPLACE
 returns-else-kind-eq-REPLACE c =
     let a = c.args in
     ne_eqb _ _ c.if-kind-eq-REPLACE.false
-    ∙ fits_none a.calls.now a.k c.call_word-kind.ensures c.call_word-place.ensures
-    c.if-kind-eq-REMOVE.false c.if-kind-eq-INSERT.false c.if-kind-eq-REPLACE.false
+    ∙ fits_none a.calls.now a.k c.call_word-kind.ensures c.call_word-place.ensures c.if-kind-eq-REMOVE.false
+    c.if-kind-eq-INSERT.false c.if-kind-eq-REPLACE.false

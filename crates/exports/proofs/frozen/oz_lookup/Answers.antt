@@ -13,11 +13,12 @@ pub search_word-requires : goal.search_word-requires
 search_word-requires c =
     let is = c.counted.ensures ∙ c.lookup-looked.ensures in
     let a = c.args in
-    let s = lent_set a.lengths.now a.bins.now a.heads.now a.names.now a.cells.now in (
-      subst (λ (x : Counted). answer_word x.answer < 281474976710656) (sym is)
-          (answer_below (lookups-plain s a.table a.hash a.key)),
-      subst (λ (x : Counted). x.looks < 65536) (sym is) (omega (arith, lookups_looks s a.table a.hash a.key)),
-    )
+    let s = lent_set a.lengths.now a.bins.now a.heads.now a.names.now a.cells.now in
+    record {
+      counted_bound = subst (λ (x : Counted). answer_word x.answer < 281474976710656) (sym is)
+          (answer_below (lookups-plain s a.table a.hash a.key));
+      counted_bound_2 = subst (λ (x : Counted). x.looks < 65536) (sym is) (omega (arith, lookups_looks s a.table a.hash a.key));
+    }
 
 pub returns : goal.returns
 returns c = c.search_word.ensures ∙ ap search_word (c.counted.ensures ∙ c.lookup-looked.ensures)

@@ -13,10 +13,11 @@ pub search_word-requires : goal.search_word-requires
 search_word-requires c =
     let is = c.counted.ensures ∙ c.find-found.ensures in
     let a = c.args in
-    let t = unsized a.names.now a.cells.now a.head.now in (
-      subst (λ (x : Counted). answer_word x.answer < 281474976710656) (sym is) (answer_below (finds-plain t a.hash a.key)),
-      subst (λ (x : Counted). x.looks < 65536) (sym is) (omega (arith, finds_looks t a.hash a.key)),
-    )
+    let t = unsized a.names.now a.cells.now a.head.now in
+    record {
+      counted_bound = subst (λ (x : Counted). answer_word x.answer < 281474976710656) (sym is) (answer_below (finds-plain t a.hash a.key));
+      counted_bound_2 = subst (λ (x : Counted). x.looks < 65536) (sym is) (omega (arith, finds_looks t a.hash a.key));
+    }
 
 pub returns : goal.returns
 returns c = c.search_word.ensures ∙ ap search_word (c.counted.ensures ∙ c.find-found.ensures)

@@ -9,9 +9,11 @@ returns-then-reader-ne8 c = start_short _ _ c.if-reader-ne8.true c.packed.ensure
 
 pub returns-then-told-lt4294967296 : goal.returns-then-told-lt4294967296
 returns-then-told-lt4294967296 c =
-    start_made _ _ c.if-reader-ne8.false c.start-started.ensures (c.answer_word-told.ensures ∙ ap answer_word c.answer.ensures) c.if-told-lt4294967296.true
+    start_made _ _ c.if-reader-ne8.false c.start-started.ensures
+    (c.answer_word-told.ensures ∙ ap answer_word c.answer.ensures) c.if-told-lt4294967296.true
     c.write_words.ensures
 
 pub returns-else-told-lt4294967296 : goal.returns-else-told-lt4294967296
 returns-else-told-lt4294967296 c =
-    start_kept _ _ c.if-reader-ne8.false c.start-started.ensures (c.answer_word-told.ensures ∙ ap answer_word c.answer.ensures) c.if-told-lt4294967296.false
+    start_kept _ _ c.if-reader-ne8.false c.start-started.ensures
+    (c.answer_word-told.ensures ∙ ap answer_word c.answer.ensures) c.if-told-lt4294967296.false

@@ -1,6 +1,5 @@
 -- Four reads.
 use Rattle.night_rules.specs.Breach.{breach4}
-use Rattle.night.proofs.breach.breach4.Reads as reads
 use Rattle.night.proofs.breach.breach4.Goals as goal
 
 pub returns : goal.returns

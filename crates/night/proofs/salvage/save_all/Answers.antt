@@ -1,5 +1,4 @@
 use mathlib.Core.Path.{refl, sym}
-use Prim.Native.Nat.{◌-◌}
 use native.Mathlib.Omega.{arith}
 use Rattle.night.proofs.Saving.{turn_start, turn_ready, turn_on, turn_end}
 use Rattle.night.proofs.salvage.save_all.Goals as goal

@@ -20,7 +20,6 @@ save_pair-requires c =
     c.requires
 
 pub returns : goal.returns
-returns c = (
-  slot_pair _ _ _ _ _ _ c.get-state.ensures c.if-state-eq-FREE.false c.if-state-gt-RED.false c.save_pair.ensures.0,
-  c.save_pair.ensures.1,
-)
+returns c =
+    let e = c.save_pair.ensures in
+    (slot_pair _ _ _ _ _ _ c.get-state.ensures c.if-state-eq-FREE.false c.if-state-gt-RED.false e.0, e.1)

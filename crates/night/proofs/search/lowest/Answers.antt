@@ -1,5 +1,4 @@
 use mathlib.Core.Path.{◌∙◌}
-use Prim.Native.Nat.{◌-◌}
 use native.Mathlib.Omega.{arith}
 use Rattle.index_rules.specs.Live.{lent_tree}
 use Rattle.night.specs.Shown.{shows_rule}

@@ -1,9 +1,5 @@
 use Rattle.std.proofs.Common.{refl, ◌∙◌, rules}
 use Rattle.ranks.proofs.Ways.{kth_here, kth_left, kth_right, kth_end}
-use Rattle.ranks.proofs.down.kth_slot.Reads as reads
-use Rattle.ranks.proofs.down.kth_slot.Lts as lts
-use Rattle.slots.proofs.get.Reads as get-reads
-use Rattle.slots.proofs.word.Reads as word-reads
 use Rattle.ranks.proofs.down.kth_slot.Goals as goal
 
 pub loop-left-init : goal.loop-left-init

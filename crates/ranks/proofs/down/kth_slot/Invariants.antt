@@ -1,10 +1,6 @@
 -- The loop's invariant: the way from here ends where the way from the root does.
 use Rattle.std.proofs.Common.{◌≡◌, ◌≤◌}
 use Rattle.tree_rules.specs.Ranks.{kth_from}
-use Rattle.ranks.proofs.down.kth_slot.Reads as reads
-use Rattle.ranks.proofs.down.kth_slot.Lts as lts
-use Rattle.slots.proofs.get.Reads as get-reads
-use Rattle.slots.proofs.word.Reads as word-reads
 use Rattle.ranks.proofs.down.kth_slot.Given as goal
 
 abbrev pub invariant-loop-left : goal.invariant-loop-left

@@ -6,8 +6,9 @@ use Rattle.ranks.proofs.down.pair_rank.Given as goal
 
 abbrev pub invariant-loop-left : goal.invariant-loop-left
 invariant-loop-left l =
-    (rank_from l.left l.names l.cells l.sizes l.i l.hash l.key l.m ≡ rank_from l.steps l.names l.cells l.sizes l.root l.hash l.key 0) ×
-    (l.left ≤ l.steps)
+    (rank_from l.left l.names l.cells l.sizes l.i l.hash l.key l.m
+    ≡ rank_from l.steps l.names l.cells l.sizes l.root l.hash l.key 0)
+    × (l.left ≤ l.steps)
 
 abbrev pub decreases-loop-left : goal.decreases-loop-left
 decreases-loop-left l = l.left

@@ -2,11 +2,6 @@
 use Rattle.std.proofs.Common.{sym, ap, ◌∙◌, arith}
 use Rattle.index.specs.Reads.{sound_of}
 use Rattle.ranks.proofs.Calls.{few, kth_unfit, kth_damaged, kth_out, kth_at}
-use Rattle.ranks.proofs.kth.kth.Reads as reads
-use Rattle.ranks.proofs.kth.kth.Lts as lts
-use Rattle.index.proofs.sound.sound.Reads as sound-reads
-use Rattle.ranks.proofs.down.kth_slot.Reads as kth-slot-reads
-use Rattle.slots.proofs.word.Reads as word-reads
 use Rattle.ranks.proofs.kth.kth.Goals as goal
 
 pub returns-then-count-k : goal.returns-then-count-k

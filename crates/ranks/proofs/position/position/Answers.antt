@@ -3,11 +3,6 @@ use Rattle.std.proofs.Common.{sym, ap, ◌∙◌, arith}
 use Rattle.index.specs.Reads.{sound_of}
 use Rattle.ranks.specs.Ways.{rank_of}
 use Rattle.ranks.proofs.Calls.{few, position_unfit, position_damaged, position_done}
-use Rattle.ranks.proofs.position.position.Reads as reads
-use Rattle.ranks.proofs.position.position.Lts as lts
-use Rattle.index.proofs.sound.sound.Reads as sound-reads
-use Rattle.ranks.proofs.down.pair_rank.Reads as pair-rank-reads
-use Rattle.slots.proofs.word.Reads as word-reads
 use Rattle.ranks.proofs.position.position.Goals as goal
 
 pub overflow_cast-names : goal.overflow_cast-names

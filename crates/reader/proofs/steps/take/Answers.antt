@@ -29,8 +29,7 @@ pub returns-then-r-lt3 : goal.returns-then-r-lt3
 returns-then-r-lt3 c =
     record {
       same = came_count _ _ _ c.if-r-eq4.false c.if-r-eq0.false c.if-r-lt3.true c.take_count-reader.ensures;
-      ready =
-          c.requires.ready;
+      ready = c.requires.ready;
     }
 
 pub take_entry-reader-requires : goal.take_entry-reader-requires

@@ -1,10 +1,6 @@
 -- Each case has its number and value.
 use Rattle.std.proofs.Common.{sym, ap, ◌∙◌}
 use Rattle.ranks.specs.Calls.{kth_of}
-use Rattle.ranks.proofs.kth.KthSlot.answer.Reads as reads
-use Rattle.ranks.proofs.kth.KthSlot.answer.Lts as lts
-use Rattle.slots.proofs.answer.given.Reads as given-reads
-use Rattle.slots.proofs.answer.refused.Reads as refused-reads
 use Rattle.ranks.proofs.kth.KthSlot.answer.Goals as goal
 
 pub returns-in-At : goal.returns-in-At
