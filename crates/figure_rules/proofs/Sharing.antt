@@ -150,7 +150,7 @@ module _ (s : Set) where
       by_looks j f h =
           tally_same n (λ x. used s.cells x * entry_share (looks_of s x) j) (λ x. used s.cells x * f (looks_of s x))
           (λ x b. used_same s.cells x (entry_share (looks_of s x) j) (f (looks_of s x))
-              (λ u. h (looks_of s x) (used_looks s fit acc x b u)))
+          (λ u. h (looks_of s x) (used_looks s fit acc x b u)))
 
       pub share_looks : share s 5 ≡ over_entries s (looks_of s)
       share_looks = share_slots 5 (omega arith) (omega arith) (omega arith) ∙ by_looks 5 (λ k. k) entry_looks

@@ -38,7 +38,7 @@ row_whole : (t : Set) (s : ℕ) (x : Slice) → ((j : ℕ) → field_of s j ≡ 
     → fields_bytes t s (length (slice_in t x)) ≡ words_bytes 4 (slice_in t x)
 row_whole t s x h =
     row_bytes t s x h (length (slice_in t x)) (omega arith)
-        ∙ ap (words_bytes 4) (take_all (length (slice_in t x)) (slice_in t x) (omega arith))
+    ∙ ap (words_bytes 4) (take_all (length (slice_in t x)) (slice_in t x) (omega arith))
 
 -- A slot's nine words.
 pub slot_word : (i f j : ℕ) → j ≡ 9 * i + f → f < 9 → field_of 3 j ≡ slot_field i f

@@ -148,8 +148,8 @@ module _ (names : List ℕ) where
       let w = y.1 in
       let strung = listed_next (λ k. joined-next s x k) g in
       let rest =
-          join_all {s = joined names s x} {t = y.0} {p = cell s.cells x next} v strung (omega arith) w.holds w.balanced w.rising tail
-          (left y.0 w.counts) in
+      join_all {s = joined names s x} {t = y.0} {p = cell s.cells x next} v strung (omega arith) w.holds w.balanced w.rising tail
+      (left y.0 w.counts) in
       let z = rest.1 in
       rw (ne_eqb x null (omega (arith, h.small))) (
         rest.0,

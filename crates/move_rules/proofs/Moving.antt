@@ -217,8 +217,8 @@ module _ {s : Set} (fit : Fit s) (acc : Accepted s) {k i : ℕ} (p : BinThere s 
 
     pub whole_done : (most_listed < length (high_half s k i) → HighChosen fit acc p (high_header s k i))
         → Done halfway (λ x. EntryOf s k i x × (times x (low_half s k i) ≡ 0)) (suc k) (i + length_at s k) (high_half s k i)
-          (high_header s k i)
-          (both_laid s k i)
+        (high_header s k i)
+        (both_laid s k i)
     unfolding both_laid
     whole_done e =
         subst

@@ -56,7 +56,7 @@ pub data Grows (names : List ℕ) : Links → List ℕ → Links → Type 0 wher
   no_more : {s : Links} → Grows names s [] s
   one_more_lem : {s r : Links} {x : ℕ} {l : List ℕ}
       → Grows names
-        (inserted (slots_of names) s x (spotted (slots_of names) names s (name_of names x hash_part) (name_of names x key_part))) l r
+      (inserted (slots_of names) s x (spotted (slots_of names) names s (name_of names x hash_part) (name_of names x key_part))) l r
       → Grows names s (x ∷ l) r
 
 -- "a tree built by inserting in listing order": the slots l, inserted in their order into an empty tree, have the words that they have
