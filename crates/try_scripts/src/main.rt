@@ -87,8 +87,8 @@ fn try_all<R: Files>(rt: &R, input: &mut [u8], expected: &mut [u8], out: &mut [u
     differences
 }
 
-// Rooms for a script, its answers and what is printed. Their lengths are large, and a proof that has the zeros before it counts them: here it
-// only has that there are so many.
+// Rooms for a script, its answers and what is printed. Their lengths are large, and a proof that has the zeros before it counts them: here
+// it only has that there are so many.
 fn script_room() -> [u8; 262144] {
     [0; 262144]
 }
