@@ -5,7 +5,7 @@ use Rattle.try_salvage.proofs.twos.try_way.Given as goal
 abbrev pub invariant-loop-i : goal.invariant-loop-i
 invariant-loop-i l =
     (l.i ≤ l.n) × (length l.counts ≡ length l.initial.counts) × (length l.names ≡ length l.initial.names) ×
-        (length l.cells ≡ length l.initial.cells)
+    (length l.cells ≡ length l.initial.cells)
 
 abbrev pub decreases-loop-i : goal.decreases-loop-i
 decreases-loop-i l = l.n - l.i

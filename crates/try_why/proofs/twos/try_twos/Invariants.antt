@@ -5,7 +5,7 @@ use Rattle.try_why.proofs.twos.try_twos.Given as goal
 abbrev pub invariant-loop-way : goal.invariant-loop-way
 invariant-loop-way l =
     (l.way ≤ 15) × (length l.counts ≡ length l.initial.counts) × (length l.names ≡ length l.initial.names) ×
-        (length l.words ≡ length l.initial.words)
+    (length l.words ≡ length l.initial.words)
 
 abbrev pub decreases-loop-way : goal.decreases-loop-way
 decreases-loop-way l = 15 - l.way

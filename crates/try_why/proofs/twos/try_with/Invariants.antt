@@ -5,7 +5,7 @@ use Rattle.try_why.proofs.twos.try_with.Given as goal
 abbrev pub invariant-loop-j : goal.invariant-loop-j
 invariant-loop-j l =
     (l.j ≤ l.n) × (length l.counts ≡ length l.initial.counts) × (length l.names ≡ length l.initial.names) ×
-        (length l.words ≡ length l.initial.words)
+    (length l.words ≡ length l.initial.words)
 
 abbrev pub decreases-loop-j : goal.decreases-loop-j
 decreases-loop-j l = l.n - l.j
