@@ -238,6 +238,12 @@ fn work(
     }
 }
 
+// A room for what the console says. Its length is large, and a proof that has the zeros before it counts them: here it only has that
+// there are so many.
+fn text_room() -> [u8; 524288] {
+    [0; 524288]
+}
+
 // The same, with a buffer for what the console says.
 fn work_alone(
     job: Job,
@@ -251,7 +257,7 @@ fn work_alone(
     sizes: &mut [u32],
     lines: &mut [u64],
 ) -> Met {
-    let mut out = [0u8; 524288];
+    let mut out = text_room();
     work(
         job, source, bytes, numbers, row, names, cells, head, sizes, lines, &mut out,
     )
