@@ -119,10 +119,19 @@ fn drill_calls<R: Files>(rt: &R, stdout: Stdout, bytes: &mut [u8]) -> io::Result
     )
 }
 
+// Rooms for what is read from files and for the calls of a script, with lengths that a proof need not count.
+fn file_room() -> [u8; 589824] {
+    [0; 589824]
+}
+
+fn call_room() -> [u32; 49248] {
+    [0; 49248]
+}
+
 fn main(rt: HostRuntime) -> io::Result<()> {
     let stdout = rt.stdout();
-    let mut bytes = [0u8; 589824];
-    let mut rows = [0u32; 49248];
+    let mut bytes = file_room();
+    let mut rows = call_room();
     drill_longest(&rt, stdout, &mut bytes)?;
     drill_short(&rt, stdout, &mut bytes, &mut rows)?;
     drill_calls(&rt, stdout, &mut bytes)

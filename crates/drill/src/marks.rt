@@ -1,6 +1,6 @@
 // The short script, cut after every call and rolled back to every mark.
 use crate::chain::{Order, before_another};
-use crate::sources::feed_line;
+use crate::sources::{feed_line, text_room};
 use crate::steps::{length, line_end, more, one};
 use crate::table::{cut_at, note, same};
 use crate::words::{Task, Words, after, empty, exchanged, lend_lines, length_of, sound};
@@ -75,7 +75,7 @@ fn run_to(part: &[u8], rows: &mut [u32]) -> Words {
     let mut head = x.head;
     let mut sizes = x.sizes;
     let mut lines = x.lines;
-    let mut out = [0u8; 524288];
+    let mut out = text_room();
     run_noted(
         part,
         &mut names,

@@ -240,7 +240,7 @@ fn work(
 
 // A room for what the console says. Its length is large, and a proof that has the zeros before it counts them: here it only has that
 // there are so many.
-fn text_room() -> [u8; 524288] {
+pub(crate) fn text_room() -> [u8; 524288] {
     [0; 524288]
 }
 
