@@ -2,6 +2,7 @@
 use mathlib.Core.Path.{◌≡◌, refl, ap, sym, ◌∙◌}
 use mathlib.Core.List.{List}
 use Prim.Native.Nat.{ℕ}
+use Rattle.std.specs.Prelude.{Result, Ok, Err}
 use lib.Dec.{eqb}
 use Rattle.slots.specs.Words.{pick}
 use Rattle.slots.specs.Answers.{Value, some, none}
@@ -10,22 +11,22 @@ use Rattle.slots.proofs.Laws.{told_apart}
 use Rattle.index_rules.specs.Batch.{Batched}
 use Rattle.batch.specs.Calls.{batch_of}
 use Rattle.batch.specs.Claims.{BatchReturned, returned_with, Claims}
-use Rattle.batch.specs.declared.batch.BatchMade.{BatchMade}
-use Rattle.batch.specs.declared.batch.BatchMade.TheVariants.{Accepted, Unfit, Damaged}
+use Rattle.slots.specs.declared.answer.Unsound.{Unsound}
+use Rattle.slots.specs.declared.answer.Unsound.TheVariants.{Unfit, Damaged}
 
-abbrev batch_back : ℕ → Value → BatchMade
-batch_back number (some count) = Accepted count
-batch_back number none = pick (eqb number 1) Unfit Damaged
+abbrev batch_back : ℕ → Value → Result ℕ Unsound
+batch_back number (some count) = Ok count
+batch_back number none = Err (pick (eqb number 1) Unfit Damaged)
 
-batch_back_lem : (r : BatchMade) → batch_back (batch_of r).number (batch_of r).value ≡ r
-batch_back_lem (Accepted count) = refl
-batch_back_lem Unfit = refl
-batch_back_lem Damaged = refl
+batch_back_lem : (r : Result ℕ Unsound) → batch_back (batch_of r).number (batch_of r).value ≡ r
+batch_back_lem (Ok count) = refl
+batch_back_lem (Err Unfit) = refl
+batch_back_lem (Err Damaged) = refl
 
-batch_one_to_one : (a b : BatchMade) → batch_of a ≡ batch_of b → a ≡ b
+batch_one_to_one : (a b : Result ℕ Unsound) → batch_of a ≡ batch_of b → a ≡ b
 batch_one_to_one = told_apart batch_of (λ a. batch_back a.number a.value) batch_back_lem
 
-same : {a b : BatchMade} {n c h s l w n' c' h' s' l' w' : List ℕ} → a ≡ b → n ≡ n' → c ≡ c' → h ≡ h' → s ≡ s' → l ≡ l' → w ≡ w'
+same : {a b : Result ℕ Unsound} {n c h s l w n' c' h' s' l' w' : List ℕ} → a ≡ b → n ≡ n' → c ≡ c' → h ≡ h' → s ≡ s' → l ≡ l' → w ≡ w'
     → ◌≡◌ {A = BatchReturned} (record { answer = a; names = n; cells = c; head = h; sizes = s; lines = l; answers = w })
     (record { answer = b; names = n'; cells = c'; head = h'; sizes = s'; lines = l'; answers = w' })
 same e1 e2 e3 e4 e5 e6 e7 = rw (e1, e2, e3, e4, e5, e6, e7)

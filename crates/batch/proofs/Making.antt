@@ -8,7 +8,7 @@ use native.Mathlib.Numerals.{add-one, sub-one}
 use native.Mathlib.Omega.{arith}
 use lib.ListN.{length, set}
 use lib.Dec.{eqb, leb, ltb}
-use borrow.Author.Tests.{eq-eqb, ne_eqb, le-leb, lt-leb, ltb-true}
+use borrow.Author.Tests.{ne_eqb, ltb-true}
 use Rattle.slots.specs.Words.{pick}
 use Rattle.slots.specs.Answers.{Answer, given, refused, answer_word}
 use Rattle.index_rules.specs.Sound.{sound}
@@ -22,39 +22,6 @@ use Rattle.index_rules.proofs.Sounding.{told_unfit, told_no, told_yes}
 use Rattle.index_rules.proofs.Batching.{at_insert, at_remove, call_line, all_pass}
 use Rattle.index_rules.proofs.Claims.{claims}
 use Rattle.batch.specs.Making.{CallMade}
-
--- The test of a call, and of the whole slice, as code asks them.
-module _ (calls : List ℕ) (k : ℕ) {kind p : ℕ} (e0 : kind ≡ call_word calls k 0) (e3 : p ≡ call_word calls k 3) where
-  pub fits_remove : kind ≡ remove_kind → true ≡ call_fits calls k
-  unfolding call_fits
-  fits_remove h = rw (← e0, eq-eqb kind remove_kind h)
-
-  module _ (d : kind ≢ remove_kind) where
-    pub fits_insert : kind ≡ insert_kind → ltb p 4294967296 ≡ call_fits calls k
-    unfolding call_fits
-    fits_insert h = rw (← e0, ← e3, ne_eqb kind remove_kind d, eq-eqb kind insert_kind h)
-
-    pub fits_replace : kind ≢ insert_kind → kind ≡ replace_kind → ltb p 4294967296 ≡ call_fits calls k
-    unfolding call_fits
-    fits_replace n h = rw (← e0, ← e3, ne_eqb kind remove_kind d, ne_eqb kind insert_kind n, eq-eqb kind replace_kind h)
-
-    pub fits_none : kind ≢ insert_kind → kind ≢ replace_kind → false ≡ call_fits calls k
-    unfolding call_fits
-    fits_none n h = rw (← e0, ne_eqb kind remove_kind d, ne_eqb kind insert_kind n, ne_eqb kind replace_kind h)
-
-module _ (calls answers : List ℕ) {m : ℕ} (e : m ≡ calls_in calls) where
-  pub not_whole : length calls ≢ 4 * m → false ≡ calls_fit calls answers
-  unfolding calls_fit
-  not_whole h = rw (← e, ne_eqb (length calls) (4 * m) h)
-
-  module _ (w : length calls ≡ 4 * m) where
-    pub too_many : length answers < m → false ≡ calls_fit calls answers
-    unfolding calls_fit
-    too_many h = rw (← e, eq-eqb (length calls) (4 * m) w, lt-leb m (length answers) h)
-
-    pub each_fits : m ≤ length answers → {t : Bool} → t ≡ all_fit m calls → t ≡ calls_fit calls answers
-    unfolding calls_fit
-    each_fits h f = rw (← e, eq-eqb (length calls) (4 * m) w, le-leb m (length answers) h) f
 
 -- The words of a call.
 module _ (calls : List ℕ) (k : ℕ) {kind hash key p : ℕ}

@@ -1,9 +1,8 @@
 -- The number and value of each answer of batch.
-use Rattle.slots.specs.Answers.{Answer, given, refused}
-use Rattle.batch.specs.declared.batch.BatchMade.{BatchMade}
-use Rattle.batch.specs.declared.batch.BatchMade.TheVariants.{Accepted, Unfit, Damaged}
+use Rattle.std.specs.Prelude.{Result, ℕ}
+use Rattle.slots.specs.Answers.{Answer, given}
+use Rattle.slots.specs.Coded.{told_by, unsound_told}
+use Rattle.slots.specs.declared.answer.Unsound.{Unsound}
 
-abbrev pub batch_of : BatchMade → Answer
-batch_of (Accepted count) = given count
-batch_of Unfit = refused 1
-batch_of Damaged = refused 2
+abbrev pub batch_of : Result ℕ Unsound → Answer
+batch_of = told_by given unsound_told

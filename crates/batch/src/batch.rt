@@ -1,6 +1,5 @@
 // batch: calls in a slice, made in order after one check, each with its answer's word.
 ghost use Rattle.std.specs.Prelude.{◌≡◌, true, ◌-◌, ◌≤◌};
-ghost use Rattle.slots.specs.Coded.{answer_of};
 ghost use Rattle.slots.specs.Answers.{given as giving};
 ghost use Rattle.index_rules.specs.Index.{lent, length_of};
 ghost use Rattle.index_rules.specs.Batch.{batched, all_fit, runs, batches};
@@ -10,29 +9,8 @@ ghost use Rattle.batch.specs.Calls.{batch_of};
 use crate::calls::{calls_fit, calls_in};
 use crate::make::make;
 use index::journal::length_of;
-use index::sound::{Soundness, sound_index};
-use slots::answer::{Answer, given, refused};
-
-// What batch answers, with the number of each refusal.
-#[derive(Clone, Copy)]
-pub enum BatchMade {
-    Accepted(u32), // how many calls were accepted
-    Unfit, // 1
-    Damaged, // 2
-}
-
-impl BatchMade {
-    // The number and the value.
-    pub fn answer(self) -> Answer
-        ensures { answer_of result ≡ (batch_of self) }
-    {
-        match self {
-            BatchMade::Accepted(count) => given(count),
-            BatchMade::Unfit => refused(1),
-            BatchMade::Damaged => refused(2),
-        }
-    }
-}
+use index::sound::sound_index;
+use slots::answer::Unsound;
 
 // The first m calls are made in order: as many are accepted as the journal has lines more.
 fn run(
@@ -56,14 +34,13 @@ fn run(
     ensures lines_bound { length_of lines.new ≤ 1024 }
 {
     let mut floor: u32 = 0;
-    let mut k: usize = 0;
-    while k < m {
+    for k in 0..m {
         floor = make(names, cells, head, sizes, lines, calls, answers, k, floor);
-        k += 1;
     }
 }
 
-// The calls of the slice are made in order after one check, and the word of each answer is written. A refusal writes nothing.
+// The calls of the slice are made in order after one check, and the word of each answer is written; how many were accepted. A refusal
+// writes nothing.
 pub fn batch(
     names: &mut [u64],
     cells: &mut [u32],
@@ -72,27 +49,22 @@ pub fn batch(
     lines: &mut [u64],
     calls: &[u64],
     answers: &mut [u64],
-) -> BatchMade
+) -> Result<u32, Unsound>
     ensures { batched (batch_of result)
         (lent names.new cells.new head.new sizes.new lines.new)
         answers.new
         ≡ batches (lent names.old cells.old head.old sizes.old lines.old)
         calls.now answers.old }
 {
-    let known = calls_fit(calls, answers);
-    if !known {
-        return BatchMade::Unfit;
+    if !calls_fit(calls, answers) {
+        return Err(Unsound::Unfit);
     }
-    let verdict = sound_index(names, cells, head, sizes, lines);
-    match verdict {
-        Soundness::Unfit => BatchMade::Unfit,
-        Soundness::No => BatchMade::Damaged,
-        Soundness::Yes => {
-            let before = length_of(lines);
-            let m = calls_in(calls);
-            run(names, cells, head, sizes, lines, calls, answers, m);
-            let after = length_of(lines);
-            BatchMade::Accepted((after - before) as u32)
-        }
+    if !sound_index(names, cells, head, sizes, lines)? {
+        return Err(Unsound::Damaged);
     }
+    let before = length_of(lines);
+    let m = calls_in(calls);
+    run(names, cells, head, sizes, lines, calls, answers, m);
+    let after = length_of(lines);
+    Ok((after - before) as u32)
 }

@@ -3,9 +3,10 @@ ghost use Rattle.std.specs.Prelude.{◌≡◌};
 ghost use Rattle.index_rules.specs.Batch.{call_word, calls_in, call_fits, all_fit, calls_fit};
 
 use index::journal::{INSERT, MOST_PLACES, REMOVE, REPLACE};
-use slots::wide;
+use slots::word;
 
 // The words of a call, by their place.
+// Form kept: numbers, since the slice of calls is the C interface's, and the rules read word f of call k by its number (call_word).
 pub(crate) const CALL_KIND: u32 = 0;
 
 pub(crate) const CALL_HASH: u32 = 1;
@@ -28,13 +29,14 @@ pub(crate) fn call_word(calls: &[u64], k: usize, f: u32) -> u64
     ensures { result ≡ call_word calls.now k f }
 {
     if k < calls.len() {
-        wide(calls, CALL_WORDS * k + f as usize)
+        word(calls, CALL_WORDS * k + f as usize, 0)
     } else {
         0
     }
 }
 
 // Whether call k is a remove, or an insert or a replace with a place of 32 bits.
+#[tactic(auto, unfolding(index_rules::specs::Batch::call_fits))]
 fn call_fits(calls: &[u64], k: usize) -> bool
     ensures { result ≡ call_fits calls.now k }
 {
@@ -53,11 +55,8 @@ fn call_fits(calls: &[u64], k: usize) -> bool
 fn all_fit(calls: &[u64], m: usize) -> bool
     ensures { result ≡ all_fit m calls.now }
 {
-    let mut k = m;
-    while 0 < k {
-        k -= 1;
-        let fits = call_fits(calls, k);
-        if !fits {
+    for k in (0..m).rev() {
+        if !call_fits(calls, k) {
             return false;
         }
     }
@@ -65,6 +64,7 @@ fn all_fit(calls: &[u64], m: usize) -> bool
 }
 
 // Whether the slice is whole calls of known kinds, with an answer's word for each.
+#[tactic(auto, unfolding(index_rules::specs::Batch::calls_fit))]
 pub(crate) fn calls_fit(calls: &[u64], answers: &[u64]) -> bool
     ensures { result ≡ calls_fit calls.now answers.now }
 {

@@ -7,12 +7,13 @@ ghost use Rattle.index_rules.specs.Checked.{Ready};
 ghost use Rattle.batch.specs.Making.{CallMade};
 
 use crate::calls::{CALL_HASH, CALL_KEY, CALL_KIND, CALL_PLACE, call_word};
-use index::insert::insert_sound;
+use index::insert::{insert_sound, raise};
 use index::journal::{INSERT, REMOVE};
+use index::present::lower;
 use index::remove::remove_sound;
 use index::replace::replace_sound;
-use slots::answer::answer_word;
-use slots::put_wide;
+use slots::answer::{Answers, answer_word};
+use slots::put_word;
 
 fn make_insert(
     names: &mut [u64],
@@ -34,8 +35,8 @@ fn make_insert(
         answers.new result }
 {
     let inserted = insert_sound(names, cells, head, sizes, lines, floor, hash, key, place);
-    put_wide(answers, k, answer_word(inserted.answer()));
-    inserted.raise(floor)
+    put_word(answers, k, answer_word(inserted.answer()));
+    raise(inserted, floor)
 }
 
 fn make_remove(
@@ -57,8 +58,8 @@ fn make_remove(
         answers.new result }
 {
     let removed = remove_sound(names, cells, head, sizes, lines, hash, key);
-    put_wide(answers, k, answer_word(removed.answer()));
-    removed.lower(floor)
+    put_word(answers, k, answer_word(removed.answer()));
+    lower(removed, floor)
 }
 
 fn make_replace(
@@ -81,7 +82,7 @@ fn make_replace(
         answers.new result }
 {
     let replaced = replace_sound(names, cells, head, sizes, lines, hash, key, place);
-    put_wide(answers, k, answer_word(replaced.answer()));
+    put_word(answers, k, answer_word(replaced.answer()));
     floor
 }
 

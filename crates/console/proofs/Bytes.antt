@@ -1,38 +1,23 @@
 -- What a byte and a chunk come to, step by step.
 use mathlib.Core.Path.{◌≡◌}
-use mathlib.Core.Logic.{◌≢◌}
 use mathlib.Core.List.{List}
 use Prim.Native.Nat.{ℕ, ◌+◌, ◌<◌, ◌≤◌}
 use native.Mathlib.Numerals.{add-one}
 use lib.ListN.{length, drop, get_or}
-use borrow.Author.Tests.{lt-ltb, le-ltb, eq-eqb, ne_eqb}
-use Rattle.script_rules.specs.Text.{newline}
-use Rattle.script_rules.specs.Commands.{spoken}
-use Rattle.script_rules.specs.Feeding.{Line, blank_line, held_of, noted, longest, CommandTurn, performed, Desk, answered, fed_byte, fed}
+use borrow.Author.Tests.{lt-ltb, le-ltb}
+use Rattle.script_rules.specs.Feeding.{longest, Desk, fed_byte, fed}
 use Rattle.script_rules.specs.Feeding.{room_left, feeding}
 use Rattle.script_rules.proofs.Reading.{from, past}
-use Rattle.script_rules.proofs.Feeding.{Within}
+use Rattle.script_rules.proofs.Feeding.{Within, feeds_short, feeds_long}
 use Rattle.script_rules.proofs.Cutting.{byte_within}
-
-module _ (d : Desk) (b : ℕ) where
-  pub byte_newline : {t : CommandTurn} {l : Line} → b ≡ newline → t ≡ performed d.index d.paper (spoken (held_of d.line))
-      → l ≡ blank_line
-      → ◌≡◌ {A = Desk} (record { line = l; index = t.index; paper = t.paper }) (fed_byte d b)
-  unfolding fed_byte answered
-  byte_newline e f g = rw (eq-eqb b newline e, f, g)
-
-  pub byte_other : {l : Line} → b ≢ newline → l ≡ noted d.line b
-      → ◌≡◌ {A = Desk} (record { line = l; index = d.index; paper = d.paper }) (fed_byte d b)
-  unfolding fed_byte
-  byte_other e g = rw (ne_eqb b newline e, g)
 
 pub kept_within : (d : Desk) {e : Desk} (b : ℕ) → e ≡ fed_byte d b → Within d.paper → Within e.paper
 kept_within d b f h = rw f (byte_within d b h)
 
 module _ (chunk : List ℕ) (i : ℕ) (d : Desk) where
-  pub feeding-over : length chunk ≤ i → fed i d ≡ feeding (drop i chunk) i d
+  pub feeding_over : length chunk ≤ i → fed i d ≡ feeding (drop i chunk) i d
   unfolding feeding
-  feeding-over h = rw (past chunk i h)
+  feeding_over h = rw (past chunk i h)
 
   pub feeding_full : i < length chunk → room_left d.paper < longest → fed i d ≡ feeding (drop i chunk) i d
   unfolding feeding
@@ -42,3 +27,5 @@ module _ (chunk : List ℕ) (i : ℕ) (d : Desk) where
       → feeding (drop (i + 1) chunk) (i + 1) e ≡ feeding (drop i chunk) i d
   unfolding feeding
   feeding_on h r f = rw (from chunk i h, le-ltb _ _ r, f, add-one i)
+
+pub ruleset chunk_feeding = (feeds_short, feeds_long, feeding_over, feeding_full, feeding_on, kept_within)

@@ -1,5 +1,5 @@
 pub mod Reading
-pub mod Lines
+pub mod Writing
 pub mod Bytes
 pub mod Phrasing
 pub mod Listing

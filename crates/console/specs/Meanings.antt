@@ -1,16 +1,9 @@
--- What the values of this crate's enums and structs mean.
+-- What the values of this crate's structs mean.
 use Rattle.std.specs.Prelude.{List, ℕ}
-use Rattle.slots.specs.Answers.{Value as Count, none, some}
 use Rattle.index_rules.specs.Index.{Index}
 use Rattle.script_rules.specs.Feeding.{Line as Held, Fed as Outcome}
-use Rattle.console.specs.declared.answer.Met.{Met}
-use Rattle.console.specs.declared.answer.Met.TheVariants.{Slots, Lost}
 use Rattle.console.specs.declared.feed.Line.{Line}
 use Rattle.console.specs.declared.feed.Fed.{Fed}
-
-abbrev pub met_of : Met → Count
-met_of (Slots c) = some c
-met_of Lost = none
 
 abbrev pub held_line : Line → Held
 held_line l = record { bytes = l.bytes; count = l.count }

@@ -1,23 +1,19 @@
--- What the values of this crate's enums mean.
-use Rattle.std.specs.Prelude.{List, ℕ, drop}
+-- What the values mean that come of reading a line.
+use Rattle.std.specs.Prelude.{List, Option, None, Some, ℕ, drop}
 use Rattle.script_rules.specs.Text.{Read, read, unread}
 use Rattle.script_rules.specs.Commands.{Command as Meant, insert, remove, find, rollback, mark, list, bad}
-use Rattle.console.specs.declared.read.Number.{Number}
-use Rattle.console.specs.declared.read.Number.TheVariants.{Value, Missing}
-use Rattle.console.specs.declared.read.Pair.{Pair}
-use Rattle.console.specs.declared.read.Pair.TheVariants.{Of, Missing as NoPair}
 use Rattle.console.specs.declared.read.Command.{Command}
 use Rattle.console.specs.declared.read.Command.TheVariants.{Insert, Remove, Find, Rollback, Mark, List as ListAll, Bad}
 
 -- A number, and the bytes of the line after it.
-abbrev pub read_of : List ℕ → Number → Read
-read_of line (Value v at) = read v (drop at line)
-read_of line Missing = unread
+abbrev pub read_of : List ℕ → Option (ℕ × ℕ) → Read
+read_of line (Some (v, at)) = read v (drop at line)
+read_of line None = unread
 
 -- The command that a hash and a key are for.
-abbrev pub pair_command : (ℕ → ℕ → Meant) → Pair → Meant
-pair_command c (Of h k) = c h k
-pair_command c NoPair = bad
+abbrev pub pair_command : (ℕ → ℕ → Meant) → Option (ℕ × ℕ) → Meant
+pair_command c (Some (h, k)) = c h k
+pair_command c None = bad
 
 abbrev pub command_of : Command → Meant
 command_of (Insert h k p) = insert h k p
@@ -27,3 +23,8 @@ command_of (Rollback m) = rollback m
 command_of Mark = mark
 command_of ListAll = list
 command_of Bad = bad
+
+-- The command of a line that asks for one; another is bad.
+abbrev pub command_or_bad : Option Command → Meant
+command_or_bad (Some c) = command_of c
+command_or_bad None = bad

@@ -3,15 +3,13 @@ ghost use Rattle.std.specs.Prelude.{◌≡◌};
 ghost use Rattle.index_rules.specs.Live.{lent_tree, unsized};
 ghost use Rattle.index_rules.specs.Find.{finds};
 ghost use Rattle.index_rules.specs.Index.{lent};
-ghost use Rattle.slots.specs.Coded.{answer_of};
+ghost use Rattle.slots.specs.Coded.{answer_of, value_of};
 ghost use Rattle.tree_rules.specs.Find.{counted as countedLooks};
 ghost use Rattle.tree.specs.Find.{counted_of};
 ghost use Rattle.script_rules.specs.Answers.{numbered, number_line, told, found_text, search_line};
 ghost use Rattle.script_rules.specs.Answers.{met, entry_line, entry_lines, list_text, marking};
-ghost use Rattle.script_rules.specs.Commands.{insert as inserting, remove as removing, rollback as rolling};
 ghost use Rattle.script_rules.specs.Feeding.{typed, performed, lent_paper, lent_turn};
 ghost use Rattle.console.specs.Phrases.{command_of};
-ghost use Rattle.console.specs.Meanings.{met_of};
 
 use crate::paper::{put_byte, put_number, put_word};
 use crate::read::Command;
@@ -21,11 +19,12 @@ use index::insert::insert;
 use index::journal::{fit_journal, length_of};
 use index::remove::remove;
 use index::rollback::rollback;
-use slots::answer::{Answer, Value};
+use slots::answer::{Answer, Answers};
 use slots::{FIRST, HASH, KEY, NEXT, NULL, PLACE, get, name, word};
-use tree::find::Counted;
+use tree::find::{Counted, counted_by};
 
 // A word and a number, and the line ends.
+#[tactic(auto, using(script_rules::proofs::Typing::word_number_end))]
 pub(crate) fn tell(out: &mut [u8], at: usize, word: &[u8], v: u64) -> usize
     ensures { lent_paper out.new result ≡ typed (lent_paper out.old at) (number_line word.now v) }
 {
@@ -35,48 +34,40 @@ pub(crate) fn tell(out: &mut [u8], at: usize, word: &[u8], v: u64) -> usize
 }
 
 // What a call answers: a refusal with its number, else the value after the word, or that there is none.
+#[tactic(auto, unfolding(script_rules::specs::Answers::told))]
 fn tell_answer(out: &mut [u8], at: usize, word: &[u8], answer: Answer) -> usize
     ensures { lent_paper out.new result
         ≡ typed (lent_paper out.old at) (told word.now (answer_of answer)) }
 {
-    let number = answer.number;
-    if number != 0 {
-        return tell(out, at, b"no ", number as u64);
+    if answer.number != 0 {
+        return tell(out, at, b"no ", answer.number as u64);
     }
-    let value = answer.value;
-    match value {
-        Value::Some(v) => return tell(out, at, word, v as u64),
-        Value::None => return put_word(out, at, b"none\n"),
+    match answer.value {
+        Some(v) => tell(out, at, word, v as u64),
+        None => put_word(out, at, b"none\n"),
     }
 }
 
-// How many slots the chain has, or that it cannot be followed.
-#[derive(Clone, Copy)]
-enum Met {
-    Slots(usize),
-    Lost,
-}
-
-// The slots met from first by next, over n slots.
-fn count_chain(n: usize, cells: &[u32], first: u32) -> Met
-    ensures { met_of result ≡ met n n cells.now first }
+// How many slots are met from first by next, over n slots; none where the chain cannot be followed.
+#[tactic(auto, using(crate::proofs::Listing::counting))]
+fn count_chain(n: usize, cells: &[u32], first: u32) -> Option<usize>
+    ensures { value_of result ≡ met n n cells.now first }
 {
     let mut i = first;
-    let mut count = 0;
-    while i != NULL {
-        if count == n {
-            return Met::Lost;
+    for count in 0..n {
+        if i == NULL {
+            return Some(count);
         }
         if n <= i as usize {
-            return Met::Lost;
+            return None;
         }
         i = get(cells, i, NEXT);
-        count += 1;
     }
-    Met::Slots(count)
+    if i == NULL { Some(n) } else { None }
 }
 
 // The line of slot i: hash, key, place.
+#[tactic(auto, using(crate::proofs::Listing::entry_typed))]
 fn tell_entry(out: &mut [u8], at: usize, names: &[u64], cells: &[u32], i: u32) -> usize
     ensures { lent_paper out.new result
         ≡ typed (lent_paper out.old at) (entry_line names.now cells.now i) }
@@ -93,6 +84,7 @@ fn tell_entry(out: &mut [u8], at: usize, names: &[u64], cells: &[u32], i: u32) -
 }
 
 // The lines of so many slots, from first by next.
+#[tactic(auto, using(crate::proofs::Listing::entries))]
 fn tell_entries(
     out: &mut [u8],
     at: usize,
@@ -106,15 +98,14 @@ fn tell_entries(
 {
     let mut end = at;
     let mut i = first;
-    let mut left = count;
-    while 0 < left {
+    for _ in 0..count {
         end = tell_entry(out, end, names, cells, i);
         i = get(cells, i, NEXT);
-        left -= 1;
     }
     end
 }
 
+#[tactic(auto, unfolding(script_rules::specs::Answers::list_text))]
 pub(crate) fn tell_list(
     out: &mut [u8],
     at: usize,
@@ -131,14 +122,14 @@ pub(crate) fn tell_list(
         return tell(out, at, b"no ", 1);
     }
     let first = word(head, FIRST, NULL);
-    let counted = count_chain(names.len() / 2, cells, first);
-    let Met::Slots(count) = counted else {
+    let Some(count) = count_chain(names.len() / 2, cells, first) else {
         return tell(out, at, b"no ", 9);
     };
     let lines = tell(out, at, b"entries ", count as u64);
     tell_entries(out, lines, names, cells, first, count)
 }
 
+#[tactic(auto, unfolding(script_rules::specs::Answers::marking, index_rules::specs::Index::fits_index))]
 fn tell_mark(
     out: &mut [u8],
     at: usize,
@@ -162,67 +153,8 @@ fn tell_mark(
     tell(out, at, b"mark ", length)
 }
 
-fn obey_insert(
-    names: &mut [u64],
-    cells: &mut [u32],
-    head: &mut [u32],
-    sizes: &mut [u32],
-    lines: &mut [u64],
-    out: &mut [u8],
-    at: usize,
-    hash: u64,
-    key: u64,
-    place: u32,
-) -> usize
-    ensures { lent_turn names.new cells.new head.new sizes.new lines.new
-        out.new result
-        ≡ performed (lent names.old cells.old head.old sizes.old lines.old)
-        (lent_paper out.old at) (inserting hash key place) }
-{
-    let done = insert(names, cells, head, sizes, lines, hash, key, place);
-    tell_answer(out, at, b"slot ", done.answer())
-}
-
-fn obey_remove(
-    names: &mut [u64],
-    cells: &mut [u32],
-    head: &mut [u32],
-    sizes: &mut [u32],
-    lines: &mut [u64],
-    out: &mut [u8],
-    at: usize,
-    hash: u64,
-    key: u64,
-) -> usize
-    ensures { lent_turn names.new cells.new head.new sizes.new lines.new
-        out.new result
-        ≡ performed (lent names.old cells.old head.old sizes.old lines.old)
-        (lent_paper out.old at) (removing hash key) }
-{
-    let done = remove(names, cells, head, sizes, lines, hash, key);
-    tell_answer(out, at, b"gone ", done.answer())
-}
-
-fn obey_rollback(
-    names: &mut [u64],
-    cells: &mut [u32],
-    head: &mut [u32],
-    sizes: &mut [u32],
-    lines: &mut [u64],
-    out: &mut [u8],
-    at: usize,
-    to: u32,
-) -> usize
-    ensures { lent_turn names.new cells.new head.new sizes.new lines.new
-        out.new result
-        ≡ performed (lent names.old cells.old head.old sizes.old lines.old)
-        (lent_paper out.old at) (rolling to) }
-{
-    let done = rollback(names, cells, head, sizes, lines, to);
-    tell_answer(out, at, b"back ", done.answer())
-}
-
 // A word and a number.
+#[tactic(auto, using(script_rules::proofs::Typing::typed_append))]
 fn put_numbered(out: &mut [u8], at: usize, word: &[u8], v: u64) -> usize
     ensures { lent_paper out.new result ≡ typed (lent_paper out.old at) (numbered word.now v) }
 {
@@ -231,31 +163,29 @@ fn put_numbered(out: &mut [u8], at: usize, word: &[u8], v: u64) -> usize
 }
 
 // What a search came to, before its looks.
+#[tactic(auto, unfolding(script_rules::specs::Answers::found_text))]
 fn put_found(out: &mut [u8], at: usize, answer: Answer) -> usize
     ensures { lent_paper out.new result ≡ typed (lent_paper out.old at) (found_text (answer_of answer)) }
 {
-    let number = answer.number;
-    if number != 0 {
-        return put_numbered(out, at, b"no ", number as u64);
+    if answer.number != 0 {
+        return put_numbered(out, at, b"no ", answer.number as u64);
     }
-    let value = answer.value;
-    match value {
-        Value::Some(v) => return put_numbered(out, at, b"at ", v as u64),
-        Value::None => return put_word(out, at, b"none"),
+    match answer.value {
+        Some(v) => put_numbered(out, at, b"at ", v as u64),
+        None => put_word(out, at, b"none"),
     }
 }
 
 // What a search came to, and last on the line how many slots were looked at; a refusal before the search has none.
+#[tactic(auto, using(script_rules::proofs::Typing::typed_append), unfolding(script_rules::specs::Answers::search_line))]
 fn tell_search(out: &mut [u8], at: usize, counted: Counted) -> usize
     ensures { lent_paper out.new result ≡ typed (lent_paper out.old at) (search_line (counted_of counted)) }
 {
-    let looks = counted.looks;
-    let answer = counted.answer;
-    if answer.number == 1 {
+    if counted.answer.number == 1 {
         return tell(out, at, b"no ", 1);
     }
-    let end = put_found(out, at, answer);
-    tell(out, end, b" ", looks as u64)
+    let end = put_found(out, at, counted.answer);
+    tell(out, end, b" ", counted.looks as u64)
 }
 
 // `?`: only reads.
@@ -272,11 +202,11 @@ fn tell_find(
         ≡ typed (lent_paper out.old at)
         (search_line (countedLooks (finds (unsized names.now cells.now head.now) hash key))) }
 {
-    let found = find(names, cells, head, hash, key);
-    tell_search(out, at, found.counted())
+    tell_search(out, at, counted_by(find(names, cells, head, hash, key)))
 }
 
 // Does what a command asks, and writes its answer.
+#[tactic(auto, unfolding(script_rules::specs::Answers::carried_out))]
 pub(crate) fn obey(
     command: Command,
     names: &mut [u64],
@@ -294,25 +224,20 @@ pub(crate) fn obey(
 {
     match command {
         Command::Insert(hash, key, place) => {
-            return obey_insert(names, cells, head, sizes, lines, out, at, hash, key, place);
+            let done = insert(names, cells, head, sizes, lines, hash, key, place);
+            tell_answer(out, at, b"slot ", done.answer())
         }
         Command::Remove(hash, key) => {
-            return obey_remove(names, cells, head, sizes, lines, out, at, hash, key);
+            let done = remove(names, cells, head, sizes, lines, hash, key);
+            tell_answer(out, at, b"gone ", done.answer())
         }
-        Command::Find(hash, key) => {
-            return tell_find(out, at, names, cells, head, hash, key);
-        }
+        Command::Find(hash, key) => tell_find(out, at, names, cells, head, hash, key),
         Command::Rollback(to) => {
-            return obey_rollback(names, cells, head, sizes, lines, out, at, to);
+            let done = rollback(names, cells, head, sizes, lines, to);
+            tell_answer(out, at, b"back ", done.answer())
         }
-        Command::Mark => {
-            return tell_mark(out, at, names, cells, head, sizes, lines);
-        }
-        Command::List => {
-            return tell_list(out, at, names, cells, head, sizes);
-        }
-        Command::Bad => {
-            return put_word(out, at, b"bad\n");
-        }
+        Command::Mark => tell_mark(out, at, names, cells, head, sizes, lines),
+        Command::List => tell_list(out, at, names, cells, head, sizes),
+        Command::Bad => put_word(out, at, b"bad\n"),
     }
 }

@@ -23,6 +23,7 @@ pub struct Line {
     pub count: usize,
 }
 
+// Form kept: the new form is no plainer: a refused call gives the line back too, which Result<Fed, Unfit> would leave to each caller.
 // What a call comes to: the number, the line, the bytes of the chunk that were taken and those of the buffer that were
 // written.
 #[derive(Clone, Copy)]
@@ -44,6 +45,7 @@ pub fn blank() -> Line
 }
 
 // One byte more of the line.
+#[tactic(auto, unfolding(script_rules::specs::Feeding::noted))]
 fn note(line: Line, b: u8) -> Line
     ensures { held_line result ≡ noted (held_line line) b }
 {
@@ -63,18 +65,14 @@ fn note(line: Line, b: u8) -> Line
 fn first_meaning(bytes: &[u8], count: usize) -> Command
     ensures { command_of result ≡ spoken (take count bytes.now) }
 {
-    if bytes.len() <= count {
-        return meaning(bytes);
-    }
-    meaning(&bytes[..count])
+    meaning(bytes.get(..count).unwrap_or(bytes))
 }
 
 // What the line that was kept means.
 fn kept_meaning(line: Line) -> Command
     ensures { command_of result ≡ spoken (held_of (held_line line)) }
 {
-    let bytes = line.bytes;
-    first_meaning(&bytes, line.count)
+    first_meaning(&line.bytes, line.count)
 }
 
 // What one byte comes to: the line, and where the next byte of the buffer goes.
@@ -84,6 +82,7 @@ struct Step {
     at: usize,
 }
 
+#[tactic(auto, unfolding(script_rules::specs::Feeding::fed_byte, script_rules::specs::Feeding::answered))]
 fn take_byte(
     line: Line,
     b: u8,
@@ -115,6 +114,7 @@ fn take_byte(
 
 // Takes the bytes of a chunk while the buffer has room for any answer. The rest of the chunk is for the next call. A buffer
 // in which the longest answer has no room is refused with 1, and nothing is taken.
+#[tactic(auto, using(crate::proofs::Bytes::chunk_feeding))]
 pub fn feed(
     line: Line,
     chunk: &[u8],
@@ -142,8 +142,7 @@ pub fn feed(
     }
     let mut kept = line;
     let mut written = 0;
-    let mut i = 0;
-    while i < chunk.len() {
+    for (i, b) in chunk.iter().enumerate() {
         if out.len() - written < LONGEST {
             return Fed {
                 number: 0,
@@ -152,23 +151,20 @@ pub fn feed(
                 written,
             };
         }
-        let step = take_byte(
-            kept, chunk[i], names, cells, head, sizes, lines, out, written,
-        );
-        let next = step.line;
-        kept = next;
+        let step = take_byte(kept, *b, names, cells, head, sizes, lines, out, written);
+        kept = step.line;
         written = step.at;
-        i += 1;
     }
     Fed {
         number: 0,
         line: kept,
-        taken: i,
+        taken: chunk.len(),
         written,
     }
 }
 
 // The input has ended: an unended last line is answered.
+#[tactic(auto, unfolding(script_rules::specs::Feeding::finishes, script_rules::specs::Feeding::answered))]
 pub fn finish(
     line: Line,
     names: &mut [u64],

@@ -4,9 +4,10 @@ ghost use Rattle.script_rules.specs.Blanks.{link_text, field_text, piece, is_bla
 ghost use Rattle.script_rules.specs.Feeding.{typed, lent_paper};
 
 use crate::paper::{put_byte, put_number, put_word};
-use slots::{LEFT, NULL, PARENT, PLACE, PREV, RIGHT, STATE, wide};
+use slots::{NULL, word};
 
 // A slot's number, or that there is none.
+#[tactic(auto, unfolding(script_rules::specs::Blanks::link_text))]
 fn put_link(out: &mut [u8], at: usize, i: u64) -> usize
     ensures { lent_paper out.new result ≡ typed (lent_paper out.old at) (link_text i) }
 {
@@ -17,6 +18,7 @@ fn put_link(out: &mut [u8], at: usize, i: u64) -> usize
 }
 
 // The name of a slot's field.
+#[tactic(auto, unfolding(script_rules::specs::Blanks::field_text))]
 fn put_field(out: &mut [u8], at: usize, f: u64) -> usize
     ensures { lent_paper out.new result ≡ typed (lent_paper out.old at) (field_text f) }
 {
@@ -32,6 +34,7 @@ fn put_field(out: &mut [u8], at: usize, f: u64) -> usize
 }
 
 // A byte of a sentence, or the number that it is a blank for.
+#[tactic(auto, using(script_rules::proofs::Typing::typed_one_lem), unfolding(script_rules::specs::Blanks::piece))]
 fn put_piece(out: &mut [u8], at: usize, b: u8, v: u64) -> usize
     ensures { lent_paper out.new result ≡ typed (lent_paper out.old at) (piece b v) }
 {
@@ -44,34 +47,26 @@ fn put_piece(out: &mut [u8], at: usize, b: u8, v: u64) -> usize
 }
 
 // The byte is a blank.
+#[tactic(auto, unfolding(script_rules::specs::Blanks::is_blank))]
 fn is_blank(b: u8) -> bool
     ensures { result ≡ stands_for b }
 {
-    match b {
-        b'#' => true,
-        b'@' => true,
-        b'%' => true,
-        _ => false,
-    }
+    matches!(b, b'#' | b'@' | b'%')
 }
 
 // A sentence with a number for each of its blanks, in their order; 0 where there is none left.
+#[tactic(auto, using(crate::proofs::Writing::blank_filling))]
 pub fn fill(out: &mut [u8], at: usize, sentence: &[u8], numbers: &[u64]) -> usize
     ensures { lent_paper out.new result
         ≡ typed (lent_paper out.old at) (blanks_filled sentence.now numbers.now) }
 {
     let mut end = at;
-    let mut i = 0;
     let mut k = 0;
-    while i < sentence.len() {
-        let b = sentence[i];
-        let v = wide(numbers, k);
-        end = put_piece(out, end, b, v);
-        let blank = is_blank(b);
-        if blank {
+    for &b in sentence {
+        end = put_piece(out, end, b, word(numbers, k, 0));
+        if is_blank(b) {
             k += 1;
         }
-        i += 1;
     }
     end
 }

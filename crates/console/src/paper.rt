@@ -16,19 +16,19 @@ pub fn put_byte(out: &mut [u8], at: usize, b: u8) -> usize
 }
 
 // The bytes of a word, written from a place on while there is room; where the next byte goes comes back.
+#[tactic(auto, using(crate::proofs::Writing::word_writing))]
 pub fn put_word(out: &mut [u8], at: usize, word: &[u8]) -> usize
     ensures { lent_paper out.new result ≡ typed (lent_paper out.old at) word.now }
 {
     let mut end = at;
-    let mut i = 0;
-    while i < word.len() {
-        end = put_byte(out, end, word[i]);
-        i += 1;
+    for b in word {
+        end = put_byte(out, end, *b);
     }
     end
 }
 
 // The decimal digits of x, at most so many.
+#[tactic(auto, using(crate::proofs::Writing::number_writing))]
 fn put_digits(out: &mut [u8], at: usize, x: u64, most: u32) -> usize
     ensures { lent_paper out.new result ≡ typed (lent_paper out.old at) (digits most x) }
 {

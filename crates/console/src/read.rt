@@ -3,95 +3,66 @@ ghost use Rattle.std.specs.Prelude.{◌≡◌, ℕ, ◌≤◌, drop};
 ghost use Rattle.script_rules.specs.Text.{read_on, read_number, read_next, starts_with as starts};
 ghost use Rattle.script_rules.specs.Commands.{Command as Meant, remove as removing, find as finding};
 ghost use Rattle.script_rules.specs.Commands.{insert_of, pair_command_of, mark_of, alone, meant, spoken};
-ghost use Rattle.console.specs.Phrases.{read_of, command_of, pair_command};
+ghost use Rattle.console.specs.Phrases.{read_of, command_of, command_or_bad, pair_command};
 
 // The largest number of a field.
 const MOST64: u64 = 18446744073709551615;
 
 const MOST32: u64 = 4294967295;
 
-// A number of the line and where the bytes after it start, or that there is none.
-#[derive(Clone, Copy)]
-enum Number {
-    Value(u64, usize),
-    Missing,
-}
-
-// More digits of a number whose value so far is v, from a place on.
-fn digits(line: &[u8], most: u64, v: u64, at: usize) -> Number
+// More digits of a number whose value so far is v, from a place on: the number, and where the bytes after it start.
+#[tactic(auto, using(crate::proofs::Reading::bytes_from), unfolding(script_rules::specs::Text::read_on))]
+fn digits(line: &[u8], most: u64, v: u64, at: usize) -> Option<(u64, usize)>
     requires { 9 ≤ most }
     ensures { read_of line.now result ≡ read_on most v (drop at line.now) }
 {
     let mut value = v;
-    let mut i = at;
-    while i < line.len() {
+    for i in at..line.len() {
         let b = line[i];
-        if b < b'0' {
-            return Number::Value(value, i);
-        }
-        if b'9' < b {
-            return Number::Value(value, i);
+        if !b.is_ascii_digit() {
+            return Some((value, i));
         }
         let digit = (b - b'0') as u64;
         if (most - digit) / 10 < value {
-            return Number::Missing;
+            return None;
         }
         value = 10 * value + digit;
-        i += 1;
     }
-    Number::Value(value, i)
+    Some((value, line.len()))
 }
 
 // A number at a place of the line, with no leading zero.
-fn first_number(line: &[u8], most: u64, at: usize) -> Number
+#[tactic(auto, using(crate::proofs::Reading::bytes_from), unfolding(script_rules::specs::Text::read_number))]
+fn first_number(line: &[u8], most: u64, at: usize) -> Option<(u64, usize)>
     requires { 9 ≤ most }
     ensures { read_of line.now result ≡ read_number most (drop at line.now) }
 {
-    if line.len() <= at {
-        return Number::Missing;
+    let b = *line.get(at)?;
+    match b {
+        b'0' => Some((0, at + 1)),
+        b'1'..=b'9' => digits(line, most, (b - b'0') as u64, at + 1),
+        _ => None,
     }
-    let b = line[at];
-    if b == b'0' {
-        return Number::Value(0, at + 1);
-    }
-    if b < b'0' {
-        return Number::Missing;
-    }
-    if b'9' < b {
-        return Number::Missing;
-    }
-    digits(line, most, (b - b'0') as u64, at + 1)
 }
 
 // A number after a single space.
-fn next_number(line: &[u8], most: u64, at: usize) -> Number
+#[tactic(auto, using(crate::proofs::Reading::bytes_from), unfolding(script_rules::specs::Text::read_next))]
+fn next_number(line: &[u8], most: u64, at: usize) -> Option<(u64, usize)>
     requires { 9 ≤ most }
     ensures { read_of line.now result ≡ read_next most (drop at line.now) }
 {
-    if line.len() <= at {
-        return Number::Missing;
+    match line.get(at)? {
+        b' ' => first_number(line, most, at + 1),
+        _ => None,
     }
-    if line[at] != b' ' {
-        return Number::Missing;
-    }
-    first_number(line, most, at + 1)
 }
 
 // Whether the line starts with a word.
+#[tactic(auto, using(crate::proofs::Reading::same_begins))]
 fn begins(line: &[u8], word: &[u8]) -> bool
     ensures { result ≡ starts word.now line.now }
 {
-    let mut i = 0;
-    while i < word.len() {
-        if line.len() <= i {
-            return false;
-        }
-        if line[i] != word[i] {
-            return false;
-        }
-        i += 1;
-    }
-    true
+    line.starts_with(word)
 }
 
 // What a line asks for.
@@ -106,100 +77,68 @@ pub enum Command {
     Bad,
 }
 
-// Hash, key and place, and the end of the line.
-fn entry(line: &[u8], at: usize) -> Command
-    ensures { command_of result ≡ insert_of (drop at line.now) }
+// The command, if the line ends there.
+#[tactic(auto, using(crate::proofs::Reading::bytes_from))]
+fn alone_after(line: &[u8], at: usize, command: Command) -> Option<Command>
+    ensures { command_or_bad result ≡ alone (command_of command) (drop at line.now) }
 {
-    let first = first_number(line, MOST64, at);
-    let Number::Value(hash, after_hash) = first else {
-        return Command::Bad;
-    };
-    let second = next_number(line, MOST64, after_hash);
-    let Number::Value(key, after_key) = second else {
-        return Command::Bad;
-    };
-    let third = next_number(line, MOST32, after_key);
-    let Number::Value(place, end) = third else {
-        return Command::Bad;
-    };
-    if end < line.len() {
-        return Command::Bad;
+    if at < line.len() {
+        return None;
     }
-    Command::Insert(hash, key, place as u32)
+    Some(command)
 }
 
-// Hash and key, or that they do not stand there.
-#[derive(Clone, Copy)]
-enum Pair {
-    Of(u64, u64),
-    Missing,
+// Hash, key and place, and the end of the line.
+#[tactic(auto, using(script_rules::proofs::Meaning::next_bound), unfolding(script_rules::specs::Commands::insert_of))]
+fn entry(line: &[u8], at: usize) -> Option<Command>
+    ensures { command_or_bad result ≡ insert_of (drop at line.now) }
+{
+    let (hash, after_hash) = first_number(line, MOST64, at)?;
+    let (key, after_key) = next_number(line, MOST64, after_hash)?;
+    let (place, end) = next_number(line, MOST32, after_key)?;
+    alone_after(line, end, Command::Insert(hash, key, place as u32))
 }
 
 // Hash and key, and the end of the line.
-fn two_numbers(line: &[u8], at: usize) -> Pair
+#[tactic(auto, using(crate::proofs::Reading::bytes_from), unfolding(script_rules::specs::Commands::pair_command_of))]
+fn pair(line: &[u8], at: usize) -> Option<(u64, u64)>
     ensures { (c : ℕ → ℕ → Meant) → pair_command c result ≡ pair_command_of c (drop at line.now) }
 {
-    let first = first_number(line, MOST64, at);
-    let Number::Value(hash, after_hash) = first else {
-        return Pair::Missing;
-    };
-    let second = next_number(line, MOST64, after_hash);
-    let Number::Value(key, end) = second else {
-        return Pair::Missing;
-    };
+    let (hash, after_hash) = first_number(line, MOST64, at)?;
+    let (key, end) = next_number(line, MOST64, after_hash)?;
     if end < line.len() {
-        return Pair::Missing;
+        return None;
     }
-    Pair::Of(hash, key)
+    Some((hash, key))
 }
 
 // A mark, and the end of the line.
-fn mark(line: &[u8], at: usize) -> Command
-    ensures { command_of result ≡ mark_of (drop at line.now) }
+#[tactic(auto, using(script_rules::proofs::Meaning::number_bound), unfolding(script_rules::specs::Commands::mark_of))]
+fn mark(line: &[u8], at: usize) -> Option<Command>
+    ensures { command_or_bad result ≡ mark_of (drop at line.now) }
 {
-    let first = first_number(line, MOST32, at);
-    let Number::Value(to, end) = first else {
-        return Command::Bad;
-    };
-    if end < line.len() {
-        return Command::Bad;
-    }
-    Command::Rollback(to as u32)
+    let (to, end) = first_number(line, MOST32, at)?;
+    alone_after(line, end, Command::Rollback(to as u32))
 }
 
-// A command whose word is the whole line.
-fn alone_after(line: &[u8], at: usize, command: Command) -> Command
-    ensures { command_of result ≡ alone (command_of command) (drop at line.now) }
+fn removal(line: &[u8], at: usize) -> Option<Command>
+    ensures { command_or_bad result ≡ pair_command_of removing (drop at line.now) }
 {
-    if at < line.len() {
-        return Command::Bad;
-    }
-    command
+    let (hash, key) = pair(line, at)?;
+    Some(Command::Remove(hash, key))
 }
 
-fn removal(line: &[u8], at: usize) -> Command
-    ensures { command_of result ≡ pair_command_of removing (drop at line.now) }
+fn question(line: &[u8], at: usize) -> Option<Command>
+    ensures { command_or_bad result ≡ pair_command_of finding (drop at line.now) }
 {
-    let named = two_numbers(line, at);
-    match named {
-        Pair::Of(hash, key) => Command::Remove(hash, key),
-        Pair::Missing => Command::Bad,
-    }
-}
-
-fn question(line: &[u8], at: usize) -> Command
-    ensures { command_of result ≡ pair_command_of finding (drop at line.now) }
-{
-    let named = two_numbers(line, at);
-    match named {
-        Pair::Of(hash, key) => Command::Find(hash, key),
-        Pair::Missing => Command::Bad,
-    }
+    let (hash, key) = pair(line, at)?;
+    Some(Command::Find(hash, key))
 }
 
 // The command of a line, by the word that it starts with.
-fn by_word(line: &[u8]) -> Command
-    ensures { command_of result ≡ meant line.now }
+#[tactic(auto, unfolding(script_rules::specs::Commands::meant))]
+fn by_word(line: &[u8]) -> Option<Command>
+    ensures { command_or_bad result ≡ meant line.now }
 {
     if begins(line, b"+ ") {
         return entry(line, 2);
@@ -219,15 +158,16 @@ fn by_word(line: &[u8]) -> Command
     if begins(line, b"l") {
         return alone_after(line, 1, Command::List);
     }
-    Command::Bad
+    None
 }
 
 // A line over 80 bytes is bad, whatever it starts with.
+#[tactic(auto, unfolding(script_rules::specs::Commands::spoken))]
 pub fn meaning(line: &[u8]) -> Command
     ensures { command_of result ≡ spoken line.now }
 {
     if 80 < line.len() {
         return Command::Bad;
     }
-    by_word(line)
+    by_word(line).unwrap_or(Command::Bad)
 }

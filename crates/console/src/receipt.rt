@@ -8,6 +8,7 @@ use crate::feed::LONGEST;
 
 // Writes the refusal of this number, or for 0 the list of the index, and answers how many bytes were written: none where the
 // buffer has no room for the longest answer.
+#[tactic(auto, unfolding(script_rules::specs::Feeding::receipts, script_rules::specs::Answers::receipt_text))]
 pub fn receipt(
     number: u32,
     names: &[u64],

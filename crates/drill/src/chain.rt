@@ -2,7 +2,7 @@
 use slots::{NEXT, NULL, PREV, get, put};
 
 // What an exchange of two neighbours came to: whether it left a sound tree, and whether it was seen.
-#[derive(Clone, Copy)]
+#[derive(Clone, Copy, Default)]
 pub struct Order {
     pub planted: bool,
     pub seen: bool,
@@ -35,14 +35,10 @@ pub fn exchange(cells: &mut [u32], head: &mut [u32], x: u32) {
     link(cells, head, x, behind);
 }
 
-// A slot that has one behind it in the chain: this one, else the first; null where there are not two.
-pub fn before_another(cells: &[u32], head: &[u32], x: u32) -> u32 {
-    if get(cells, x, NEXT) != NULL {
-        return x;
-    }
+// A slot that has one behind it in the chain: this one, else the first, if there are two.
+pub fn before_another(cells: &[u32], head: &[u32], x: u32) -> Option<u32> {
     let first = get(head, 0, 1);
-    if get(cells, first, NEXT) != NULL {
-        return first;
-    }
-    NULL
+    [x, first]
+        .into_iter()
+        .find(|slot| get(cells, *slot, NEXT) != NULL)
 }

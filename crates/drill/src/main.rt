@@ -19,8 +19,8 @@ mod words;
 
 use cuts::{Tally, cut_all};
 use marks::try_short;
-use numbers::{bytes_from, lend_bytes, read, starts, wide_from};
-use sources::{ANSWERS, Source, WORDS};
+use numbers::{read, starts};
+use sources::{Source, text_room};
 use std::io;
 use std::io::Stdout;
 use std::rt::Files;
@@ -36,29 +36,23 @@ fn print_cuts(stdout: Stdout, t: Tally) -> io::Result<()> {
     number(stdout, b" differences ", t.differences)
 }
 
-// Reads a file into the first bytes, or into those from one on, and answers how many it has.
-fn load_first<R: Files>(rt: &R, path: &[u8], bytes: &mut [u8], n: usize) -> usize {
-    load(rt, path, lend_bytes(bytes, n))
-}
-
-fn load_from<R: Files>(rt: &R, path: &[u8], bytes: &mut [u8], n: usize) -> usize {
-    load(rt, path, bytes_from(bytes, n))
-}
-
 // The longest script's line. It runs on 512 slots and 1,024 lines, so that a line is left when the tree is full.
-fn drill_longest<R: Files>(rt: &R, stdout: Stdout, bytes: &mut [u8]) -> io::Result<()> {
-    let mut numbers = [0u64; 5120];
-    let length = load_first(rt, b"longest.txt", bytes, ANSWERS);
-    let answered = load_from(rt, b"answers.txt", bytes, ANSWERS);
-    let n = starts(bytes, length, &mut numbers);
-    let t = cut_all(
-        512,
-        1024,
-        Source::Script(length, answered),
-        n,
-        bytes,
-        &numbers,
-    );
+fn drill_longest<R: Files>(
+    rt: &R,
+    stdout: Stdout,
+    script: &mut [u8],
+    answers: &mut [u8],
+) -> io::Result<()> {
+    let mut numbers = [0u64; 4096];
+    let length = load(rt, b"longest.txt", script);
+    let answered = load(rt, b"answers.txt", answers);
+    let n = starts(&script[..length], &mut numbers);
+    let source = Source::Script {
+        script: &script[..length],
+        answers: &answers[..answered],
+        starts: &numbers,
+    };
+    let t = cut_all(512, 1024, source, n);
     say(stdout, b"longest: ")?;
     print_cuts(stdout, t)?;
     say(stdout, b"\n")
@@ -104,24 +98,21 @@ fn print_calls(stdout: Stdout, t: Tally) -> io::Result<()> {
 }
 
 // The list of calls, on 64 slots and 128 lines, with the word that each has to answer.
-fn drill_calls<R: Files>(rt: &R, stdout: Stdout, bytes: &mut [u8]) -> io::Result<()> {
-    let mut numbers = [0u64; 5120];
-    let words = load_numbers(rt, b"calls.txt", bytes, &mut numbers);
-    load_numbers(
-        rt,
-        b"words.txt",
-        bytes,
-        wide_from(&mut numbers, WORDS as usize),
-    );
-    print_calls(
-        stdout,
-        cut_all(64, 128, Source::List, words / 4, b"", &numbers),
-    )
+fn drill_calls<R: Files>(rt: &R, stdout: Stdout, text: &mut [u8]) -> io::Result<()> {
+    let mut calls = [0u64; 4096];
+    let mut words = [0u64; 1024];
+    let n = load_numbers(rt, b"calls.txt", text, &mut calls);
+    load_numbers(rt, b"words.txt", text, &mut words);
+    let source = Source::List {
+        calls: &calls,
+        words: &words,
+    };
+    print_calls(stdout, cut_all(64, 128, source, n / 4))
 }
 
 // Rooms for what is read from files and for the calls of a script, with lengths that a proof need not count.
-fn file_room() -> [u8; 589824] {
-    [0; 589824]
+fn file_room() -> [u8; 65536] {
+    [0; 65536]
 }
 
 fn call_room() -> [u32; 49248] {
@@ -131,8 +122,9 @@ fn call_room() -> [u32; 49248] {
 fn main(rt: HostRuntime) -> io::Result<()> {
     let stdout = rt.stdout();
     let mut bytes = file_room();
+    let mut answers = text_room();
     let mut rows = call_room();
-    drill_longest(&rt, stdout, &mut bytes)?;
+    drill_longest(&rt, stdout, &mut bytes, &mut answers)?;
     drill_short(&rt, stdout, &mut bytes, &mut rows)?;
     drill_calls(&rt, stdout, &mut bytes)
 }

@@ -1,26 +1,17 @@
-// What the parts of the drill ask: the journal's length, what a rollback came to, the mark of a cut, and where a call ends.
+// What the parts of the drill ask: the journal's length, the mark of a cut, and where a call ends.
 ghost use Rattle.std.specs.Prelude.{◌<◌, ◌≤◌, length as size};
 
 use index::journal::length_of;
-use index::rollback::RolledBack;
-use index::sound::{Soundness, sound};
+use index::sound::sound;
 
 // A count that does not come near 32 bits, with some more.
 pub fn more(count: u32, by: u32) -> u32 {
-    std::num::wrapping_add_u32(count, by)
+    count.wrapping_add(by)
 }
 
-// 1 for yes, so that it can be counted.
-pub fn one(yes: bool) -> u32 {
-    if yes {
-        return 1;
-    }
-    0
-}
-
-// Whether four things are so.
-pub fn all(a: bool, b: bool, c: bool, d: bool) -> bool {
-    a && b && c && d
+// The same with one more, if something is so.
+pub fn counted(count: u32, so: bool) -> u32 {
+    more(count, u32::from(so))
 }
 
 // The journal's length.
@@ -28,20 +19,9 @@ pub fn length(lines: &[u64]) -> u32 {
     (length_of(lines) % 4294967296) as u32
 }
 
-// Whether the rollback undid so many lines.
-pub fn undid(rolled: RolledBack, count: u32) -> bool {
-    match rolled {
-        RolledBack::Lines(lines) => lines == count,
-        _ => false,
-    }
-}
-
 // Whether all rules of a tree hold, beside what it holds.
 pub fn is_sound(names: &[u64], cells: &[u32], head: &[u32], sizes: &[u32]) -> bool {
-    match sound(names, cells, head, sizes) {
-        Soundness::Yes => true,
-        _ => false,
-    }
+    matches!(sound(names, cells, head, sizes), Ok(true))
 }
 
 // The mark for a cut, up to the journal's length; 0 at every eighth.
@@ -57,12 +37,8 @@ pub(crate) fn line_end(script: &[u8], at: usize) -> usize
     requires { at < size script.now }
     ensures { (at < result) × (result ≤ size script.now) }
 {
-    let mut end = at;
-    while end < script.len() {
-        if script[end] == b'\n' {
-            return end + 1;
-        }
-        end += 1;
+    match script[at..].iter().position(|byte| *byte == b'\n') {
+        Some(further) => at + further + 1,
+        None => script.len(),
     }
-    end
 }

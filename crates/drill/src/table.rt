@@ -1,7 +1,9 @@
 // What a tree holds and lists: a row of 96 words. The first 48 are key by key, each the place of a key and one more, or 0 where the key is
 // not there; then come the keys along the chain, each one more than it is, and 0 past the last.
-use index::find::{Found, find};
+use crate::steps::counted;
+use index::find::find;
 use slots::{KEY, NEXT, NULL, PLACE, get, name, put};
+use tree::find::Found;
 
 pub const KEYS: u32 = 48;
 
@@ -15,7 +17,7 @@ const JOURNAL_WORDS: u32 = 1 + 512 * LINE_WORDS;
 // The place of a key and one more; 0 where it is not there.
 fn held(names: &[u64], cells: &[u32], head: &[u32], key: u32) -> u32 {
     match find(names, cells, head, (key / 4) as u64, key as u64) {
-        Found::At(slot, _) => std::num::wrapping_add_u32(get(cells, slot, PLACE), 1),
+        Ok(Found::At(slot, _)) => get(cells, slot, PLACE).wrapping_add(1),
         _ => 0,
     }
 }
@@ -35,17 +37,15 @@ fn listed(names: &[u64], x: u32) -> u32 {
     if x == NULL {
         return 0;
     }
-    std::num::wrapping_add_u32((name(names, x, KEY) % 4294967296) as u32, 1)
+    ((name(names, x, KEY) % 4294967296) as u32).wrapping_add(1)
 }
 
 // Notes in row m what the tree lists, from first by next.
 fn note_listing(rows: &mut [u32], m: u32, names: &[u64], cells: &[u32], head: &[u32]) {
     let mut x = get(head, 0, 1);
-    let mut i: u32 = 0;
-    while i < KEYS {
+    for i in 0..KEYS {
         put(rows, 0, listed_word(m, i), listed(names, x));
         x = get(cells, x, NEXT);
-        i += 1;
     }
 }
 
@@ -57,20 +57,9 @@ pub fn note(rows: &mut [u32], m: u32, names: &[u64], cells: &[u32], head: &[u32]
 
 // Notes in row m what the tree holds.
 fn note_held(rows: &mut [u32], m: u32, names: &[u64], cells: &[u32], head: &[u32]) {
-    let mut key: u32 = 0;
-    while key < KEYS {
-        let word = held(names, cells, head, key);
-        put(rows, 0, word_of(m, key), word);
-        key += 1;
+    for key in 0..KEYS {
+        put(rows, 0, word_of(m, key), held(names, cells, head, key));
     }
-}
-
-// 1 for a word of a key that is there, so that they can be counted.
-fn stands(word: u32) -> u32 {
-    if word == 0 {
-        return 0;
-    }
-    1
 }
 
 // Whether the tree holds and lists what row m says.
@@ -83,13 +72,11 @@ pub fn same(rows: &[u32], m: u32, names: &[u64], cells: &[u32], head: &[u32]) ->
 // Whether the tree lists what row m says, from first by next, and nothing else.
 fn same_listed(rows: &[u32], m: u32, names: &[u64], cells: &[u32], head: &[u32]) -> bool {
     let mut x = get(head, 0, 1);
-    let mut i: u32 = 0;
-    while i < KEYS {
+    for i in 0..KEYS {
         if get(rows, 0, listed_word(m, i)) != listed(names, x) {
             return false;
         }
         x = get(cells, x, NEXT);
-        i += 1;
     }
     x == NULL
 }
@@ -97,14 +84,12 @@ fn same_listed(rows: &[u32], m: u32, names: &[u64], cells: &[u32], head: &[u32])
 // Whether the tree holds what row m says, and by its own count nothing else.
 fn same_held(rows: &[u32], m: u32, names: &[u64], cells: &[u32], head: &[u32]) -> bool {
     let mut count: u32 = 0;
-    let mut key: u32 = 0;
-    while key < KEYS {
+    for key in 0..KEYS {
         let word = held(names, cells, head, key);
         if get(rows, 0, word_of(m, key)) != word {
             return false;
         }
-        count = std::num::wrapping_add_u32(count, stands(word));
-        key += 1;
+        count = counted(count, word != 0);
     }
     count == get(head, 0, 2)
 }
@@ -122,12 +107,5 @@ fn kept(old: &[u64], m: u32, k: u32) -> u64 {
 
 // Whether the lines are the old ones up to mark m, and nothing after it.
 pub fn cut_at(lines: &[u64], old: &[u64], m: u32) -> bool {
-    let mut k: u32 = 0;
-    while k < JOURNAL_WORDS {
-        if name(lines, 0, k) != kept(old, m, k) {
-            return false;
-        }
-        k += 1;
-    }
-    true
+    (0..JOURNAL_WORDS).all(|k| name(lines, 0, k) == kept(old, m, k))
 }

@@ -5,11 +5,10 @@ use mathlib.Core.Bool.{Bool, true, false}
 use mathlib.Core.List.{List, [], ◌∷◌, ◌++◌}
 use Prim.Native.Nat.{ℕ, zero, suc, ◌+◌, ◌-◌, ◌*◌, ◌<◌, ◌≤◌}
 use lib.ListN.{drop}
-use native.Mathlib.Numerals.{sub-one}
+use native.Mathlib.Numerals.{add-one, sub-one}
 use native.Mathlib.Omega.{arith}
-use lib.Dec.{eqb}
 use borrow.Author.Tests.{eq-eqb, ne_eqb, le-leb, lt-leb}
-use Rattle.slots.specs.Words.{null, pick, parent, left, right, cell}
+use Rattle.slots.specs.Words.{null, parent, left, right, cell}
 use Rattle.tree_rules.specs.Check.{red_slot}
 use Rattle.script_rules.specs.Letters.{letters}
 use Rattle.script_rules.specs.Feeding.{Paper, typed}
@@ -73,18 +72,17 @@ module _ (cells : List ℕ) (i : ℕ) where
   on_end zero z = refl
   on_end (suc b) z = rw (eq-eqb i null z)
 
-  pub on_more : (budget : ℕ) {l : ℕ} → 0 < budget → i ≢ null → l ≡ cell cells i left
-      → letters ", " ++ (step_text cells i ++ onward (budget - 1) cells l) ≡ onward budget cells i
+  pub on_more : (budget rest : ℕ) {l : ℕ} → budget ≡ rest + 1 → i ≢ null → l ≡ cell cells i left
+      → letters ", " ++ (step_text cells i ++ onward rest cells l) ≡ onward budget cells i
   unfolding onward
-  on_more zero h d e = absurd (omega arith)
-  on_more (suc b) h d e = rw (sub-one, onward, ne_eqb i null d, ← e)
+  on_more budget rest h d e = rw (h, add-one, onward, ne_eqb i null d, ← e)
 
 -- A turn of the loop: a comma, the slot, and the rest.
-pub on_turn : (p : Paper) (cells : List ℕ) (i budget : ℕ) {q r : Paper} {l : ℕ} → 0 < budget → i ≢ null → q ≡ typed p (letters ", ")
-    → r ≡ typed q (step_text cells i) → l ≡ cell cells i left
-    → typed r (onward (budget - 1) cells l) ≡ typed p (onward budget cells i)
-on_turn p cells i budget h d e f g =
-    then p (letters ", ") _ e (then _ (step_text cells i) _ f refl) ∙ ap (typed p) (on_more cells i budget h d g)
+pub on_turn : (p : Paper) (cells : List ℕ) (i budget rest : ℕ) {q r : Paper} {l : ℕ} → budget ≡ rest + 1 → i ≢ null
+    → q ≡ typed p (letters ", ") → r ≡ typed q (step_text cells i) → l ≡ cell cells i left
+    → typed r (onward rest cells l) ≡ typed p (onward budget cells i)
+on_turn p cells i budget rest h d e f g =
+    then p (letters ", ") _ e (then _ (step_text cells i) _ f refl) ∙ ap (typed p) (on_more cells i budget rest h d g)
 
 -- A way whole, and both.
 pub way_whole : (p : Paper) (n : ℕ) (cells : List ℕ) (i f : ℕ) {q r s u : Paper} {l : ℕ} → q ≡ typed p (says "%: " (f ∷ []))

@@ -1,17 +1,21 @@
 -- What bytes and words leave on a lent buffer, one after another, on plain values.
 use mathlib.Core.Path.{◌≡◌, refl, ap, sym, ◌∙◌}
 use mathlib.Core.Logic.{◌≢◌}
-use mathlib.Core.List.{List, [], ◌∷◌, ◌++◌}
+use mathlib.Core.List.{List, [], ◌∷◌}
 use Prim.Native.Nat.{ℕ, zero, suc, ◌+◌, ◌-◌, ◌*◌, ◌/◌, ◌%◌, ◌<◌, ◌≤◌}
-use native.Mathlib.Numerals.{add-one, sub-one}
+use native.Mathlib.Numerals.{add-one}
 use native.Mathlib.Omega.{arith}
 use lib.ListN.{length, take, drop, get_or, replicate, length-replicate}
 use lib.Seq.{drop-cons}
+use Rattle.std.specs.Prelude.{Result, Ok, Err, map}
+use Rattle.std.specs.Result.{result_unwrap_or}
+use Rattle.night.specs.Salvages.{salvage_of}
+use Rattle.slots.specs.declared.answer.Unfit.{Unfit}
+use Rattle.std.proofs.lemmas.List.{map-id}
 use borrow.Author.Tests.{eq-eqb, ne_eqb, lt-ltb, le-ltb}
 use Rattle.slots.specs.Words.{null, state, cell, most_slots, most_lines}
 use Rattle.endian.specs.Bytes.{little, words_bytes}
 use Rattle.script_rules.specs.Feeding.{Paper, typed_one, typed}
-use Rattle.script_rules.proofs.Typing.{typed_append, typed_one_lem}
 use Rattle.tree_rules.specs.Chain.{tally}
 use Rattle.index_rules.specs.Sound.{used}
 use Rattle.index_rules.specs.Index.{Index, index, lent, line_words}
@@ -24,14 +28,16 @@ use Rattle.dump_rules.specs.Sentence.{measure_text, why_text}
 use Rattle.dump_rules.specs.Rescue.{saved_into, loss_text, loss_texts, kept_of, rescue_text, saved_bytes, saved_text}
 use Rattle.dump_rules.specs.Rescue.{loaded_bytes, loaded_text, zeros, measure_bytes, measure_words, rescue_bytes, rescue_words, papers}
 use Rattle.dump_rules.specs.Rescue.{rescues}
+use Rattle.dump.specs.Measures.{measure_of}
+use Rattle.dump.specs.declared.measure.Measure.{Measure as MeasureCode}
+use Rattle.dump.specs.declared.measure.Measure.TheVariants.{Whole, Stub, SlotsOut, LinesOut, Short, Long}
 use Rattle.dump.proofs.Telling.{then, nothing-more, loaded_fronts}
 
 -- A number's bytes: the lowest, and then those of the rest.
-pub little_turn : (p : Paper) (x k : ℕ) {q : Paper} → 0 < k → q ≡ typed_one p (x % 256)
-    → typed q (little (k - 1) (x / 256)) ≡ typed p (little k x)
+pub little_turn : (p : Paper) (x k rest : ℕ) {q : Paper} → k ≡ rest + 1 → q ≡ typed_one p (x % 256)
+    → typed q (little rest (x / 256)) ≡ typed p (little k x)
 unfolding little typed
-little_turn p x zero h e = absurd (omega arith)
-little_turn p x (suc k) h e = rw (sub-one, e)
+little_turn p x k rest h e = rw (h, add-one, e)
 
 pub little-over : (p : Paper) (x k : ℕ) → k ≤ 0 → typed p (little k x) ≡ p
 unfolding little typed
@@ -39,17 +45,17 @@ little-over p x zero h = refl
 little-over p x (suc k) h = absurd (omega arith)
 
 -- Words of k bytes each: the word at a place, and then those behind it.
-module _ (k : ℕ) (words : List ℕ) (p : Paper) (i : ℕ) where
-  pub words_turn : {q : Paper} → i < length words → q ≡ typed p (little k (get_or words i 0))
-      → typed q (words_bytes k (drop (i + 1) words)) ≡ typed p (words_bytes k (drop i words))
+module _ {W : Type 0} (number : W → ℕ) (k : ℕ) (words : List W) (p : Paper) (i : ℕ) where
+  pub words_turn : {x : W} {q : Paper} → i < length words → x ≡ get_or words i x → q ≡ typed p (little k (number x))
+      → typed q (words_bytes k (map number (drop (i + 1) words))) ≡ typed p (words_bytes k (map number (drop i words)))
   unfolding words_bytes
-  words_turn h e = rw (add-one i, drop-cons words i 0 h) (then p _ _ e refl)
+  words_turn {x} h at e = rw (add-one i, drop-cons words i x h, ← at) (then p _ _ e refl)
 
-  pub words_over : length words ≤ i → typed p (words_bytes k (drop i words)) ≡ p
+  pub words_over : length words ≤ i → typed p (words_bytes k (map number (drop i words))) ≡ p
   unfolding words_bytes
   words_over h = go words i h
     where
-      go : (l : List ℕ) (j : ℕ) → length l ≤ j → typed p (words_bytes k (drop j l)) ≡ p
+      go : (l : List W) (j : ℕ) → length l ≤ j → typed p (words_bytes k (map number (drop j l))) ≡ p
       go [] zero h = sym (nothing-more p)
       go [] (suc j) h = sym (nothing-more p)
       go (x ∷ l) zero h = absurd (omega arith)
@@ -82,15 +88,22 @@ module _ (cells report : List ℕ) (p : Paper) (n i : ℕ) where
   unfolding loss_texts
   losses_over h = let none : n - i ≡ 0 = omega arith in rw none (sym (nothing-more p))
 
+-- A number that is a word's own.
+own : (p : Paper) (k : ℕ) (l : List ℕ) {q : Paper} → q ≡ typed p (words_bytes k (map (λ x. x) l)) → q ≡ typed p (words_bytes k l)
+own p k l e = e ∙ ap (λ m. typed p (words_bytes k m)) (map-id l)
+
 -- The two counts, and the five slices one after another.
 pub dump_written : (p : Paper) (n c : ℕ) (ix : Index) {q1 q2 q3 q4 q5 q6 q7 : Paper} → q1 ≡ typed p (little 4 n)
     → q2 ≡ typed q1 (little 4 c)
-    → q3 ≡ typed q2 (words_bytes 8 ix.live.names) → q4 ≡ typed q3 (words_bytes 4 ix.live.cells)
-    → q5 ≡ typed q4 (words_bytes 4 ix.live.head) → q6 ≡ typed q5 (words_bytes 4 ix.live.sizes)
-    → q7 ≡ typed q6 (words_bytes 8 ix.lines) → q7 ≡ typed p (dump_bytes n c ix)
+    → q3 ≡ typed q2 (words_bytes 8 (map (λ x. x) ix.live.names)) → q4 ≡ typed q3 (words_bytes 4 (map (λ x. x) ix.live.cells))
+    → q5 ≡ typed q4 (words_bytes 4 (map (λ x. x) ix.live.head)) → q6 ≡ typed q5 (words_bytes 4 (map (λ x. x) ix.live.sizes))
+    → q7 ≡ typed q6 (words_bytes 8 (map (λ x. x) ix.lines)) → q7 ≡ typed p (dump_bytes n c ix)
 unfolding dump_bytes body_bytes
 dump_written p n c ix e1 e2 e3 e4 e5 e6 e7 =
-    then p _ _ e1 (then _ _ _ e2 (then _ _ _ e3 (then _ _ _ e4 (then _ _ _ e5 (then _ _ _ e6 e7)))))
+    then p _ _ e1
+    (then _ _ _ e2
+    (then _ _ _ (own _ 8 _ e3)
+    (then _ _ _ (own _ 4 _ e4) (then _ _ _ (own _ 4 _ e5) (then _ _ _ (own _ 4 _ e6) (own _ 8 _ e7))))))
 
 -- The lines and the number kept.
 pub saved-told : (p : Paper) (n : ℕ) (cells report : List ℕ) (kept : ℕ) {q r : Paper} {m : ℕ} → q ≡ typed p (loss_texts n cells report 0)
@@ -115,6 +128,11 @@ module _ (names cells : List ℕ) (e u : Index) (report : List ℕ) (o : Salvage
       → q ≡ typed p (rescue_text n cells o.report k) → q ≡ typed p (saved_text n names cells e report)
   unfolding saved_text
   told-saved p n g f = rw (← saved-is, ← g) f
+
+-- The slots kept, 0 for a refusal.
+pub kept_is : (r : Result ℕ Unfit) {k : ℕ} → k ≡ result_unwrap_or r 0 → k ≡ kept_of (salvage_of r).value
+kept_is (Ok kept) e = e
+kept_is (Err _) e = e
 
 -- The front of zeros is zeros.
 pub take-zeros : (k m : ℕ) → k ≤ m → take {A = ℕ} k (replicate m 0) ≡ replicate k 0
@@ -164,6 +182,14 @@ NoDump (slots_out n) = Unit {0}
 NoDump (lines_out c) = Unit {0}
 NoDump (short b n c) = Unit {0}
 NoDump (long n c) = Unit {0}
+
+pub no_dump : (m : MeasureCode) → ((n c : ℕ) → m ≡ Whole n c → ⊥) → NoDump (measure_of m)
+no_dump (Whole n c) h = h n c refl
+no_dump (Stub b) h = tt
+no_dump (SlotsOut n) h = tt
+no_dump (LinesOut c) h = tt
+no_dump (Short b n c) h = tt
+no_dump (Long n c) h = tt
 
 measure_none : (l : List ℕ) (m : Measure) → NoDump m → ([] ≡ measure_bytes l m) × (measure_text l m ≡ measure_words l m)
 measure_none l (whole n c) h = absurd h

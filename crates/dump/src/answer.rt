@@ -10,7 +10,7 @@ use crate::load::load;
 use crate::measure::{Measure, dump_size, gauge};
 use crate::say::tell_tree;
 use console::fill::fill;
-use slots::{MOST_CELLS, MOST_NAMES, MOST_SLOTS, wide};
+use slots::{MOST_CELLS, MOST_NAMES, MOST_SLOTS, word};
 
 // The words of the longest journal.
 pub(crate) const MOST_JOURNAL: usize = 1 + 6 * 1024;
@@ -29,7 +29,7 @@ fn tell_index(
         ≡ typed (lent_paper out.old 0)
         (index_text c (lent names.now cells.now head.now sizes.now lines.now)) }
 {
-    let length = wide(lines, 0);
+    let length = word(lines, 0, 0);
     if length <= c as u64 {
         return tell_tree(out, 0, names, cells, head, sizes);
     }

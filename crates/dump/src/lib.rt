@@ -2,6 +2,7 @@
 #![tactic(auto)]
 
 pub mod answer;
+pub mod input;
 pub mod load;
 pub mod measure;
 pub mod rescue;

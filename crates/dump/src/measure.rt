@@ -6,6 +6,7 @@ ghost use Rattle.dump.specs.Measures.{measure_of};
 use endian::word_at;
 use slots::{MOST_LINES, MOST_SLOTS};
 
+// A dump, or what is wrong with the bytes.
 #[derive(Clone, Copy)]
 pub enum Measure {
     Whole(u32, u32), // a dump of so many slots and lines
@@ -44,14 +45,11 @@ pub fn gauge(bytes: &[u8]) -> Measure
     if bytes.len() < 8 {
         return Measure::Stub(bytes.len());
     }
-    let n = word_at(bytes, 0);
-    if n < 1 {
+    let n: u32 = word_at(bytes, 0);
+    if n < 1 || MOST_SLOTS < n as usize {
         return Measure::SlotsOut(n);
     }
-    if MOST_SLOTS < n as usize {
-        return Measure::SlotsOut(n);
-    }
-    let c = word_at(bytes, 1);
+    let c: u32 = word_at(bytes, 1);
     if MOST_LINES < c as usize {
         return Measure::LinesOut(c);
     }

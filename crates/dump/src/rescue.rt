@@ -16,7 +16,7 @@ use crate::write::write;
 use console::fill::fill;
 use index::fresh::fresh;
 use index::sound::used_slots;
-use night::salvage::{SalvageMade, salvage};
+use night::salvage::salvage;
 use slots::{MOST_CELLS, MOST_NAMES, MOST_SLOTS, NULL, STATE, get, word};
 
 // The line of a slot that was used and not kept.
@@ -43,10 +43,8 @@ fn tell_losses(out: &mut [u8], at: usize, n: u32, cells: &[u32], report: &[u32])
         ≡ typed (lent_paper out.old at) (loss_texts n cells.now report.now 0) }
 {
     let mut end = at;
-    let mut i: u32 = 0;
-    while i < n {
+    for i in 0..n {
         end = tell_loss(out, end, cells, report, i);
-        i += 1;
     }
     end
 }
@@ -60,16 +58,6 @@ fn tell_saved(out: &mut [u8], at: usize, n: u32, cells: &[u32], report: &[u32], 
     let used = used_slots(cells, n);
     let numbers = [kept as u64, used as u64];
     fill(out, listed, b"kept # of #\n", &numbers)
-}
-
-// The slots kept, 0 for a refusal.
-fn kept_of(made: SalvageMade) -> u32
-    ensures { result ≡ kept_of (salvage_of made).value }
-{
-    match made {
-        SalvageMade::Kept(kept) => kept,
-        SalvageMade::Unfit => 0,
-    }
 }
 
 // How many bytes of a dump and of a text were written.
@@ -105,9 +93,8 @@ fn save_into(
         (lent names2.old cells2.old head2.old sizes2.old lines2.old)
         report.old)) }
 {
-    let made = fresh(names2, cells2, head2, sizes2, lines2);
-    let saved = salvage(names, cells, names2, cells2, head2, sizes2, report);
-    let kept = kept_of(saved);
+    let _ = fresh(names2, cells2, head2, sizes2, lines2);
+    let kept = salvage(names, cells, names2, cells2, head2, sizes2, report).unwrap_or(0);
     let dumped = write(out, 0, n, c, names2, cells2, head2, sizes2, lines2);
     let said = tell_saved(text, 0, n, cells, report, kept);
     Rescued { dumped, said }
@@ -208,14 +195,9 @@ fn save_bytes(bytes: &[u8], out: &mut [u8], text: &mut [u8]) -> Rescued
     ensures { (lent_paper out.new result.dumped ≡ typed (lent_paper out.old 0) (rescue_bytes bytes.now))
         × (lent_paper text.new result.said ≡ typed (lent_paper text.old 0) (rescue_words bytes.now)) }
 {
-    let measure = gauge(bytes);
-    match measure {
+    match gauge(bytes) {
         Measure::Whole(n, c) => save_dump(bytes, n, c, out, text),
-        Measure::Stub(b) => save_none(bytes, text),
-        Measure::SlotsOut(n) => save_none(bytes, text),
-        Measure::LinesOut(c) => save_none(bytes, text),
-        Measure::Short(b, n, c) => save_none(bytes, text),
-        Measure::Long(n, c) => save_none(bytes, text),
+        _ => save_none(bytes, text),
     }
 }
 

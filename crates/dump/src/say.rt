@@ -11,7 +11,7 @@ use console::fill::fill;
 use console::paper::put_word;
 use night::account::Account;
 use night::breach::Breach;
-use night::examine::{Finding, examine};
+use night::examine::examine;
 use slots::NULL;
 
 // The sentence of a breach.
@@ -184,13 +184,10 @@ pub(crate) fn tell_tree(
         ≡ typed (lent_paper out.old at)
         (tree_text (lent_tree names.now cells.now head.now sizes.now)) }
 {
-    let found = examine(names, cells, head, sizes);
-    match found {
-        Finding::Sound => put_word(out, at, b"sound\n"),
-        Finding::Broken(told, breach) => {
-            tell_broken(out, at, names.len() / 2, cells, told, breach)
-        }
-        Finding::Unfit => {
+    match examine(names, cells, head, sizes) {
+        Ok(None) => put_word(out, at, b"sound\n"),
+        Ok(Some((told, breach))) => { tell_broken(out, at, names.len() / 2, cells, told, breach) }
+        Err(_) => {
             let numbers = [
                 names.len() as u64,
                 cells.len() as u64,

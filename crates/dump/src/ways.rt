@@ -12,8 +12,7 @@ fn put_step(out: &mut [u8], at: usize, cells: &[u32], i: u32) -> usize
     ensures { lent_paper out.new result ≡ typed (lent_paper out.old at) (step_text cells.now i) }
 {
     let numbers = [i as u64];
-    let red = is_red(cells, i);
-    if red {
+    if is_red(cells, i) {
         return fill(out, at, b"# red", &numbers);
     }
     fill(out, at, b"# black", &numbers)
@@ -41,15 +40,13 @@ fn put_onward(out: &mut [u8], at: usize, cells: &[u32], i: u32, budget: usize) -
 {
     let mut end = at;
     let mut link = i;
-    let mut left = budget;
-    while 0 < left {
+    for _ in 0..budget {
         if link == NULL {
             return end;
         }
         let next = put_word(out, end, b", ");
         end = put_step(out, next, cells, link);
         link = get(cells, link, LEFT);
-        left -= 1;
     }
     end
 }

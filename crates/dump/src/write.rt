@@ -1,5 +1,5 @@
 // The bytes of a dump, written to a lent buffer.
-ghost use Rattle.std.specs.Prelude.{◌≡◌};
+ghost use Rattle.std.specs.Prelude.{◌≡◌, ℕ, map};
 ghost use Rattle.endian.specs.Bytes.{little, words_bytes};
 ghost use Rattle.index_rules.specs.Index.{lent};
 ghost use Rattle.script_rules.specs.Feeding.{typed, lent_paper};
@@ -13,45 +13,45 @@ fn put_little(out: &mut [u8], at: usize, x: u64, k: usize) -> usize
 {
     let mut end = at;
     let mut rest = x;
-    let mut left = k;
-    while 0 < left {
+    for _ in 0..k {
         end = put_byte(out, end, (rest % 256) as u8);
-        rest = rest / 256;
-        left -= 1;
+        rest /= 256;
     }
     end
 }
 
-// Words of eight bytes each.
-fn put_wides(out: &mut [u8], at: usize, words: &[u64]) -> usize
-    ensures { lent_paper out.new result ≡ typed (lent_paper out.old at) (words_bytes 8 words.now) }
-{
-    let mut end = at;
-    let mut i = 0;
-    while i < words.len() {
-        end = put_little(out, end, words[i], 8);
-        i += 1;
+// A word as a number.
+trait Number: Copy {
+    ghost number: { Self → ℕ };
+
+    fn number(self) -> u64
+        ensures { result ≡ number self };
+}
+
+impl Number for u64 {
+    ghost number = { λ x. x };
+
+    fn number(self) -> u64 {
+        self
     }
-    end
 }
 
-// A word as a number of 64 bits.
-fn widened(x: u32) -> u64
-    ensures { result ≡ x }
-{
-    x as u64
+impl Number for u32 {
+    ghost number = { λ x. x };
+
+    fn number(self) -> u64 {
+        self as u64
+    }
 }
 
-// Words of four bytes each.
-fn put_words(out: &mut [u8], at: usize, words: &[u32]) -> usize
-    ensures { lent_paper out.new result ≡ typed (lent_paper out.old at) (words_bytes 4 words.now) }
+// Words of k bytes each.
+fn put_words<W: Number>(out: &mut [u8], at: usize, words: &[W], k: usize) -> usize
+    ensures { lent_paper out.new result
+        ≡ typed (lent_paper out.old at) (words_bytes k (map W.number words.now)) }
 {
     let mut end = at;
-    let mut i = 0;
-    while i < words.len() {
-        let x = widened(words[i]);
-        end = put_little(out, end, x, 4);
-        i += 1;
+    for x in words {
+        end = put_little(out, end, x.number(), k);
     }
     end
 }
@@ -74,9 +74,9 @@ pub fn write(
 {
     let counted = put_little(out, at, n as u64, 4);
     let lined = put_little(out, counted, c as u64, 4);
-    let named = put_wides(out, lined, names);
-    let linked = put_words(out, named, cells);
-    let headed = put_words(out, linked, head);
-    let sized = put_words(out, headed, sizes);
-    put_wides(out, sized, lines)
+    let named = put_words(out, lined, names, 8);
+    let linked = put_words(out, named, cells, 4);
+    let headed = put_words(out, linked, head, 4);
+    let sized = put_words(out, headed, sizes, 4);
+    put_words(out, sized, lines, 8)
 }

@@ -1,32 +1,51 @@
--- A number from the top byte down, and words one after another.
+-- Words one after another, and the numbers of their bytes as the standard library reads them.
 use mathlib.Core.Path.{◌≡◌, refl, ap, sym, ◌∙◌}
-use mathlib.Core.List.{List, [], ◌∷◌, ◌++◌}
-use Prim.Native.Nat.{ℕ, zero, suc, ◌+◌, ◌-◌, ◌*◌, ◌/◌, ◌^◌, ◌<◌, ◌≤◌}
+use mathlib.Core.Bool.{Bool, true, false}
+use mathlib.Core.List.{List, [], ◌∷◌, ◌++◌, map}
+use Prim.Native.Nat.{ℕ, zero, suc, ◌+◌, ◌-◌, ◌*◌, ◌/◌, ◌<◌, ◌≤◌}
 use native.Mathlib.Numerals.{add-one}
 use native.Mathlib.Omega.{arith}
+use native.Mathlib.Nat.{le-div_iff_mul-le, mul_comm, mul-suc}
+use lib.Dec.{eqb}
 use lib.ListN.{length, take, drop, get_or, set, length-drop, drop_of_length-le}
-use lib.Seq.{drop-cons, take_all, take-suc-set}
+use lib.Seq.{take-suc-set}
 use borrow.Author.Tests.{lt-ltb, le-ltb}
+use Rattle.std.proofs.lemmas.Bool.{eq-eqb}
+use Rattle.std.proofs.lemmas.List.{map-append, length-take-le}
+use Rattle.std.specs.Int.{w32, w64, from_le_bytes}
+use Rattle.slots.specs.Words.{pick}
 use Rattle.endian.specs.Bytes.{number_of, word_in, words_in}
 
--- A byte in front of those that are read.
-pub number_on : (l : List ℕ) (j m : ℕ) → j < length l
-    → number_of (take (suc m) (drop j l)) ≡ get_or l j 0 + 256 * number_of (take m (drop (suc j) l))
+-- The number of the bytes from place j on, by the byte at that place.
+number_on : (l : List ℕ) (j : ℕ) → number_of (drop j l) ≡ get_or l j 0 + 256 * number_of (drop (suc j) l)
 unfolding number_of
-number_on l j m h = rw (drop-cons l j 0 h)
+number_on [] zero = refl
+number_on [] (suc j) = refl
+number_on (b ∷ l) zero = refl
+number_on (b ∷ l) (suc j) = number_on l j
 
-pub number_grows : {x b : ℕ} (m : ℕ) → x < 256 ^ m → b < 256 → 256 * x + b < 256 ^ suc m
-number_grows m h k = omega arith
+no_number : (l : List ℕ) (j : ℕ) → length l ≤ j → number_of (drop j l) ≡ 0
+unfolding number_of
+no_number l j h = rw (drop_of_length-le l {i = j} h)
 
-power_more : (m d : ℕ) → 256 ^ m ≤ 256 ^ (m + d)
-power_more m zero = let z : m + 0 ≡ m = omega arith in rw z (omega arith)
-power_more m (suc d) = let z : m + suc d ≡ suc (m + d) = omega arith in rw z (omega (arith, power_more m d))
+-- Four bytes, and eight.
+pub number_four : (l : List ℕ) → length l ≡ 4 → from_le_bytes w32 l ≡ number_of l
+number_four l h = omega (arith, number_on l 0, number_on l 1, number_on l 2, number_on l 3, no_number l 4 (omega arith))
 
--- Up to eight bytes fit 64 bits.
-pub number_fits : {x b : ℕ} (m : ℕ) → m ≤ 7 → x < 256 ^ m → b < 256 → 256 * x + b < 18446744073709551616
-number_fits m l h k =
-    let z : m + (7 - m) ≡ 7 = omega arith in
-    let p : 256 ^ m ≤ 256 ^ 7 = rw z at (power_more m (7 - m)) in omega arith
+pub number_eight : (l : List ℕ) → length l ≡ 8 → from_le_bytes w64 l ≡ number_of l
+number_eight l h =
+    omega (
+      arith,
+      number_on l 0,
+      number_on l 1,
+      number_on l 2,
+      number_on l 3,
+      number_on l 4,
+      number_on l 5,
+      number_on l 6,
+      number_on l 7,
+      no_number l 8 (omega arith),
+    )
 
 -- One word more, at the end of those that were read.
 words_more : (k : ℕ) (l : List ℕ) (i m : ℕ) → words_in k l i (suc m) ≡ words_in k l i m ++ (word_in k l (i + m) ∷ [])
@@ -41,16 +60,24 @@ unfolding words_in
 words_length k l i zero = refl
 words_length k l i (suc m) = ap suc (words_length k l (suc i) m)
 
--- A slice of which the first i words are written, one word on, and at its end.
-module _ (k : ℕ) (l words : List ℕ) (i : ℕ) where
-  pub written_on : {v : ℕ} → take i words ≡ words_in k l 0 i → i < length words → v ≡ word_in k l i
-      → take (i + 1) (set words i v) ≡ words_in k l 0 (i + 1)
+-- A slice of which the first i words are written, one word on.
+module _ {A : Type 0} (of : ℕ → A) (k : ℕ) (l : List ℕ) (words : List A) (i : ℕ) where
+  pub written_on : {v : A} → take i words ≡ map of (words_in k l 0 i) → i < length words → v ≡ of (word_in k l i)
+      → take (i + 1) (set words i v) ≡ map of (words_in k l 0 (i + 1))
   written_on {v} e h f =
       let start : 0 + i ≡ i = omega arith in
-      rw (add-one i) (take-suc-set words i v h ∙ rw (e, f) (sym (words_more k l 0 i ∙ rw start)))
+      rw (add-one i)
+      (take-suc-set words i v h
+      ∙ rw (e, f) (sym (ap (map of) (words_more k l 0 i ∙ rw start) ∙ map-append of (words_in k l 0 i) (word_in k l i ∷ []))))
 
-  pub written_all : take i words ≡ words_in k l 0 i → i ≤ length words → length words ≤ i → words ≡ words_in k l 0 (length words)
-  written_all e h g = let z : i ≡ length words = omega arith in sym (take_all i words g) ∙ e ∙ ap (words_in k l 0) z
+-- A number that is read of so many bytes.
+pub read_whole : {k v : ℕ} (l all : List ℕ) → length l ≡ k → all ≡ l → v ≡ number_of all → v ≡ pick (eqb (length l) k) (number_of l) 0
+read_whole {k} l all e f g = rw (eq-eqb (length l) k e) (g ∙ ap number_of f)
+
+no_bytes : (b : Bool) → pick b (number_of []) 0 ≡ 0
+unfolding number_of
+no_bytes true = refl
+no_bytes false = refl
 
 -- A word that is whole, and one that is not.
 module _ (k : ℕ) (l : List ℕ) (i : ℕ) where
@@ -58,40 +85,16 @@ module _ (k : ℕ) (l : List ℕ) (i : ℕ) where
   unfolding word_in
   word_whole h e = rw (lt-ltb i (length l / k) h) e
 
-  pub word_short : length l / k ≤ i → 0 ≡ word_in k l i
+  pub word_short : length l / k ≤ i → pick (eqb 0 k) (number_of []) 0 ≡ word_in k l i
   unfolding word_in
-  word_short h = rw (le-ltb i (length l / k) h)
+  word_short h = no_bytes (eqb 0 k) ∙ rw (le-ltb i (length l / k) h)
 
--- The bytes from a place on, to the end.
-pub from_place : (l : List ℕ) (a : ℕ) → take (length l - a) (drop a l) ≡ drop a l
-from_place l a = take_all (length l - a) (drop a l) (omega (arith, length-drop a l))
-
-pub past_end : (l : List ℕ) (a : ℕ) → length l ≤ a → drop (length l) l ≡ drop a l
-past_end l a h = drop_of_length-le l {i = length l} (omega arith) ∙ sym (drop_of_length-le l {i = a} h)
-
--- The bytes of a number from the top down: one byte more.
-module _ (l : List ℕ) (at k i : ℕ) {x b : ℕ} (more : 0 < i) (within : i ≤ k) (long : at + k ≤ length l) where
-  pub step_number : x ≡ number_of (take (k - i) (drop (at + i) l)) → b ≡ get_or l (at + (i - 1)) 0
-      → 256 * x + b ≡ number_of (take (k - (i - 1)) (drop (at + (i - 1)) l))
-  step_number e f =
-      let width : k - (i - 1) ≡ suc (k - i) = omega arith in
-      let place : suc (at + (i - 1)) ≡ at + i = omega arith in
-      rw (width, number_on l (at + (i - 1)) (k - i) (omega arith), place, ← e, ← f) (omega arith)
-
-  pub step_small : x < 256 ^ (k - i) → b < 256 → 256 * x + b < 256 ^ (k - (i - 1))
-  step_small h g = let width : k - (i - 1) ≡ suc (k - i) = omega arith in rw width (number_grows (k - i) h g)
-
-  pub step_fits : k ≤ 8 → x < 256 ^ (k - i) → b < 256 → 256 * x + b < 18446744073709551616
-  step_fits e h g = number_fits (k - i) (omega arith) h g
-
-pub no_bytes : (l : List ℕ) (at k : ℕ) → 0 ≡ number_of (take (k - k) (drop (at + k) l))
-unfolding number_of
-no_bytes l at k = let z : k - k ≡ 0 = omega arith in rw z
-
-pub all_bytes : (l : List ℕ) (at k i : ℕ) {x : ℕ} → i ≤ 0 → x ≡ number_of (take (k - i) (drop (at + i) l)) → x < 256 ^ (k - i)
-    → (x ≡ number_of (take k (drop at l))) × (x < 256 ^ k)
-all_bytes l at k i h e g =
-    let z : i ≡ 0 = omega arith in
-    let width : k - 0 ≡ k = omega arith in
-    let place : at + 0 ≡ at = omega arith in
-    (e ∙ rw (z, width, place), rw (z, width) at g)
+  pub word_cut : {p q : ℕ} → p ≡ k → q ≡ k → 0 < k → i < length l / k
+      → pick (eqb (length (take (p * i + q - p * i) (drop (p * i) l))) k) (number_of (take (p * i + q - p * i) (drop (p * i) l))) 0
+      ≡ word_in k l i
+  word_cut {p} {q} e f s h =
+      let n : p * i + q - p * i ≡ k = omega (arith, f) in
+      let most : suc i * k ≤ length l = (le-div_iff_mul-le s).0 h in
+      let long : length (take k (drop (k * i) l)) ≡ k =
+      length-take-le k (drop (k * i) l) (omega (arith, length-drop (k * i) l, most, mul_comm (suc i) k, mul-suc k i)) in
+      rw (n, e, eq-eqb (length (take k (drop (k * i) l))) k long) (word_whole h refl)

@@ -1,89 +1,86 @@
 // Words read from bytes, the lowest byte first.
 #![tactic(auto)]
 
-ghost use Rattle.std.specs.Prelude.{◌≡◌, ◌+◌, ◌*◌, ◌≤◌, ◌<◌, ◌^◌, length, take, drop};
+ghost use Rattle.std.specs.Prelude.{◌≡◌, ℕ, ◌*◌, ◌<◌, length, map, drop, eqb};
+ghost use Rattle.std.proofs.Common.{rules};
+ghost use Rattle.slots.specs.Words.{pick};
 ghost use Rattle.endian.specs.Bytes.{number_of, word_in, words_in};
 
-// A byte as a word.
-fn widened(b: u8) -> u64
-    ensures { (result ≡ b) × (result < 256) }
-{
-    b as u64
+// What a word of a row is: so many bytes, at least one, and what it is of its number.
+pub trait Word: Copy {
+    ghost WIDTH: { ℕ };
+
+    const WIDTH: usize;
+
+    ghost of: { ℕ → Self };
+
+    // The word whose bytes these are; 0 where they are not so many.
+    fn whole(bytes: &[u8]) -> Self
+        ensures { result ≡ of (pick (eqb (length bytes.now) WIDTH) (number_of bytes.now) 0) };
+
+    ghost some: { 0 < WIDTH };
 }
 
-// The number of the k bytes from one on, of which there are at most eight.
-fn number_at(bytes: &[u8], at: usize, k: usize) -> u64
-    requires { (at + k ≤ length bytes.now) × (k ≤ 8) }
-    ensures { (result ≡ number_of (take k (drop at bytes.now))) × (result < 256 ^ k) }
-{
-    let mut x: u64 = 0;
-    let mut i = k;
-    while 0 < i {
-        i -= 1;
-        let b = widened(bytes[at + i]);
-        x = 256 * x + b;
-    }
-    x
-}
+impl Word for u64 {
+    ghost WIDTH = { 8 };
 
-// Word i of eight bytes each; 0 where it is not whole.
-pub fn wide_at(bytes: &[u8], i: usize) -> u64
-    ensures { result ≡ word_in 8 bytes.now i }
-{
-    if i < bytes.len() / 8 {
-        return number_at(bytes, 8 * i, 8);
-    }
-    0
-}
+    const WIDTH: usize = 8;
 
-// Word i of four bytes each; 0 where it is not whole.
-pub fn word_at(bytes: &[u8], i: usize) -> u32
-    ensures { result ≡ word_in 4 bytes.now i }
-{
-    if i < bytes.len() / 4 {
-        return number_at(bytes, 4 * i, 4) as u32;
-    }
-    0
-}
+    ghost of = { λ n. n };
 
-// Fills the words with those of eight bytes each.
-pub fn read_wides(words: &mut [u64], bytes: &[u8])
-    ensures { words.new ≡ words_in 8 bytes.now 0 (length words.old) }
-{
-    let mut i = 0;
-    while i < words.len() {
-        words[i] = wide_at(bytes, i);
-        i += 1;
+    ghost some = { Prim.search rules };
+
+    fn whole(bytes: &[u8]) -> u64 {
+        match <[u8; 8]>::try_from(bytes) {
+            Ok(all) => u64::from_le_bytes(all),
+            Err(_) => 0,
+        }
     }
 }
 
-// Fills the words with those of four bytes each.
-pub fn read_words(words: &mut [u32], bytes: &[u8])
-    ensures { words.new ≡ words_in 4 bytes.now 0 (length words.old) }
+impl Word for u32 {
+    ghost WIDTH = { 4 };
+
+    const WIDTH: usize = 4;
+
+    ghost of = { λ n. n };
+
+    ghost some = { Prim.search rules };
+
+    fn whole(bytes: &[u8]) -> u32 {
+        match <[u8; 4]>::try_from(bytes) {
+            Ok(all) => u32::from_le_bytes(all),
+            Err(_) => 0,
+        }
+    }
+}
+
+// Word i; 0 where it is not whole.
+pub fn word_at<T: Word>(bytes: &[u8], i: usize) -> T
+    ensures { result ≡ T.of (word_in T.WIDTH bytes.now i) }
 {
-    let mut i = 0;
-    while i < words.len() {
+    if i < bytes.len() / T::WIDTH {
+        let at = T::WIDTH * i;
+        return T::whole(&bytes[at..at + T::WIDTH]);
+    }
+    T::whole(&[])
+}
+
+// Fills the words with those that the bytes begin with; 0 where they end.
+pub fn read_words<T: Word>(words: &mut [T], bytes: &[u8])
+    ensures { words.new ≡ map T.of (words_in T.WIDTH bytes.now 0 (length words.old)) }
+{
+    for i in 0..words.len() {
         words[i] = word_at(bytes, i);
-        i += 1;
     }
 }
 
-// The bytes behind so many words of eight bytes each.
-pub fn after_wides(bytes: &[u8], count: usize) -> &[u8]
-    ensures { result.now ≡ drop (8 * count) bytes.now }
+// The bytes behind so many words.
+pub fn after_words<T: Word>(bytes: &[u8], count: usize) -> &[u8]
+    ensures { result.now ≡ drop (T.WIDTH * count) bytes.now }
 {
-    if count <= bytes.len() / 8 {
-        return &bytes[8 * count..];
+    if count <= bytes.len() / T::WIDTH {
+        return &bytes[T::WIDTH * count..];
     }
-    &bytes[bytes.len()..]
-}
-
-// The bytes behind so many words of four bytes each.
-pub fn after_words(bytes: &[u8], count: usize) -> &[u8]
-    ensures { result.now ≡ drop (4 * count) bytes.now }
-{
-    if count <= bytes.len() / 4 {
-        return &bytes[4 * count..];
-    }
-    &bytes[bytes.len()..]
+    &[]
 }

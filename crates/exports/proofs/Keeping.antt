@@ -5,7 +5,12 @@ use Prim.Native.Nat.{ℕ, ◌+◌, ◌*◌}
 use lib.ListN.{length, get_or, set}
 use borrow.Author.Tests.{eq-eqb, ne_eqb}
 use Rattle.slots.specs.Answers.{Answer}
-use Rattle.set_rules.specs.Cursor.{Cursor, Step}
+use Rattle.std.specs.Result.{result_unwrap_or}
+use Rattle.std.specs.Prelude.{Result, Ok, Err}
+use Rattle.set_rules.specs.Cursor.{Cursor, Step, blank_cursor}
+use Rattle.sets.specs.Cursors.{cursor_of, started_of, start_of}
+use Rattle.sets.specs.declared.walk.Cursor.{Cursor as CursorCode}
+use Rattle.sets.specs.declared.lookup.NoTable.{NoTable}
 use Rattle.slots.specs.Answers.{answer_word}
 use Rattle.word_rules.specs.Cursors.{cursor_in, written, left_in, of_eleven}
 
@@ -49,3 +54,9 @@ pub long : (w : List ℕ) {u : List ℕ} {r : ℕ} {a : Answer} {c : Cursor} {s 
     → record { answer = a; cursor = c } ≡ s → u ≡ left_in w r c
     → record { word = r; cursor = u } ≡ of_eleven w s
 long w l e f g = rw (eq-eqb (length w) 11 l, g, e, ← f)
+
+-- What start gives, or the blank cursor beside a refusal, is what the model's start leaves.
+pub start_kept : (r : Result CursorCode NoTable) {b c : CursorCode} → cursor_of b ≡ blank_cursor → c ≡ result_unwrap_or r b
+    → record { answer = started_of r; cursor = cursor_of c } ≡ start_of r
+start_kept (Ok made) e f = rw f
+start_kept (Err refusal) e f = rw (f, e)

@@ -7,54 +7,43 @@ ghost use Rattle.word_rules.specs.Loaders.{SaveWorded, save_worded, loader_in, l
 ghost use Rattle.word_rules.specs.Loaders.{load_worded, chunk_loaded, ended_loader};
 ghost use Rattle.exports.specs.Coded.{loader_at_of};
 
-use file::loader::{LoadNote, Loader};
-use file::notes::LoadNoteAt;
+use file::loader::Loader;
+use file::notes::{of_word, word as note_word};
 use file::save::save;
-use slots::answer::{answer_word, packed};
-use slots::{put_wide, wide};
+use slots::answer::{Answers, answer_word, packed};
+use slots::{put_word, word};
 
-// The loader that eight words say, unless they say none.
-#[derive(Clone, Copy)]
-pub(crate) enum LoaderAt {
-    Known(Loader),
-    Unknown,
-}
-
-fn read_loader(words: &[u64]) -> LoaderAt
+// The loader that eight words say, if they say one.
+fn read_loader(words: &[u64]) -> Option<Loader>
     ensures { loader_at_of result ≡ loader_in words.now }
 {
     if words.len() != 8 {
-        return LoaderAt::Unknown;
+        return None;
     }
-    let said = LoadNote::of_word(wide(words, 7));
-    let LoadNoteAt::Known(note) = said else {
-        return LoaderAt::Unknown;
-    };
-    let loader = Loader {
-        section: wide(words, 0),
-        at: wide(words, 1),
-        part: wide(words, 2),
-        tables: wide(words, 3),
-        words: wide(words, 4),
-        headers: wide(words, 5),
-        slots: wide(words, 6),
+    let note = of_word(word(words, 7, 0))?;
+    Some(Loader {
+        section: word(words, 0, 0),
+        at: word(words, 1, 0),
+        part: word(words, 2, 0),
+        tables: word(words, 3, 0),
+        words: word(words, 4, 0),
+        headers: word(words, 5, 0),
+        slots: word(words, 6, 0),
         note,
-    };
-    LoaderAt::Known(loader)
+    })
 }
 
 fn write_loader(words: &mut [u64], loader: Loader)
     ensures { words.new ≡ loader_written words.old (loader_words loader) }
 {
-    put_wide(words, 0, loader.section);
-    put_wide(words, 1, loader.at);
-    put_wide(words, 2, loader.part);
-    put_wide(words, 3, loader.tables);
-    put_wide(words, 4, loader.words);
-    put_wide(words, 5, loader.headers);
-    put_wide(words, 6, loader.slots);
-    let note = loader.note;
-    put_wide(words, 7, note.word());
+    put_word(words, 0, loader.section);
+    put_word(words, 1, loader.at);
+    put_word(words, 2, loader.part);
+    put_word(words, 3, loader.tables);
+    put_word(words, 4, loader.words);
+    put_word(words, 5, loader.headers);
+    put_word(words, 6, loader.slots);
+    put_word(words, 7, note_word(loader.note));
 }
 
 // The bytes of an accepted set's file, written at the front of `out`; a refused call writes nothing.
@@ -108,8 +97,7 @@ pub extern "C" fn oz_load_chunk(
         (lent_set lengths.old bins.old heads.old names.old cells.old)
         loader.old chunk.now }
 {
-    let said = read_loader(loader);
-    let LoaderAt::Known(kept) = said else {
+    let Some(kept) = read_loader(loader) else {
         return packed(1, 0);
     };
     let load = kept.chunk(lengths, bins, heads, names, cells, chunk);
@@ -135,8 +123,7 @@ pub extern "C" fn oz_load_end(
         (lent_set lengths.old bins.old heads.old names.old cells.old)
         loader.old }
 {
-    let said = read_loader(loader);
-    let LoaderAt::Known(kept) = said else {
+    let Some(kept) = read_loader(loader) else {
         return packed(1, 0);
     };
     let load = kept.end(lengths, bins, heads, names, cells);

@@ -1,6 +1,6 @@
 // The frozen set's entry points.
 ghost use Rattle.std.specs.Prelude.{◌≡◌};
-ghost use Rattle.tree_rules.specs.Find.{counted};
+ghost use Rattle.tree_rules.specs.Find.{counted as countedLooks};
 ghost use Rattle.set_rules.specs.Words.{lent_set};
 ghost use Rattle.set_rules.specs.Accepting.{accepts};
 ghost use Rattle.set_rules.specs.Lookup.{lookups};
@@ -13,7 +13,8 @@ use crate::words::search_word;
 use sets::accept::accept;
 use sets::lookup::lookup;
 use sets::walk::Cursor;
-use slots::answer::{answer_word, packed};
+use slots::answer::{Answers, answer_word, packed};
+use tree::find::counted_by;
 
 // Whether a frozen set is accepted.
 #[unsafe(no_mangle)]
@@ -45,12 +46,12 @@ pub extern "C" fn oz_lookup(
     key: u64,
 ) -> u64
     ensures { result
-        ≡ search_word (counted (lookups
+        ≡ search_word (countedLooks (lookups
         (lent_set lengths.now bins.now heads.now names.now
         cells.now) table hash key)) }
 {
     let looked = lookup(lengths, bins, heads, names, cells, table, hash, key);
-    search_word(looked.counted())
+    search_word(counted_by(looked))
 }
 
 // A cursor at the first bin of a table, written into eleven words; a refused call leaves them as they were.
@@ -71,11 +72,9 @@ pub extern "C" fn oz_start(
     if cursor.len() != 11 {
         return packed(1, 0);
     }
-    let start = Cursor::start(lengths, bins, heads, names, cells, table);
-    let started_cursor = start.answer;
-    let made = start.cursor;
-    let told = answer_word(started_cursor.answer());
-    keep(cursor, told, made);
+    let started = Cursor::start(lengths, bins, heads, names, cells, table);
+    let told = answer_word(started.answer());
+    keep(cursor, told, started.unwrap_or(Cursor::blank()));
     told
 }
 

@@ -5,7 +5,7 @@ ghost use Rattle.move_rules.specs.Moving.{moves};
 ghost use Rattle.word_rules.specs.Words.{MoveWorded, move_worded};
 
 use mover::moving::move_bin;
-use slots::answer::answer_word;
+use slots::answer::{Answers, answer_word};
 
 // How many entries of a bin of a table went to the two bins below it; a refused call writes nothing.
 #[unsafe(no_mangle)]

@@ -1,6 +1,6 @@
 // The live tree's entry points that only read.
 ghost use Rattle.std.specs.Prelude.{◌≡◌};
-ghost use Rattle.tree_rules.specs.Find.{counted};
+ghost use Rattle.tree_rules.specs.Find.{counted as countedLooks};
 ghost use Rattle.index_rules.specs.Live.{lent_tree, unsized};
 ghost use Rattle.index_rules.specs.Find.{finds};
 ghost use Rattle.index_rules.specs.Check.{checks};
@@ -15,15 +15,16 @@ use index::find::find;
 use index::sound::sound;
 use ranks::kth::kth;
 use ranks::position::position;
-use slots::answer::{answer_word, word_with};
+use slots::answer::{Answers, answer_word, word_with};
+use tree::find::counted_by;
 
 // The slot of a live tree that has a pair, and how many slots were looked at.
 #[unsafe(no_mangle)]
 pub extern "C" fn oz_find(names: &[u64], cells: &[u32], head: &[u32], hash: u64, key: u64) -> u64
-    ensures { result ≡ search_word (counted (finds (unsized names.now cells.now head.now) hash key)) }
+    ensures { result ≡ search_word (countedLooks (finds (unsized names.now cells.now head.now) hash key)) }
 {
     let found = find(names, cells, head, hash, key);
-    search_word(found.counted())
+    search_word(counted_by(found))
 }
 
 // The source's own check of a live tree.

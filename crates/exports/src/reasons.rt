@@ -6,16 +6,17 @@ ghost use Rattle.night.specs.Shown.{telling_shown};
 ghost use Rattle.night.specs.Whys.{why_of};
 ghost use Rattle.word_rules.specs.Words.{WhyWorded, why_worded};
 
-use night::why::{Explanation, why};
-use slots::answer::{answer_word, packed};
+use night::account::Account;
+use night::why::why;
+use slots::answer::{Answers, Unfit, answer_word, packed};
 use slots::put_word;
 
 // Slot, other, then two ways, each its last slot, side, blacks; a refusal leaves the words as they were.
-fn show(shown: &mut [u32], told: Explanation)
+fn show(shown: &mut [u32], told: Result<Account, Unfit>)
     requires { length shown.old ≡ 8 }
     ensures { shown.new ≡ telling_shown (why_of told) shown.old }
 {
-    let Explanation::Told(account) = told else {
+    let Ok(account) = told else {
         return;
     };
     let one = account.one;

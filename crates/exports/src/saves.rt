@@ -5,7 +5,7 @@ ghost use Rattle.night_rules.specs.Salvage.{salvages};
 ghost use Rattle.word_rules.specs.Words.{SalvageWorded, salvage_worded};
 
 use night::salvage::salvage;
-use slots::answer::answer_word;
+use slots::answer::{Answers, answer_word};
 
 // How many slots of the first tree are kept: each is inserted into the second, and the report says what became of each slot; a refused
 // call writes nothing.

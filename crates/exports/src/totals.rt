@@ -4,7 +4,7 @@ ghost use Rattle.set_rules.specs.Words.{lent_set};
 ghost use Rattle.figure_rules.specs.Tally.{tallies};
 ghost use Rattle.word_rules.specs.Words.{TallyWorded, tally_worded};
 
-use slots::answer::answer_word;
+use slots::answer::{Answers, answer_word};
 use tally::tally::tally;
 
 // 1 where the set is counted as accepted, 0 where as refused; a refused call leaves the totals as they were.

@@ -5,60 +5,49 @@ ghost use Rattle.reader.specs.Meanings.{words_of};
 ghost use Rattle.word_rules.specs.Readers.{reader_in, reader_written, read_worded, started_reader, chunk_read, ended_reader};
 ghost use Rattle.exports.specs.Coded.{reader_at_of};
 
-use reader::notes::NoteAt;
-use reader::words::{Note, Reader};
-use slots::answer::{answer_word, packed};
-use slots::{put_wide, wide};
+use reader::notes::{of_word, word as note_word};
+use reader::words::Reader;
+use slots::answer::{Answers, answer_word, packed};
+use slots::{put_word, word};
 
-// The reader that eight words say, unless they say none.
-#[derive(Clone, Copy)]
-pub(crate) enum ReaderAt {
-    Known(Reader),
-    Unknown,
-}
-
-fn read_words(words: &[u64]) -> ReaderAt
+// The reader that eight words say, if they say one.
+fn read_words(words: &[u64]) -> Option<Reader>
     ensures { reader_at_of result ≡ reader_in words.now }
 {
     if words.len() != 8 {
-        return ReaderAt::Unknown;
+        return None;
     }
-    let marked = wide(words, 5);
+    let marked = word(words, 5, 0);
     if marked == 0 {
-        return ReaderAt::Unknown;
+        return None;
     }
     if 4294967296 < marked {
-        return ReaderAt::Unknown;
+        return None;
     }
-    let said = Note::of_word(wide(words, 7));
-    let NoteAt::Known(note) = said else {
-        return ReaderAt::Unknown;
-    };
-    let reader = Reader {
-        section: wide(words, 0),
-        got: wide(words, 1),
-        owed: wide(words, 2),
-        hash: wide(words, 3),
-        key: wide(words, 4),
+    let note = of_word(word(words, 7, 0))?;
+    Some(Reader {
+        section: word(words, 0, 0),
+        got: word(words, 1, 0),
+        owed: word(words, 2, 0),
+        hash: word(words, 3, 0),
+        key: word(words, 4, 0),
         mark: (marked - 1) as u32,
-        taken: wide(words, 6),
+        taken: word(words, 6, 0),
         note,
-    };
-    ReaderAt::Known(reader)
+    })
 }
 
 fn write_words(words: &mut [u64], reader: Reader)
     ensures { words.new ≡ reader_written words.old (words_of reader) }
 {
-    put_wide(words, 0, reader.section);
-    put_wide(words, 1, reader.got);
-    put_wide(words, 2, reader.owed);
-    put_wide(words, 3, reader.hash);
-    put_wide(words, 4, reader.key);
-    put_wide(words, 5, reader.mark as u64 + 1);
-    put_wide(words, 6, reader.taken);
-    let note = reader.note;
-    put_wide(words, 7, note.word());
+    put_word(words, 0, reader.section);
+    put_word(words, 1, reader.got);
+    put_word(words, 2, reader.owed);
+    put_word(words, 3, reader.hash);
+    put_word(words, 4, reader.key);
+    put_word(words, 5, reader.mark as u64 + 1);
+    put_word(words, 6, reader.taken);
+    put_word(words, 7, note_word(reader.note));
 }
 
 // Begins an upload: the reader is written, and nothing else; a refused call leaves it as it was.
@@ -106,8 +95,7 @@ pub extern "C" fn oz_read_chunk(
         ≡ chunk_read (lent names.old cells.old head.old sizes.old lines.old)
         reader.old chunk.now }
 {
-    let said = read_words(reader);
-    let ReaderAt::Known(kept) = said else {
+    let Some(kept) = read_words(reader) else {
         return packed(1, 0);
     };
     let read = kept.chunk(names, cells, head, sizes, lines, chunk);
@@ -132,8 +120,7 @@ pub extern "C" fn oz_read_end(
         ≡ ended_reader (lent names.old cells.old head.old sizes.old lines.old)
         reader.old }
 {
-    let said = read_words(reader);
-    let ReaderAt::Known(kept) = said else {
+    let Some(kept) = read_words(reader) else {
         return packed(1, 0);
     };
     let read = kept.end(names, cells, head, sizes, lines);

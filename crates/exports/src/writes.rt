@@ -15,7 +15,7 @@ use index::insert::insert;
 use index::remove::remove;
 use index::replace::replace;
 use index::rollback::rollback;
-use slots::answer::answer_word;
+use slots::answer::{Answers, answer_word};
 
 // An empty index is written into slices of fit lengths.
 #[unsafe(no_mangle)]

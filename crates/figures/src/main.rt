@@ -2,7 +2,6 @@
 // of them. On a terminal it tells on standard error how many sets are counted, every 10,000 sets.
 #![tactic(auto)]
 
-use slots::answer::Value;
 use std::io;
 use std::io::{IsTerminal, Read, Stderr, Stdin, Stdout};
 use tally::figure::Figured;
@@ -27,25 +26,17 @@ const APART: u32 = 10000;
 
 // The sets that a call says are counted; 0 where it is refused.
 fn sets_of(figured: Figured) -> u32 {
-    let reply = figured.reply;
-    let answer = reply.answer();
-    let value = answer.value;
-    let Value::Some(sets) = value else {
-        return 0;
-    };
-    sets
+    figured.reply.unwrap_or(0)
 }
 
 // A line of progress for each ten thousand that is reached, and how many were told.
 fn progress(stderr: Stderr, told: u32, sets: u32) -> io::Result<u32> {
     let reached = sets / APART;
-    let mut k = told;
-    while k < reached {
-        k += 1;
+    for k in told..reached {
         stderr.write_all(b"sets ")?;
-        stderr.println(k as u64 * APART as u64)?;
+        stderr.println((k as u64 + 1) * APART as u64)?;
     }
-    Ok(k)
+    Ok(told.max(reached))
 }
 
 // Progress is told on a terminal alone.
@@ -80,8 +71,7 @@ fn serve(
         }
         let figured = kept.chunk(lengths, bins, heads, names, cells, totals, &chunk[..n]);
         told = progress_if(stderr, terminal, told, sets_of(figured))?;
-        let next = figured.stream;
-        kept = next;
+        kept = figured.stream;
     }
     Ok(kept)
 }

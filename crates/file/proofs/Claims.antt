@@ -1,6 +1,7 @@
 -- Every claim of the crate holds: what a call returns and leaves is read back off its outcome.
 use mathlib.Core.Path.{◌≡◌, refl, ap, sym, ◌∙◌}
 use Prim.Native.Nat.{ℕ}
+use Rattle.std.specs.Prelude.{Option, None, Some, Result, Ok, Err}
 use lib.Dec.{eqb}
 use Rattle.slots.specs.Words.{pick}
 use Rattle.slots.specs.Answers.{Value, some, none}
@@ -17,29 +18,25 @@ use Rattle.file_rules.specs.Loading.{LoadOutcome}
 use Rattle.file.specs.Saved.{save_of}
 use Rattle.file.specs.Meanings.{load_reply_of, load_note_of, loader_words, loaded_of}
 use Rattle.file.specs.Notes.{load_note_at_of}
-use Rattle.file.specs.declared.save.SaveReply.{SaveReply}
-use Rattle.file.specs.declared.save.SaveReply.TheVariants.{Written, Unfit, Damaged}
-use Rattle.file.specs.declared.reply.LoadReply.{LoadReply}
-use Rattle.file.specs.declared.reply.LoadReply.TheVariants.{Taken, Short, Long, OverLimit, Unfit as NotFit, Damaged as NotSound}
-use Rattle.file.specs.declared.loader.LoadNote.{LoadNote}
-use Rattle.file.specs.declared.loader.LoadNote.TheVariants.{Unsaid, Said}
+use Rattle.slots.specs.declared.answer.Unsound.{Unsound}
+use Rattle.slots.specs.declared.answer.Unsound.TheVariants.{Unfit, Damaged}
+use Rattle.file.specs.declared.reply.LoadRefusal.{LoadRefusal}
+use Rattle.file.specs.declared.reply.LoadRefusal.TheVariants.{Short, Long, OverLimit, Unfit as NotFit, Damaged as NotSound}
 use Rattle.file.specs.declared.loader.Loader.{Loader}
-use Rattle.file.specs.declared.notes.LoadNoteAt.{LoadNoteAt}
-use Rattle.file.specs.declared.notes.LoadNoteAt.TheVariants.{Known, Unknown}
 use Rattle.file.specs.declared.load.Load.{Load}
 use Rattle.file.specs.Claims.{SaveReturned, LoadReturned, returned_by, Claims}
 use Rattle.file.proofs.Noting.{load_word_back, load_said_back}
 
-abbrev save_back : ℕ → Value → SaveReply
-save_back number (some value) = Written value
-save_back number none = pick (eqb number 1) Unfit Damaged
+abbrev save_back : ℕ → Value → Result ℕ Unsound
+save_back number (some value) = Ok value
+save_back number none = Err (pick (eqb number 1) Unfit Damaged)
 
-save_back_lem : (r : SaveReply) → save_back (save_of r).number (save_of r).value ≡ r
-save_back_lem (Written bytes) = refl
-save_back_lem Unfit = refl
-save_back_lem Damaged = refl
+save_back_lem : (r : Result ℕ Unsound) → save_back (save_of r).number (save_of r).value ≡ r
+save_back_lem (Ok bytes) = refl
+save_back_lem (Err Unfit) = refl
+save_back_lem (Err Damaged) = refl
 
-one_to_one : (a b : SaveReply) → save_of a ≡ save_of b → a ≡ b
+one_to_one : (a b : Result ℕ Unsound) → save_of a ≡ save_of b → a ≡ b
 one_to_one = told_apart save_of (λ a. save_back a.number a.value) save_back_lem
 
 returned_one : (a b : SaveReturned) → saved (save_of a.reply) a.out ≡ saved (save_of b.reply) b.out → a ≡ b
@@ -48,39 +45,39 @@ returned_one a b e =
     let o = ap (λ (x : Saved). x.out) e in
     λ i. record { reply = r i; out = o i }
 
-abbrev reply_back : ℕ → Value → LoadReply
-reply_back number (some value) = Taken value
+abbrev reply_back : ℕ → Value → Result ℕ LoadRefusal
+reply_back number (some value) = Ok value
 reply_back number none =
-    pick (eqb number 1) NotFit (pick (eqb number 2) NotSound (pick (eqb number 12) Short (pick (eqb number 13) Long OverLimit)))
+    Err (pick (eqb number 1) NotFit (pick (eqb number 2) NotSound (pick (eqb number 12) Short (pick (eqb number 13) Long OverLimit))))
 
-reply_back_lem : (r : LoadReply) → reply_back (load_reply_of r).number (load_reply_of r).value ≡ r
-reply_back_lem (Taken bytes) = refl
-reply_back_lem NotFit = refl
-reply_back_lem NotSound = refl
-reply_back_lem Short = refl
-reply_back_lem Long = refl
-reply_back_lem OverLimit = refl
+reply_back_lem : (r : Result ℕ LoadRefusal) → reply_back (load_reply_of r).number (load_reply_of r).value ≡ r
+reply_back_lem (Ok bytes) = refl
+reply_back_lem (Err NotFit) = refl
+reply_back_lem (Err NotSound) = refl
+reply_back_lem (Err Short) = refl
+reply_back_lem (Err Long) = refl
+reply_back_lem (Err OverLimit) = refl
 
-abbrev note_back : Note → LoadNote
-note_back unsaid = Unsaid
-note_back (said a) = Said (reply_back a.number a.value)
+abbrev note_back : Note → Option (Result ℕ LoadRefusal)
+note_back unsaid = None
+note_back (said a) = Some (reply_back a.number a.value)
 
-note_back_lem : (n : LoadNote) → note_back (load_note_of n) ≡ n
-note_back_lem Unsaid = refl
-note_back_lem (Said r) = ap Said (reply_back_lem r)
+note_back_lem : (n : Option (Result ℕ LoadRefusal)) → note_back (load_note_of n) ≡ n
+note_back_lem None = refl
+note_back_lem (Some r) = ap Some (reply_back_lem r)
 
-abbrev note_at_back : NoteSaid → LoadNoteAt
-note_at_back (known n) = Known (note_back n)
-note_at_back unknown = Unknown
+abbrev note_at_back : NoteSaid → Option (Option (Result ℕ LoadRefusal))
+note_at_back (known n) = Some (note_back n)
+note_at_back unknown = None
 
-note_at_back_lem : (n : LoadNoteAt) → note_at_back (load_note_at_of n) ≡ n
-note_at_back_lem (Known n) = ap Known (note_back_lem n)
-note_at_back_lem Unknown = refl
+note_at_back_lem : (n : Option (Option (Result ℕ LoadRefusal))) → note_at_back (load_note_at_of n) ≡ n
+note_at_back_lem (Some n) = ap Some (note_back_lem n)
+note_at_back_lem None = refl
 
-notes : (a b : LoadNoteAt) → load_note_at_of a ≡ load_note_at_of b → a ≡ b
+notes : (a b : Option (Option (Result ℕ LoadRefusal))) → load_note_at_of a ≡ load_note_at_of b → a ≡ b
 notes = told_apart load_note_at_of note_at_back note_at_back_lem
 
-abbrev noted : Words → LoadNote → Loader
+abbrev noted : Words → Option (Result ℕ LoadRefusal) → Loader
 noted w n =
     record {
       section = w.section;

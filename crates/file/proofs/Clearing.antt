@@ -1,6 +1,6 @@
 -- Zeros are written one word after another: what is still to be zeroed from here is what was to be from the start.
 use mathlib.Core.Path.{◌≡◌, ◌∙◌}
-use mathlib.Core.List.{List, [], ◌∷◌, append-nil, append_assoc}
+use mathlib.Core.List.{List, [], ◌∷◌, ◌++◌, append-nil, append_assoc}
 use Prim.Native.Nat.{ℕ, suc, ◌+◌, ◌-◌, ◌*◌, ◌<◌, ◌≤◌}
 use native.Mathlib.Omega.{arith}
 use native.Mathlib.Numerals.{add-one}
@@ -11,14 +11,18 @@ use Rattle.set_rules.specs.Words.{Set, lent_set}
 use Rattle.file_rules.specs.Loader.{Loader, count_taken, note_in}
 use Rattle.file_rules.specs.Loading.{loading, zeros_for, rest_zeroed, rests_zeroed, load_refused}
 
-pub rest_on : (l : List ℕ) (i : ℕ) → i < length l → rest_zeroed (i + 1) (set l i 0) ≡ rest_zeroed i l
-rest_on l i h =
-    let long = length-set l i 0 in
-    let more : length l - i ≡ suc (length l - suc i) = omega arith in
-    rw (add-one i, long, more, take-suc-set l i 0 h) (append_assoc (take i l) (0 ∷ []) (replicate (length l - suc i) 0))
+-- The words from one on become a value.
+abbrev pub rest_filled : {A : Type 0} → A → ℕ → List A → List A
+rest_filled v n l = take n l ++ replicate (length l - n) v
 
-pub rest_end : (l : List ℕ) (i : ℕ) → length l ≤ i → rest_zeroed i l ≡ l
-rest_end l i h = let none : length l - i ≡ 0 = omega arith in rw (none, take_all i l h) (append-nil l)
+pub rest_on : {A : Type 0} (v : A) (l : List A) (i : ℕ) → i < length l → rest_filled v (i + 1) (set l i v) ≡ rest_filled v i l
+rest_on v l i h =
+    let long = length-set l i v in
+    let more : length l - i ≡ suc (length l - suc i) = omega arith in
+    rw (add-one i, long, more, take-suc-set l i v h) (append_assoc (take i l) (v ∷ []) (replicate (length l - suc i) v))
+
+pub rest_end : {A : Type 0} (v : A) (l : List A) (i : ℕ) → length l ≤ i → rest_filled v i l ≡ l
+rest_end v l i h = let none : length l - i ≡ 0 = omega arith in rw (none, take_all i l h) (append-nil l)
 
 zeros_all : (l : List ℕ) → rest_zeroed 0 l ≡ zeros_for l
 zeros_all l = let all : length l - 0 ≡ length l = omega arith in rw all

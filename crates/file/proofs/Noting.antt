@@ -2,28 +2,64 @@
 use Prim.{Unit, tt}
 use mathlib.Core.Path.{◌≡◌, refl, ap, sym, ◌∙◌, subst}
 use mathlib.Core.Logic.{◌≢◌}
-use Prim.Native.Nat.{ℕ, ◌+◌, ◌-◌, ◌*◌, ◌/◌, ◌%◌, ◌<◌}
+use mathlib.Core.Bool.{Bool, true, false}
+use Rattle.std.specs.Prelude.{Option, None, Some, unwrap_or, Result, Ok, Err}
+use Prim.Native.Nat.{ℕ, ◌+◌, ◌-◌, ◌*◌, ◌/◌, ◌%◌, ◌<◌, ◌≤◌}
 use native.Mathlib.Omega.{arith}
 use lib.Dec.{eqb}
 use borrow.Author.Tests.{eq-eqb, ne_eqb, eqb-true, eqb-false}
 use Rattle.slots.specs.Words.{pick}
-use Rattle.slots.specs.Answers.{given, refused, answer_word, value_beside}
+use Rattle.slots.specs.Answers.{given, refused, answer_word, word_of, value_beside}
+use Rattle.slots.specs.Coded.{value_of, answer_of}
+use Rattle.slots.specs.declared.answer.Answer.{Answer as AnswerCode}
+use Rattle.slots.proofs.Laws.{number}
 use Rattle.upload_rules.specs.Reader.{Note, unsaid, said}
 use Rattle.upload_rules.specs.Notes.{NoteSaid, known, unknown, note_word}
 use Rattle.upload_rules.proofs.Ranges.{pick_by}
 use Rattle.file.specs.Meanings.{load_reply_of, load_note_of}
 use Rattle.file.specs.Notes.{load_note_with, load_note_at}
-use Rattle.file.specs.declared.reply.LoadReply.{LoadReply}
-use Rattle.file.specs.declared.reply.LoadReply.TheVariants.{Taken, Unfit, Damaged, Short, Long, OverLimit}
-use Rattle.file.specs.declared.loader.LoadNote.{LoadNote}
-use Rattle.file.specs.declared.loader.LoadNote.TheVariants.{Unsaid, Said}
+use Rattle.file.specs.declared.reply.LoadRefusal.{LoadRefusal}
+use Rattle.file.specs.declared.reply.LoadRefusal.TheVariants.{Unfit, Damaged, Short, Long, OverLimit}
 
-pub said_word : {n : LoadNote} {reply : LoadReply} {w : ℕ} → n ≡ Said reply → w ≡ 1 + answer_word (load_reply_of reply) → w ≡ note_word
-    (load_note_of n)
+pick_same : (b : Bool) (v : ℕ) → pick b v v ≡ v
+pick_same true v = refl
+pick_same false v = refl
+
+-- A reply's number and value.
+few : (r : Result ℕ LoadRefusal) → (load_reply_of r).number ≤ 14
+few (Ok v) = omega arith
+few (Err Unfit) = omega arith
+few (Err Damaged) = omega arith
+few (Err Short) = omega arith
+few (Err Long) = omega arith
+few (Err OverLimit) = omega arith
+
+own_word : (r : Result ℕ LoadRefusal) → word_of 0 (load_reply_of r) ≡ answer_word (load_reply_of r)
+unfolding answer_word
+own_word (Ok v) = refl
+own_word (Err Unfit) = refl
+own_word (Err Damaged) = refl
+own_word (Err Short) = refl
+own_word (Err Long) = refl
+own_word (Err OverLimit) = refl
+
+beside : (n : ℕ) (o : Option ℕ) → unwrap_or o 0 ≡ value_beside 0 n (value_of o)
+beside n None = sym (pick_same (eqb n 0) 0)
+beside n (Some v) = refl
+
+pub said_few : (r : Result ℕ LoadRefusal) (a : AnswerCode) → answer_of a ≡ load_reply_of r → a.number ≤ 14
+said_few r a e = let f = number e in omega (arith, few r)
+
+pub said_word : {n : Option (Result ℕ LoadRefusal)} {r : Result ℕ LoadRefusal} (a : AnswerCode) {w : ℕ} → n ≡ Some r
+    → answer_of a ≡ load_reply_of r
+    → w ≡ unwrap_or a.value 0 + 4294967296 * a.number
+    → 1 + w ≡ note_word (load_note_of n)
 unfolding note_word
-said_word e f = f ∙ rw e
+said_word {r = r} a d e f =
+    ap (λ (x : ℕ). 1 + x) (f ∙ ap (λ (x : ℕ). x + 4294967296 * a.number) (beside a.number a.value) ∙ ap (word_of 0) e ∙ own_word r)
+    ∙ rw d
 
-pub unsaid_word : {n : LoadNote} → n ≡ Unsaid → 0 ≡ note_word (load_note_of n)
+pub unsaid_word : {n : Option (Result ℕ LoadRefusal)} → n ≡ None → 0 ≡ note_word (load_note_of n)
 unfolding note_word
 unsaid_word e = rw e
 
@@ -92,16 +128,16 @@ unfolding load_note_with
 over_note = refl
 
 -- What a noted answer's word says is that answer.
-pub load_word_back : (a : LoadReply) → value_beside 0 (load_reply_of a).number (load_reply_of a).value < 4294967296
+pub load_word_back : (a : Result ℕ LoadRefusal) → value_beside 0 (load_reply_of a).number (load_reply_of a).value < 4294967296
     → load_note_at (note_word (said (load_reply_of a))) ≡ known (said (load_reply_of a))
 unfolding load_note_at load_note_with note_word answer_word
-load_word_back (Taken v) l =
+load_word_back (Ok v) l =
     sym (at-given (1 + (v + 4294967296 * 0)) (λ z. omega arith) (omega arith) (ap (λ (x : ℕ). known (said (given x))) (omega arith)))
-load_word_back Unfit l = refl
-load_word_back Damaged l = refl
-load_word_back Short l = refl
-load_word_back Long l = refl
-load_word_back OverLimit l = refl
+load_word_back (Err Unfit) l = refl
+load_word_back (Err Damaged) l = refl
+load_word_back (Err Short) l = refl
+load_word_back (Err Long) l = refl
+load_word_back (Err OverLimit) l = refl
 
 -- What a word is known to say has this word.
 abbrev Has : ℕ → NoteSaid → Type 0

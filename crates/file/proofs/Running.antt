@@ -7,11 +7,11 @@ use mathlib.Core.List.{List, [], ◌∷◌, ◌++◌, append_assoc, append-nil}
 use Prim.Native.Nat.{ℕ, zero, suc, ◌+◌, ◌-◌, ◌*◌, ◌/◌, ◌%◌, ◌^◌, ◌<◌, ◌≤◌}
 use native.Mathlib.Omega.{arith}
 use native.Mathlib.Numerals.{add-one}
-use lib.ListN.{length, get_or, set, take, drop, length-set, length-drop, drop_of_length-le, take-append-drop, get_or-append}
-use lib.Seq.{sets, sets-eq, length-take-le, take-add, take-append-le, drop-append-le, drop_at, drop-drop, drop-cons}
+use lib.ListN.{length, get_or, set, take, drop, length-drop, drop_of_length-le, take-append-drop, get_or-append}
+use lib.Seq.{sets, sets-eq, length-take-le, take_all, take-add, take-append-le, drop-append-le, drop_at, drop-drop, drop-cons}
 use Rattle.endian.specs.Bytes.{Bytes, nothing, another, little, number_of, words_bytes, word_in, words_in}
 use Rattle.endian.proofs.Endian.{bytes_split, little_number, number_small, front_own}
-use Rattle.endian.proofs.Reading.{words_length, word_whole, from_place}
+use Rattle.endian.proofs.Reading.{words_length, word_whole}
 use Rattle.set_rules.specs.Words.{Set, lent_set}
 use Rattle.file_rules.specs.Layout.{slice_in, field_of, section_words, put_field}
 use Rattle.file_rules.specs.Loader.{Loader}
@@ -419,19 +419,11 @@ module _ (lengths bins heads : List ℕ) (s : ℕ) where
   section_heads j ws e f names cells = rw (f, e) (heads_put lengths bins heads names cells j ws heads)
 
 -- A slice from a word on, to its end.
+pub from_place : (l : List ℕ) (a : ℕ) → take (length l - a) (drop a l) ≡ drop a l
+from_place l a = take_all (length l - a) (drop a l) (omega (arith, length-drop a l))
+
 pub tail_back : (l : List ℕ) (a : ℕ) (f : List ℕ → List ℕ) {ys : List ℕ} → ys ≡ f (take (length l - a) (drop a l))
     → take a l ++ (ys ++ drop (length l - a) (drop a l)) ≡ take a l ++ f (drop a l)
 tail_back l a f {ys} e =
     let none : drop (length l - a) (drop a l) ≡ [] = drop_of_length-le (drop a l) {i = length l - a} (omega (arith, length-drop a l)) in
     rw (none, append-nil ys, e, from_place l a)
-
--- Slots put into a slice leave its length.
-pub names_long : (l bytes : List ℕ) (from n : ℕ) → length (slots_names l from bytes n) ≡ length l
-unfolding slots_names slot_names
-names_long l bytes from zero = refl
-names_long l bytes from (suc n) = simp length-set (names_long l bytes from n)
-
-pub cells_long : (l bytes : List ℕ) (from n : ℕ) → length (slots_cells l from bytes n) ≡ length l
-unfolding slots_cells slot_cells slot_links
-cells_long l bytes from zero = refl
-cells_long l bytes from (suc n) = simp length-set (cells_long l bytes from n)

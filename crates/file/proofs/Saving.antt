@@ -7,32 +7,17 @@ use native.Mathlib.Omega.{arith}
 use lib.ListN.{length, drop}
 use lib.Seq.{sets, sets-eq}
 use Rattle.slots.specs.Answers.{given, refused}
-use Rattle.slots.proofs.Laws.{number, given_is}
+use Rattle.slots.proofs.Laws.{given_is}
 use Rattle.upload_rules.proofs.Ranges.{no_test}
 use Rattle.set_rules.specs.Words.{Set, tables_of, Fit, fits}
 use Rattle.set_rules.specs.Accepting.{accepts}
 use Rattle.set_rules.proofs.Fit.{fits_exactly}
 use Rattle.set_rules.proofs.Judged.{judged}
-use Rattle.sets.specs.Verdicts.{accept_of}
-use Rattle.sets.specs.declared.accept.Acceptance.{Acceptance}
-use Rattle.sets.specs.declared.accept.Acceptance.TheVariants.{Yes, No, Unfit}
 use Rattle.file_rules.specs.File.{set_bytes, set_size}
 use Rattle.file_rules.specs.Saving.{saved, saves}
 use Rattle.file_rules.proofs.Returning.{bins_most}
 use Rattle.file_rules.proofs.Saving.{size_is, save_done, save_one, save_two}
 use Rattle.file.specs.Room.{FileRoom}
-use Rattle.file.specs.Saved.{is_yes}
-
--- Acceptance that says yes, and one that does not.
-yes_given : (a : Acceptance) → is_yes a ≡ true → accept_of a ≡ given 1
-yes_given Yes e = refl
-yes_given No e = absurd (no_test refl e)
-yes_given Unfit e = absurd (no_test refl e)
-
-no_given : (a : Acceptance) → is_yes a ≡ false → accept_of a ≡ given 1 → ⊥
-no_given Yes e g = no_test e refl
-no_given No e g = omega (arith, given_is g)
-no_given Unfit e g = omega (arith, number g)
 
 -- The size, as the code counts it.
 abbrev pub size_of : Set → ℕ
@@ -74,17 +59,14 @@ module _ (s : Set) (out : List ℕ) where
           room = omega (arith, f.three);
         }
 
-    pub damaged_saves : {size : ℕ} → size ≡ size_of s → size ≤ length out → (a : Acceptance) → accept_of a ≡ accepts s → is_yes a ≡ false
-        → saved (refused 2) out ≡ saves s out
-    damaged_saves z m a g n =
-        sym (save_two s out fit (λ h. no_given a n (g ∙ (judged.accepting s).yes.1 (fit, h))) (omega (arith, size_own)))
+    pub damaged_saves : {size : ℕ} → size ≡ size_of s → size ≤ length out → given 0 ≡ accepts s → saved (refused 2) out ≡ saves s out
+    damaged_saves z m g =
+        sym (save_two s out fit (λ h. omega (arith, given_is (g ∙ (judged.accepting s).yes.1 (fit, h)))) (omega (arith, size_own)))
 
-    pub done-saves : {size : ℕ} {l : List ℕ} → size ≡ size_of s → size ≤ length out → (a : Acceptance) → accept_of a ≡ accepts s
-        → is_yes a ≡ true
-        → l ≡ sets out 0 (set_bytes s)
+    pub done-saves : {size : ℕ} {l : List ℕ} → size ≡ size_of s → size ≤ length out → given 1 ≡ accepts s → l ≡ sets out 0 (set_bytes s)
         → saved (given size) l ≡ saves s out
-    done-saves {size} {l} z m a g y w =
-        let h = ((judged.accepting s).yes.0 (sym g ∙ yes_given a y)).1 in
+    done-saves {size} {l} z m g w =
+        let h = ((judged.accepting s).yes.0 (sym g)).1 in
         let three = fit.three in
         let long : length (set_bytes s) ≡ set_size s = size_is s (omega arith) in
         let own : size ≡ set_size s = z ∙ sym size_own in

@@ -5,8 +5,8 @@ use mathlib.Core.Logic.{◌≢◌}
 use mathlib.Core.List.{List, [], ◌∷◌, ◌++◌}
 use Prim.Native.Nat.{ℕ, zero, suc, ◌+◌, ◌-◌, ◌*◌, ◌/◌, ◌%◌, ◌<◌, ◌≤◌, min}
 use native.Mathlib.Omega.{arith}
-use lib.ListN.{length, get_or, take, drop, length-drop, take-append-drop}
-use lib.Seq.{take-length, drop-drop, drop-length, length-take-le}
+use lib.ListN.{length, get_or, take, drop, take-append-drop}
+use lib.Seq.{take-length, length-take-le}
 use lib.Dec.{leb}
 use borrow.Author.Tests.{leb-true, eq-eqb, ne_eqb}
 use Rattle.slots.specs.Answers.{Answer, given, refused}
@@ -14,6 +14,7 @@ use Rattle.slots.proofs.Laws.{number, given_is}
 use Rattle.endian.specs.Bytes.{Bytes, words_in}
 use Rattle.endian.proofs.Endian.{bytes_split}
 use Rattle.upload_rules.specs.Reader.{unsaid, said}
+use Rattle.upload_rules.proofs.Ranges.{no_test}
 use Rattle.index_rules.proofs.Fit.{both}
 use Rattle.set_rules.specs.Words.{Set, lent_set, fits}
 use Rattle.set_rules.specs.Accepting.{accepted, accepts}
@@ -25,6 +26,9 @@ use Rattle.file_rules.proofs.Ranges.{byte_open, bytes_go, end_open, end_said, en
 use Rattle.file_rules.proofs.Testing.{in_goes, chunk_in, chunk_out, end_in, end_out}
 use Rattle.file_rules.proofs.Written.{bytes_said}
 use Rattle.file_rules.proofs.Bringing.{bytes_loaded_append, between_words}
+use Rattle.std.specs.Prelude.{Option, None, Some, is_some, Result}
+use Rattle.file.specs.Meanings.{load_reply_of, load_note_of}
+use Rattle.file.specs.declared.reply.LoadRefusal.{LoadRefusal}
 use Rattle.file.specs.Runs.{words_put, slots_names, slots_cells, WordsReady, SlotsReady, StepTaken}
 use Rattle.file.proofs.Running.{words_run, slots_run, names_tail, cells_tail}
 
@@ -176,38 +180,41 @@ module _ (r : Loader) (t : Set) (rest : List ℕ) (h : GoesOn (loading r t)) (b 
         ∙ ap (λ (z : Loader). loading z u2) (after ∙ sym eq))
 
 -- The chunk's loop: the bytes left come to what all of them come to.
-pub record Going (d : Loading) (chunk : List ℕ) (e : Loading) (at : ℕ) : Type 0 where
-  pub within : at ≤ length chunk
-  pub same : bytes_loaded e (drop at chunk) ≡ bytes_loaded d chunk
+pub record Going (d : Loading) (chunk : List ℕ) (e : Loading) (rest : List ℕ) : Type 0 where
+  pub same : bytes_loaded e rest ≡ bytes_loaded d chunk
   pub goes : GoesOn e
 
-pub going_start : (d : Loading) (chunk : List ℕ) → GoesOn d → Going d chunk d 0
-going_start d chunk h = record { within = omega arith; same = refl; goes = h }
+pub going_start : (d : Loading) (chunk : List ℕ) → GoesOn d → Going d chunk d chunk
+going_start d chunk h = record { same = refl; goes = h }
 
-pub going_on : {d e q : Loading} {chunk rest : List ℕ} {at used : ℕ} → Going d chunk e at → rest ≡ drop at chunk → StepTaken e rest used q
-    → Going d chunk q (at + used)
-going_on {d} {e} {q} {chunk} {rest} {at} {used} g er s =
-    let long = length-drop at chunk in
-    let most : used ≤ length (drop at chunk) = rw er at s.most in
-    let l = g.within in
+pub going_on : {d e q : Loading} {chunk rest left : List ℕ} {used : ℕ} → Going d chunk e rest → StepTaken e rest used q → left ≡ drop used
+    rest
+    → Going d chunk q left
+going_on {d} {e} {q} {chunk} {rest} {left} {used} g s f =
     record {
-      within = omega arith;
       same =
-          ap (bytes_loaded q) (sym (drop-drop used at chunk) ∙ ap (drop used) (sym er))
+          ap (bytes_loaded q) f
           ∙ ap (λ (x : Loading). bytes_loaded x (drop used rest)) (sym s.same)
           ∙ sym (bytes_loaded_append e (take used rest) (drop used rest))
-          ∙ ap (bytes_loaded e) (take-append-drop used rest ∙ er)
+          ∙ ap (bytes_loaded e) (take-append-drop used rest)
           ∙ g.same;
       goes = s.goes;
     }
 
-pub going_end : {d e : Loading} {chunk : List ℕ} {at : ℕ} → Going d chunk e at → length chunk ≤ at → (e ≡ bytes_loaded d chunk) ×
-    FitLoader e.loader
+pub going_end : {d e : Loading} {chunk rest : List ℕ} → Going d chunk e rest → length rest ≡ 0 → (e ≡ bytes_loaded d chunk) × FitLoader
+    e.loader
 unfolding bytes_loaded
-going_end {d} {e} {chunk} {at} g l =
-    let w = g.within in
-    let z : at ≡ length chunk = omega arith in
-    (ap (bytes_loaded e) (sym (ap (λ (n : ℕ). drop n chunk) z ∙ drop-length chunk)) ∙ g.same, g.goes.fit)
+going_end {rest = []} g l = (g.same, g.goes.fit)
+going_end {rest = x ∷ rest} g l = absurd (omega arith)
+
+-- What is noted, and that nothing is.
+pub note_open : (n : Option (Result ℕ LoadRefusal)) {b : Bool} → b ≡ is_some n → b ≡ false → load_note_of n ≡ unsaid
+note_open None e f = refl
+note_open (Some r) e f = absurd (no_test f e)
+
+pub note_said : (n : Option (Result ℕ LoadRefusal)) {b : Bool} → b ≡ is_some n → b ≡ true → (a : Answer) × (load_note_of n ≡ said a)
+note_said None e f = absurd (no_test e f)
+note_said (Some r) e f = (load_reply_of r, refl)
 
 -- chunk and end.
 module _ (d : Loading) {may : Bool} (e : may ≡ may_go_on d) where
@@ -261,7 +268,7 @@ module _ (s : Set) where
       go true false ef ea = (ef, ea)
       go false a ef ea = let z = rw ef at e in absurd (omega (arith, number z))
 
-  unfit_told : refused 1 ≡ accepts s → fits s ≡ false
+  pub unfit_told : refused 1 ≡ accepts s → fits s ≡ false
   unfolding accepts
   unfit_told e = go (fits s) (accepted s) refl refl
     where

@@ -1,6 +1,6 @@
 -- What crate `file` proves beside its contracts: answers of save and of the loader are told apart by their numbers and values, loaders by
 -- their words, notes by their word, and each public routine has one outcome, what it returns with all that is left in the lent slices.
-use Rattle.std.specs.Prelude.{◌≡◌, List, [], ℕ, ◌*◌, ◌<◌, take}
+use Rattle.std.specs.Prelude.{◌≡◌, Option, Result, List, [], ℕ, ◌*◌, ◌<◌, take}
 use Rattle.slots.specs.Answers.{Answer, OneAnswer, value_beside}
 use Rattle.slots.specs.Coded.{answer_of}
 use Rattle.upload_rules.specs.Reader.{Note, said}
@@ -12,15 +12,14 @@ use Rattle.file_rules.specs.Loader.{new_loader}
 use Rattle.file.specs.Saved.{save_of}
 use Rattle.file.specs.Meanings.{load_reply_of, loader_words, loaded_of}
 use Rattle.file.specs.Notes.{load_note_at_of, load_note_at}
-use Rattle.file.specs.declared.save.SaveReply.{SaveReply}
-use Rattle.file.specs.declared.reply.LoadReply.{LoadReply}
+use Rattle.slots.specs.declared.answer.Unsound.{Unsound}
+use Rattle.file.specs.declared.reply.LoadRefusal.{LoadRefusal}
 use Rattle.file.specs.declared.loader.Loader.{Loader}
-use Rattle.file.specs.declared.notes.LoadNoteAt.{LoadNoteAt}
 use Rattle.file.specs.declared.load.Load.{Load}
 
 -- What save returns, and `out` after it.
 pub record SaveReturned : Type 0 where
-  pub reply : SaveReply
+  pub reply : Result ℕ Unsound
   pub out : List ℕ
 
 -- What a call of the loader returns, and the words of the five slices after it.
@@ -36,10 +35,10 @@ abbrev pub returned_by : (Load → Set → LoadOutcome) → LoadReturned → Loa
 returned_by f r = f r.load (lent_set r.lengths r.bins r.heads r.names r.cells)
 
 pub record Claims : Type 0 where
-  pub save_reply_one_to_one : (a b : SaveReply) → save_of a ≡ save_of b → a ≡ b
+  pub save_reply_one_to_one : (a b : Result ℕ Unsound) → save_of a ≡ save_of b → a ≡ b
   pub answer_one : (a : Answer) → OneAnswer (λ r. answer_of r ≡ a)
   pub save_one : (s : Set) (out : List ℕ) → OneAnswer (λ (r : SaveReturned). saved (save_of r.reply) r.out ≡ saves s out)
-  pub load_reply_one_to_one : (a b : LoadReply) → load_reply_of a ≡ load_reply_of b → a ≡ b
+  pub load_reply_one_to_one : (a b : Result ℕ LoadRefusal) → load_reply_of a ≡ load_reply_of b → a ≡ b
   pub loader_one_to_one : (a b : Loader) → loader_words a ≡ loader_words b → a ≡ b
   -- start is lent no slice: what it returns is one
   pub start_one : OneAnswer (λ r. loaded_of r (lent_set [] [] [] [] []) ≡ load_start (loading new_loader (lent_set [] [] [] [] [])))
@@ -52,9 +51,9 @@ pub record Claims : Type 0 where
   pub front_names_one : (count : ℕ) (names : List ℕ) → OneAnswer (λ r. r ≡ take (2 * count) names)
   pub front_cells_one : (count : ℕ) (cells : List ℕ) → OneAnswer (λ r. r ≡ take (7 * count) cells)
   -- a note and its word: a noted answer's word says that answer, and a word that says a note is that note's
-  pub load_note_one_to_one : (a b : LoadNoteAt) → load_note_at_of a ≡ load_note_at_of b → a ≡ b
+  pub load_note_one_to_one : (a b : Option (Option (Result ℕ LoadRefusal))) → load_note_at_of a ≡ load_note_at_of b → a ≡ b
   pub word_one : (n : Note) → OneAnswer (λ r. r ≡ note_word n)
   pub of_word_one : (w : ℕ) → OneAnswer (λ r. load_note_at_of r ≡ load_note_at w)
-  pub load_word_back : (a : LoadReply) → value_beside 0 (load_reply_of a).number (load_reply_of a).value < 4294967296
+  pub load_word_back : (a : Result ℕ LoadRefusal) → value_beside 0 (load_reply_of a).number (load_reply_of a).value < 4294967296
       → load_note_at (note_word (said (load_reply_of a))) ≡ known (said (load_reply_of a))
   pub load_said_back : (w : ℕ) (n : Note) → load_note_at w ≡ known n → note_word n ≡ w

@@ -1,16 +1,15 @@
 -- The note of a word.
-use Rattle.std.specs.Prelude.{ℕ, ◌-◌, ◌/◌, ◌%◌, eqb}
+use Rattle.std.specs.Prelude.{Option, None, Some, Result, ℕ, ◌-◌, ◌/◌, ◌%◌, eqb}
 use Rattle.slots.specs.Words.{pick}
 use Rattle.slots.specs.Answers.{given, refused}
 use Rattle.upload_rules.specs.Reader.{unsaid, said}
 use Rattle.upload_rules.specs.Notes.{NoteSaid, known, unknown}
 use Rattle.file.specs.Meanings.{load_note_of}
-use Rattle.file.specs.declared.notes.LoadNoteAt.{LoadNoteAt}
-use Rattle.file.specs.declared.notes.LoadNoteAt.TheVariants.{Known, Unknown}
+use Rattle.file.specs.declared.reply.LoadRefusal.{LoadRefusal}
 
-abbrev pub load_note_at_of : LoadNoteAt → NoteSaid
-load_note_at_of (Known note) = known (load_note_of note)
-load_note_at_of Unknown = unknown
+abbrev pub load_note_at_of : Option (Option (Result ℕ LoadRefusal)) → NoteSaid
+load_note_at_of (Some note) = known (load_note_of note)
+load_note_at_of None = unknown
 
 -- A number with its value: the bytes with 0, and 0 with each refusal of the loader.
 unfoldable pub load_note_with : ℕ → ℕ → NoteSaid

@@ -8,10 +8,10 @@ ghost use Rattle.file_rules.specs.Loading.{loading, loader_at, after_words, with
 ghost use Rattle.file.specs.Meanings.{loader_words};
 
 use crate::clear::refuse;
-use crate::loader::{LoadNote, Loader, count_of, next_width, power, section_words};
-use crate::reply::LoadReply;
+use crate::loader::{Loader, count_of, next_width, power, section_words};
+use crate::reply::LoadRefusal;
 use crate::room::may_count;
-use slots::{put_wide, put_word};
+use slots::put_word;
 
 // A word of a section of words of four bytes.
 fn put_four(words: &mut [u32], j: u64, v: u64)
@@ -28,7 +28,7 @@ fn put_slot_word(names: &mut [u64], cells: &mut [u32], i: u64, f: u64, v: u64)
         ≡ put_field (lent_set [] [] [] names.old cells.old) (slot_field i f) v }
 {
     if f < 2 {
-        return put_wide(names, (2 * i + f) as usize, v);
+        return put_word(names, (2 * i + f) as usize, v);
     }
     put_four(cells, 7 * i + (f - 2), v)
 }
@@ -69,11 +69,8 @@ fn loader_at(r: Loader, section: u64, at: u64, part: u64) -> Loader
         section,
         at,
         part,
-        tables: r.tables,
-        words: r.words,
-        headers: r.headers,
-        slots: r.slots,
-        note: LoadNote::Unsaid,
+        note: None,
+        ..r
     }
 }
 
@@ -107,14 +104,12 @@ fn with_count(r: Loader, c: u64) -> Loader
 {
     let s = r.section;
     Loader {
-        section: s,
-        at: r.at,
-        part: r.part,
         tables: counted(s, 0, c, r.tables),
         words: counted(s, 1, c, r.words),
         headers: counted(s, 2, c, r.headers),
         slots: counted(s, 3, c, r.slots),
-        note: LoadNote::Unsaid,
+        note: None,
+        ..r
     }
 }
 
@@ -136,7 +131,15 @@ fn take_count(
 {
     let may = may_count(lengths, bins, heads, names, cells, r.section, c);
     if !may {
-        return refuse(lengths, bins, heads, names, cells, r, LoadReply::OverLimit);
+        return refuse(
+            lengths,
+            bins,
+            heads,
+            names,
+            cells,
+            r,
+            LoadRefusal::OverLimit,
+        );
     }
     let counted = with_count(r, c);
     after_words(counted, 1)
@@ -191,7 +194,7 @@ pub(crate) fn take_byte(
         (lent_set lengths.old bins.old heads.old names.old cells.old) b }
 {
     if r.section == 4 {
-        return refuse(lengths, bins, heads, names, cells, r, LoadReply::Long);
+        return refuse(lengths, bins, heads, names, cells, r, LoadRefusal::Long);
     }
     let come = r.at / 8;
     let width = next_width(r.section, come);

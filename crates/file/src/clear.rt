@@ -1,31 +1,19 @@
 // Zeros: of a slice from a word on, and of all five slices.
-ghost use Rattle.std.specs.Prelude.{◌≡◌};
+ghost use Rattle.std.specs.Prelude.{◌≡◌, ◌++◌, ◌-◌, length, take, replicate};
 ghost use Rattle.set_rules.specs.Words.{lent_set};
 ghost use Rattle.file_rules.specs.Loader.{FitLoader};
 ghost use Rattle.file_rules.specs.Loading.{loading, rest_zeroed, rests_zeroed, load_refused};
-ghost use Rattle.file.specs.Meanings.{loader_words, load_reply_of};
+ghost use Rattle.file.specs.Meanings.{loader_words, load_refusal_of};
 
 use crate::loader::{Loader, note_in};
-use crate::reply::LoadReply;
+use crate::reply::LoadRefusal;
 
-// 0 into the words from one on.
-fn clear_words(words: &mut [u32], from: usize)
-    ensures { words.new ≡ rest_zeroed from words.old }
+// The words from one on become a value.
+fn fill_from<T: Copy>(words: &mut [T], from: usize, value: T)
+    ensures { words.new ≡ take from words.old ++ replicate (length words.old - from) value }
 {
-    let mut i = from;
-    while i < words.len() {
-        words[i] = 0;
-        i += 1;
-    }
-}
-
-fn clear_wides(words: &mut [u64], from: usize)
-    ensures { words.new ≡ rest_zeroed from words.old }
-{
-    let mut i = from;
-    while i < words.len() {
-        words[i] = 0;
-        i += 1;
+    for i in from..words.len() {
+        words[i] = value;
     }
 }
 
@@ -43,14 +31,14 @@ pub(crate) fn clear_rests(
         ≡ rests_zeroed (loader_words r)
         (lent_set lengths.old bins.old heads.old names.old cells.old) }
 {
-    clear_words(lengths, r.tables as usize);
-    clear_words(bins, r.words as usize);
-    clear_words(heads, 3 * r.headers as usize);
-    clear_wides(names, 2 * r.slots as usize);
-    clear_words(cells, 7 * r.slots as usize)
+    fill_from(lengths, r.tables as usize, 0);
+    fill_from(bins, r.words as usize, 0);
+    fill_from(heads, 3 * r.headers as usize, 0);
+    fill_from(names, 2 * r.slots as usize, 0);
+    fill_from(cells, 7 * r.slots as usize, 0)
 }
 
-// A refusal: every word of the slices becomes 0, and the answer is noted.
+// A refusal: every word of the slices becomes 0, and it is noted.
 pub(crate) fn refuse(
     lengths: &mut [u32],
     bins: &mut [u32],
@@ -58,18 +46,18 @@ pub(crate) fn refuse(
     names: &mut [u64],
     cells: &mut [u32],
     r: Loader,
-    reply: LoadReply,
+    refusal: LoadRefusal,
 ) -> Loader
     ensures { loading (loader_words result)
         (lent_set lengths.new bins.new heads.new names.new cells.new)
         ≡ load_refused (loader_words r)
         (lent_set lengths.old bins.old heads.old names.old cells.old)
-        (load_reply_of reply) }
+        (load_refusal_of refusal) }
 {
-    clear_words(lengths, 0);
-    clear_words(bins, 0);
-    clear_words(heads, 0);
-    clear_wides(names, 0);
-    clear_words(cells, 0);
-    note_in(r, reply)
+    fill_from(lengths, 0, 0);
+    fill_from(bins, 0, 0);
+    fill_from(heads, 0, 0);
+    fill_from(names, 0, 0);
+    fill_from(cells, 0, 0);
+    note_in(r, Err(refusal))
 }

@@ -9,11 +9,12 @@ ghost use Rattle.file_rules.specs.Loading.{load_start, load_chunk, load_end};
 ghost use Rattle.file.specs.Meanings.{loader_words, loaded_of};
 
 use crate::clear::{clear_rests, refuse};
-use crate::loader::{LoadNote, Loader, fits_loader, note_in, reply_of, taken_of};
-use crate::reply::LoadReply;
+use crate::loader::{Loader, fits_loader, note_in, reply_of, taken_of};
+use crate::reply::{LoadRefusal, LoadReply};
 use crate::room::has_room;
 use crate::runs::step;
-use sets::accept::{Acceptance, accept};
+use sets::accept::accept;
+use slots::answer::Unfit;
 
 // What a call answers, and the loader after it.
 #[derive(Clone, Copy)]
@@ -30,7 +31,7 @@ fn judge(
     names: &[u64],
     cells: &[u32],
     r: Loader,
-) -> Acceptance
+) -> Result<bool, Unfit>
     requires { FitLoader (loader_words r) × RoomFor (loader_words r)
         (lent_set lengths.now bins.now heads.now names.now cells.now) }
     ensures { accept_of result
@@ -67,17 +68,16 @@ fn judge_end(
         (lent_set lengths.old bins.old heads.old names.old cells.old) }
 {
     if r.section != 4 {
-        return refuse(lengths, bins, heads, names, cells, r, LoadReply::Short);
+        return refuse(lengths, bins, heads, names, cells, r, LoadRefusal::Short);
     }
-    let judged = judge(lengths, bins, heads, names, cells, r);
-    match judged {
-        Acceptance::Yes => {
+    match judge(lengths, bins, heads, names, cells, r) {
+        Ok(true) => {
             clear_rests(lengths, bins, heads, names, cells, r);
             let bytes = taken_of(r);
-            note_in(r, LoadReply::Taken(bytes))
-        },
-        Acceptance::No => refuse(lengths, bins, heads, names, cells, r, LoadReply::Damaged),
-        Acceptance::Unfit => refuse(lengths, bins, heads, names, cells, r, LoadReply::Unfit),
+            note_in(r, Ok(bytes))
+        }
+        Ok(false) => refuse(lengths, bins, heads, names, cells, r, LoadRefusal::Damaged),
+        Err(Unfit) => refuse(lengths, bins, heads, names, cells, r, LoadRefusal::Unfit),
     }
 }
 
@@ -98,10 +98,9 @@ pub fn may_go_on(
     if !fits {
         return false;
     }
-    let note = r.note;
-    let LoadNote::Unsaid = note else {
+    if r.note.is_some() {
         return true;
-    };
+    }
     has_room(lengths, bins, heads, names, cells, r)
 }
 
@@ -124,11 +123,11 @@ fn take_all(
         × FitLoader (loader_words result) }
 {
     let mut loader = r;
-    let mut at: usize = 0;
-    while at < chunk.len() {
-        let next = step(lengths, bins, heads, names, cells, loader, &chunk[at..]);
+    let mut rest = chunk;
+    while !rest.is_empty() {
+        let next = step(lengths, bins, heads, names, cells, loader, rest);
         loader = next.loader;
-        at += next.used;
+        rest = &rest[next.used..];
     }
     loader
 }
@@ -146,10 +145,10 @@ impl Loader {
             words: 0,
             headers: 0,
             slots: 0,
-            note: LoadNote::Unsaid,
+            note: None,
         };
         Load {
-            reply: LoadReply::Taken(1),
+            reply: Ok(1),
             loader,
         }
     }
@@ -173,7 +172,7 @@ impl Loader {
         let may = may_go_on(lengths, bins, heads, names, cells, self);
         if !may {
             return Load {
-                reply: LoadReply::Unfit,
+                reply: Err(LoadRefusal::Unfit),
                 loader: self,
             };
         }
@@ -199,18 +198,16 @@ impl Loader {
         let may = may_go_on(lengths, bins, heads, names, cells, self);
         if !may {
             return Load {
-                reply: LoadReply::Unfit,
+                reply: Err(LoadRefusal::Unfit),
                 loader: self,
             };
         }
-        let note = self.note;
-        let LoadNote::Unsaid = note else {
-            let reply = reply_of(self);
+        if let Some(reply) = self.note {
             return Load {
                 reply,
                 loader: self,
             };
-        };
+        }
         let loader = judge_end(lengths, bins, heads, names, cells, self);
         let reply = reply_of(loader);
         Load { reply, loader }

@@ -9,11 +9,7 @@ ghost use Rattle.file.specs.Ranged.{CountsTold};
 use crate::reply::LoadReply;
 
 // Nothing is noted, or an answer is that every later call gives again.
-#[derive(Clone, Copy)]
-pub enum LoadNote {
-    Unsaid,
-    Said(LoadReply),
-}
+pub type LoadNote = Option<LoadReply>;
 
 #[derive(Clone, Copy)]
 pub struct Loader {
@@ -135,13 +131,11 @@ fn counts_fit(r: Loader) -> bool
     requires { r.section ≤ 4 }
     ensures { CountsTold (loader_words r) result }
 {
-    let mut s: u64 = 0;
-    while s < 4 {
+    for s in 0..4 {
         let fits = count_fits(r, s);
         if !fits {
             return false;
         }
-        s += 1;
     }
     true
 }
@@ -228,11 +222,9 @@ fn wholes_long(r: Loader) -> u64
     requires { FitLoader (loader_words r) }
     ensures { (result ≡ wholes_long (loader_words r) r.section) × (result ≤ 1600016) }
 {
-    let mut s: u64 = 0;
     let mut bytes: u64 = 0;
-    while s < r.section {
+    for s in 0..r.section {
         bytes += whole_long(r, s);
-        s += 1;
     }
     bytes
 }
@@ -251,26 +243,18 @@ pub(crate) fn reply_of(r: Loader) -> LoadReply
     requires { FitLoader (loader_words r) }
     ensures { load_reply_of result ≡ loader_answer (loader_words r) }
 {
-    let note = r.note;
-    let LoadNote::Said(reply) = note else {
-        return LoadReply::Taken(taken_of(r));
-    };
-    reply
+    match r.note {
+        Some(reply) => reply,
+        None => Ok(taken_of(r)),
+    }
 }
 
 // The loader with an answer noted.
 pub(crate) fn note_in(r: Loader, reply: LoadReply) -> Loader
     ensures { loader_words result ≡ note_in (loader_words r) (load_reply_of reply) }
 {
-    let note = LoadNote::Said(reply);
     Loader {
-        section: r.section,
-        at: r.at,
-        part: r.part,
-        tables: r.tables,
-        words: r.words,
-        headers: r.headers,
-        slots: r.slots,
-        note,
+        note: Some(reply),
+        ..r
     }
 }

@@ -23,19 +23,10 @@ fn put_little(out: &mut [u8], at: usize, k: usize, x: u64)
     ensures { out.new ≡ sets out.old at (little k x) }
 {
     let mut rest = x;
-    let mut i = 0;
-    while i < k {
+    for i in 0..k {
         out[at + i] = low_byte(rest);
-        rest = rest / 256;
-        i += 1;
+        rest /= 256;
     }
-}
-
-// A word as a number.
-fn wide(w: u32) -> u64
-    ensures { result ≡ w }
-{
-    w as u64
 }
 
 // Words of four bytes each.
@@ -43,10 +34,8 @@ fn put_words(out: &mut [u8], at: usize, words: &[u32])
     requires { at + 4 * length words.now ≤ length out.old }
     ensures { out.new ≡ sets out.old at (words_bytes 4 words.now) }
 {
-    let mut i = 0;
-    while i < words.len() {
-        put_little(out, at + 4 * i, 4, wide(words[i]));
-        i += 1;
+    for (i, word) in words.iter().enumerate() {
+        put_little(out, at + 4 * i, 4, *word as u64);
     }
 }
 
@@ -55,7 +44,7 @@ fn put_cell(out: &mut [u8], at: usize, k: usize, cells: &[u32], i: u32, f: u32)
     requires { at + k ≤ length out.old }
     ensures { out.new ≡ sets out.old at (little k (cell cells.now i f)) }
 {
-    put_little(out, at, k, wide(get(cells, i, f)))
+    put_little(out, at, k, get(cells, i, f) as u64)
 }
 
 // The hash and the key of slot i.
@@ -100,11 +89,8 @@ fn put_slots(out: &mut [u8], at: usize, names: &[u64], cells: &[u32])
         ≡ sets out.old at
         (slots_bytes (lent_set [] [] [] names.now cells.now) (length names.now / 2)) }
 {
-    let n = names.len() / 2;
-    let mut i = 0;
-    while i < n {
+    for i in 0..names.len() / 2 {
         put_slot(out, at + 41 * i, names, cells, i as u32);
-        i += 1;
     }
 }
 

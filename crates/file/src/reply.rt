@@ -1,13 +1,12 @@
 // What the loader's calls answer.
 ghost use Rattle.std.specs.Prelude.{◌≡◌};
-ghost use Rattle.slots.specs.Coded.{answer_of};
-ghost use Rattle.file.specs.Meanings.{load_reply_of};
+ghost use Rattle.file.specs.Meanings.{load_refusal_of};
 
-use slots::answer::{Answer, given, refused};
+use slots::answer::{Answer, Answers, refused};
 
+// Why a load is refused.
 #[derive(Clone, Copy)]
-pub enum LoadReply {
-    Taken(u32), // the bytes taken since the start; of a start 1
+pub enum LoadRefusal {
     Unfit, // 1
     Damaged, // 2
     Short, // 12
@@ -15,18 +14,19 @@ pub enum LoadReply {
     OverLimit, // 14
 }
 
-impl LoadReply {
-    // The number and the value.
-    pub fn answer(self) -> Answer
-        ensures { answer_of result ≡ (load_reply_of self) }
-    {
+impl Answers for LoadRefusal {
+    ghost told = { load_refusal_of };
+
+    fn answer(self) -> Answer {
         match self {
-            LoadReply::Taken(bytes) => given(bytes),
-            LoadReply::Unfit => refused(1),
-            LoadReply::Damaged => refused(2),
-            LoadReply::Short => refused(12),
-            LoadReply::Long => refused(13),
-            LoadReply::OverLimit => refused(14),
+            LoadRefusal::Unfit => refused(1),
+            LoadRefusal::Damaged => refused(2),
+            LoadRefusal::Short => refused(12),
+            LoadRefusal::Long => refused(13),
+            LoadRefusal::OverLimit => refused(14),
         }
     }
 }
+
+// The bytes taken since the start; of a start 1.
+pub type LoadReply = Result<u32, LoadRefusal>;

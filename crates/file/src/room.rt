@@ -60,14 +60,12 @@ pub(crate) fn has_room(
         ≡ has_room (loader_words r)
         (lent_set lengths.now bins.now heads.now names.now cells.now) }
 {
-    let mut s: u64 = 0;
-    while s < 4 {
+    for s in 0..4 {
         let count = count_of(r, s);
         let holds = can_hold(lengths, bins, heads, names, cells, s, count);
         if !holds {
             return false;
         }
-        s += 1;
     }
     true
 }

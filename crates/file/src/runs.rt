@@ -10,9 +10,9 @@ ghost use Rattle.file.specs.Runs.{words_put, slot_names, slot_links, slot_cells,
 ghost use Rattle.file.specs.Runs.{StepTaken, WordsReady, SlotsReady};
 
 use crate::bytes::{after_words, take_byte};
-use crate::loader::{LoadNote, Loader, count_of, section_words};
-use endian::{read_words, wide_at, word_at};
-use slots::{put_wide, put_word};
+use crate::loader::{Loader, count_of, section_words};
+use endian::{read_words, word_at};
+use slots::put_word;
 
 // A loader amid a chunk, and the bytes that it took.
 #[derive(Clone, Copy)]
@@ -21,23 +21,13 @@ pub(crate) struct Taking {
     pub used: usize,
 }
 
-// The lesser of two.
-fn lesser(a: usize, b: usize) -> usize
-    ensures { result ≡ min a b }
-{
-    if a < b {
-        return a;
-    }
-    b
-}
-
 // Words of four bytes each into a slice from a word on, up to another, as many as the bytes have.
 fn read_tail(words: &mut [u32], from: usize, end: usize, rest: &[u8]) -> usize
     requires { (from ≤ end) × (end ≤ length words.old) }
     ensures { (result ≡ min (end - from) (length rest.now / 4))
         × (words.new ≡ sets words.old from (words_in 4 rest.now 0 result)) }
 {
-    let n = lesser(end - from, rest.len() / 4);
+    let n = (end - from).min(rest.len() / 4);
     read_words(&mut words[from..from + n], rest);
     n
 }
@@ -73,8 +63,8 @@ fn read_pair(names: &mut [u64], i: usize, bytes: &[u8])
     requires { i ≤ 8160 }
     ensures { names.new ≡ slot_names names.old i bytes.now }
 {
-    put_wide(names, 2 * i, wide_at(bytes, 0));
-    put_wide(names, 2 * i + 1, wide_at(bytes, 1));
+    put_word(names, 2 * i, word_at(bytes, 0));
+    put_word(names, 2 * i + 1, word_at(bytes, 1));
 }
 
 // The five links of slot i.
@@ -107,10 +97,8 @@ fn read_slots(names: &mut [u64], cells: &mut [u32], n: usize, rest: &[u8])
     ensures { (names.new ≡ slots_names names.old 0 rest.now n)
         × (cells.new ≡ slots_cells cells.old 0 rest.now n) }
 {
-    let mut i = 0;
-    while i < n {
+    for i in 0..n {
         read_slot(names, cells, i, &rest[41 * i..41 * i + 41]);
-        i += 1;
     }
 }
 
@@ -162,13 +150,12 @@ pub(crate) fn step(
         (loading (loader_words result.loader)
         (lent_set lengths.new bins.new heads.new names.new cells.new)) }
 {
-    let note = r.note;
-    let LoadNote::Unsaid = note else {
+    if r.note.is_some() {
         return Taking {
             loader: r,
             used: rest.len(),
         };
-    };
+    }
     let words = words_ready(r, rest.len());
     if words {
         let come = r.at / 8;
@@ -193,7 +180,7 @@ pub(crate) fn step(
     if slots {
         let come = r.at / 8;
         let from = (r.at / 72) as usize;
-        let n = lesser(r.slots as usize - from, rest.len() / 41);
+        let n = (r.slots as usize - from).min(rest.len() / 41);
         read_slots(&mut names[2 * from..], &mut cells[7 * from..], n, rest);
         let loader = after_words(r, come + 9 * n as u64);
         return Taking {

@@ -1,46 +1,13 @@
 // Save: the file of an accepted set, written at the front of a lent slice.
 ghost use Rattle.std.specs.Prelude.{◌≡◌, ◌+◌, ◌*◌, ◌/◌, ◌≤◌};
-ghost use Rattle.slots.specs.Coded.{answer_of};
 ghost use Rattle.set_rules.specs.Words.{lent_set};
 ghost use Rattle.file_rules.specs.Saving.{saved, saves};
-ghost use Rattle.file.specs.Saved.{save_of, is_yes};
+ghost use Rattle.file.specs.Saved.{save_of};
 
 use crate::put::put_set;
-use sets::accept::{Acceptance, accept};
+use sets::accept::accept;
 use sets::fit::fit_set;
-use slots::answer::{Answer, given, refused};
-
-// What save answers.
-#[derive(Clone, Copy)]
-pub enum SaveReply {
-    Written(u32), // the bytes of the file
-    Unfit, // 1
-    Damaged, // 2
-}
-
-impl SaveReply {
-    // The number and the value.
-    pub fn answer(self) -> Answer
-        ensures { answer_of result ≡ (save_of self) }
-    {
-        match self {
-            SaveReply::Written(bytes) => given(bytes),
-            SaveReply::Unfit => refused(1),
-            SaveReply::Damaged => refused(2),
-        }
-    }
-}
-
-// Whether acceptance says yes.
-fn is_yes(judged: Acceptance) -> bool
-    ensures { result ≡ is_yes judged }
-{
-    match judged {
-        Acceptance::Yes => true,
-        Acceptance::No => false,
-        Acceptance::Unfit => false,
-    }
-}
+use slots::answer::Unsound;
 
 // The bytes of a set's file, by the lengths of its slices.
 fn file_size(tables: usize, words: usize, heads: usize, names: usize) -> usize
@@ -58,24 +25,23 @@ pub fn save(
     names: &[u64],
     cells: &[u32],
     out: &mut [u8],
-) -> SaveReply
+) -> Result<u32, Unsound>
     ensures { saved (save_of result) out.new
         ≡ saves (lent_set lengths.now bins.now heads.now names.now cells.now)
         out.old }
 {
     let fit = fit_set(lengths, bins, heads, names, cells);
     if !fit {
-        return SaveReply::Unfit;
+        return Err(Unsound::Unfit);
     }
     let size = file_size(lengths.len(), bins.len(), heads.len(), names.len());
     if out.len() < size {
-        return SaveReply::Unfit;
+        return Err(Unsound::Unfit);
     }
-    let judged = accept(lengths, bins, heads, names, cells);
-    let yes = is_yes(judged);
-    if !yes {
-        return SaveReply::Damaged;
+    let accepted = accept(lengths, bins, heads, names, cells)?;
+    if !accepted {
+        return Err(Unsound::Damaged);
     }
     put_set(lengths, bins, heads, names, cells, out);
-    SaveReply::Written(size as u32)
+    Ok(size as u32)
 }

@@ -28,10 +28,10 @@ fn fill(mut stdin: Stdin, room: &mut [u8]) -> io::Result<usize>
 
 // Writes the first so many bytes of a buffer.
 fn put(to: &impl Print, bytes: &[u8], most: usize) -> io::Result<()> {
-    if most <= bytes.len() {
-        return to.write_all(&bytes[..most]);
+    match bytes.get(..most) {
+        Some(front) => to.write_all(front),
+        None => Ok(()),
     }
-    Ok(())
 }
 
 // Reads a set's file, and writes the file of what is left and what came of it.
@@ -45,10 +45,8 @@ fn serve(
 ) -> io::Result<()> {
     let got = fill(stdin, bytes)?;
     let done = answer(&bytes[..got], out, text);
-    let written = done.written;
-    let said = done.said;
-    put(&stdout, out, written)?;
-    put(&stderr, text, said)
+    put(&stdout, out, done.written)?;
+    put(&stderr, text, done.said)
 }
 
 fn main(rt: HostRuntime) -> io::Result<()> {

@@ -1,5 +1,5 @@
 -- What is written on each way, on plain values.
-use mathlib.Core.Path.{◌≡◌}
+use mathlib.Core.Path.{◌≡◌, ap, ◌∙◌}
 use mathlib.Core.Logic.{◌≢◌}
 use mathlib.Core.List.{List, [], ◌∷◌}
 use Prim.Native.Nat.{ℕ, ◌*◌, ◌/◌, ◌<◌, ◌≤◌}
@@ -8,12 +8,18 @@ use native.Mathlib.Omega.{arith}
 use lib.ListN.{take}
 use borrow.Author.Tests.{eq-eqb, ne_eqb}
 use Rattle.slots.specs.Answers.{Answer}
+use Rattle.slots.specs.Coded.{unsound_told}
+use Rattle.slots.specs.declared.answer.Unsound.{Unsound}
+use Rattle.slots.specs.declared.answer.Unsound.TheVariants.{Unfit as OnlyUnfit, Damaged as OnlyDamaged}
 use Rattle.script_rules.specs.Blanks.{says}
 use Rattle.script_rules.specs.Feeding.{Paper, typed}
 use Rattle.set_rules.specs.Words.{Set, lent_set}
-use Rattle.file_rules.specs.Saving.{Saved, saves}
+use Rattle.file_rules.specs.Saving.{Saved, saved, saves}
 use Rattle.file_rules.specs.Loader.{Loader, new_loader, count_taken}
 use Rattle.file_rules.specs.Loading.{loading, LoadOutcome, cut_out, load_chunk, load_end, load_whole}
+use Rattle.file.specs.Meanings.{load_refusal_of}
+use Rattle.file.specs.declared.reply.LoadRefusal.{LoadRefusal}
+use Rattle.file.specs.declared.reply.LoadRefusal.TheVariants.{Unfit, Damaged, Short, Long, OverLimit}
 use Rattle.move_rules.specs.Finishing.{Finish, finishing}
 use Rattle.move_rules.specs.Printed.{written, none_written, saved_written, finish_written, load_written, WrittenOut, written_out, lined_out}
 
@@ -33,6 +39,22 @@ module _ (f : Finish) (out : List ℕ) (p : Paper) {o : WrittenOut} where
       → o ≡ lined_out (finish_written f out) p
   unfolding finish_written
   save_written z s e = rw (eq-eqb f.number 0 z, ← s) e
+
+-- Save has refused.
+pub unsaved_written : (gone : ℕ) (out : List ℕ) (p : Paper) (r : Unsound) {a : Answer} {o : WrittenOut} → a ≡ unsound_told r
+    → o ≡ lined_out (none_written a.number out) p
+    → o ≡ lined_out (saved_written gone (saved (unsound_told r) out)) p
+unfolding saved_written
+unsaved_written gone out p OnlyUnfit e f = f ∙ rw e
+unsaved_written gone out p OnlyDamaged e f = f ∙ rw e
+
+-- No refusal of the loader has the number 0.
+pub refused_load : (r : LoadRefusal) {a : Answer} → a ≡ load_refusal_of r → a.number ≢ 0
+refused_load Unfit e z = omega (arith, ap (λ (x : Answer). x.number) e)
+refused_load Damaged e z = omega (arith, ap (λ (x : Answer). x.number) e)
+refused_load Short e z = omega (arith, ap (λ (x : Answer). x.number) e)
+refused_load Long e z = omega (arith, ap (λ (x : Answer). x.number) e)
+refused_load OverLimit e z = omega (arith, ap (λ (x : Answer). x.number) e)
 
 -- The loader refused the file, or it has a set.
 module _ (o : LoadOutcome) (out : List ℕ) {a : Answer} (is : a ≡ o.answer) (p : Paper) {r : WrittenOut} where

@@ -9,14 +9,16 @@ ghost use Rattle.file.specs.Saved.{save_of};
 ghost use Rattle.file.specs.Meanings.{loader_words, loaded_of};
 ghost use Rattle.move_rules.specs.Finishing.{finishing};
 ghost use Rattle.move_rules.specs.Printed.{saved_written, finish_written, load_written, file_written, written_out, lined_out};
+ghost use Rattle.mover.specs.Moved.{move_refusal_of};
 ghost use Rattle.mover.specs.Finished.{finish_of};
 
 use crate::cut::front;
 use console::fill::fill;
 use file::load::Load;
 use file::loader::Loader;
-use file::save::{SaveReply, save};
-use mover::finishing::{FinishTold, finish};
+use file::save::save;
+use mover::finishing::{Stop, finish};
+use slots::answer::{Answers, Unsound};
 use slots::{MOST_CELLS, MOST_NAMES};
 
 // The most tables, bins and words of headers that a set has.
@@ -44,24 +46,25 @@ fn tell_no(text: &mut [u8], number: u32) -> FileFinished
 }
 
 // No file is written: the number of the refusal, the table and the bin.
-fn tell_stop(text: &mut [u8], told: FinishTold) -> FileFinished
+fn tell_stop(text: &mut [u8], stop: Stop) -> FileFinished
     ensures { (result.written ≡ 0)
         × (lent_paper text.new result.said
         ≡ typed (lent_paper text.old 0)
-        (says "no # table # bin #\n" (told.number ∷ (told.table ∷ (told.bin ∷ []))))) }
+        (says "no # table # bin #\n" ((move_refusal_of stop.refusal).number ∷ (stop.table ∷ (stop.bin ∷ []))))) }
 {
-    let numbers = [told.number as u64, told.table as u64, told.bin as u64];
+    let number = stop.refusal.answer().number;
+    let numbers = [number as u64, stop.table as u64, stop.bin as u64];
     let said = fill(text, 0, b"no # table # bin #\n", &numbers);
     FileFinished { written: 0, said }
 }
 
 // What save answered, and how many entries were moved.
-fn tell_saved(text: &mut [u8], gone: u32, reply: SaveReply) -> FileFinished
+fn tell_saved(text: &mut [u8], gone: u32, reply: Result<u32, Unsound>) -> FileFinished
     ensures { (out : List ℕ) → written_out result.written out (lent_paper text.new result.said)
         ≡ lined_out (saved_written gone (saved (save_of reply) out)) (lent_paper text.old 0) }
 {
     match reply {
-        SaveReply::Written(bytes) => {
+        Ok(bytes) => {
             let numbers = [gone as u64];
             let said = fill(text, 0, b"moved #\n", &numbers);
             FileFinished {
@@ -69,8 +72,7 @@ fn tell_saved(text: &mut [u8], gone: u32, reply: SaveReply) -> FileFinished
                 said,
             }
         },
-        SaveReply::Unfit => tell_no(text, 1),
-        SaveReply::Damaged => tell_no(text, 2),
+        Err(refusal) => tell_no(text, refusal.answer().number),
     }
 }
 
@@ -81,7 +83,7 @@ fn write_set(
     heads: &[u32],
     names: &[u64],
     cells: &[u32],
-    told: FinishTold,
+    told: Result<u32, Stop>,
     out: &mut [u8],
     text: &mut [u8],
 ) -> FileFinished
@@ -90,11 +92,10 @@ fn write_set(
         (lent_set lengths.now bins.now heads.now names.now cells.now))
         out.old) (lent_paper text.old 0) }
 {
-    if told.number != 0 {
-        return tell_stop(text, told);
+    match told {
+        Err(stop) => tell_stop(text, stop),
+        Ok(gone) => tell_saved(text, gone, save(lengths, bins, heads, names, cells, out)),
     }
-    let reply = save(lengths, bins, heads, names, cells, out);
-    tell_saved(text, told.gone, reply)
 }
 
 // The bins of a set are moved, and what is left is written.
@@ -164,12 +165,10 @@ fn finish_loaded(
         (lent_set lengths.now bins.old heads.old names.now cells.old))
         out.old) (lent_paper text.old 0) }
 {
-    let reply = load.reply;
-    let answer = reply.answer();
-    if answer.number != 0 {
-        return tell_no(text, answer.number);
+    match load.reply {
+        Err(refusal) => tell_no(text, refusal.answer().number),
+        Ok(_) => finish_cut(load.loader, lengths, bins, heads, names, cells, out, text),
     }
-    finish_cut(load.loader, lengths, bins, heads, names, cells, out, text)
 }
 
 // The bytes in one chunk, into these slices.

@@ -1,15 +1,12 @@
 -- What the tests before a call writes come to, on plain values: the answers of lower routines settle the model's tests.
 use mathlib.Core.Path.{◌≡◌, refl, ap, sym, ◌∙◌}
-use mathlib.Core.Logic.{inl, inr}
-use mathlib.Core.Bool.{Bool, true, false, not}
-use mathlib.Core.List.{[], ◌∷◌}
+use mathlib.Core.Bool.{Bool, true, false}
 use Prim.Native.Nat.{ℕ, suc, ◌≤◌, ◌<◌}
 use native.Mathlib.Omega.{arith}
 use lib.ListN.{length}
+use Rattle.std.specs.Prelude.{Result, Ok, Err, IsErrAnd}
 use lib.Dec.{leb}
-use borrow.Author.Tests.{leb-true, le-leb, lt-leb, not-true, not-false}
-use types.Run.{OneOf}
-use denote.Enum.Declared.{tag_of}
+use borrow.Author.Tests.{leb-true}
 use Rattle.slots.specs.Words.{null, most_slots}
 use Rattle.slots.specs.Answers.{Answer, Value, some, none, given, refused}
 use Rattle.slots.proofs.Laws.{given_is, number, value}
@@ -26,32 +23,17 @@ use Rattle.index.specs.Reads.{taken_as_sound}
 use Rattle.tree.specs.Find.{searched_of}
 use Rattle.tree.specs.declared.find.Found.{Found}
 use Rattle.tree.specs.declared.find.Found.TheVariants.{At, Nothing, Lost}
-use Rattle.tree.specs.contracts.find.Found.{the_type as searched}
 
 -- The tests of the two checks, by what they answer.
 module _ (ix : Index) where
   module _ {b : Bool} (e : b ≡ fits_journal ix.lines) where
-    pub unfit_journal : not b ≡ true → refused 1 ≡ sounds_index ix
+    pub unfit_journal : b ≡ false → refused 1 ≡ sounds_index ix
     unfolding sounds_index fits_index
-    unfit_journal f = let z : fits_journal ix.lines ≡ false = sym e ∙ not-true b f in rw (z, no_and (fits ix.live))
+    unfit_journal f = let z : fits_journal ix.lines ≡ false = sym e ∙ f in rw (z, no_and (fits ix.live))
 
-    pub fit_journal : not b ≡ false → {a : Answer} → a ≡ sounds ix.live → a ≡ sounds_index ix
+    pub fit_journal : b ≡ true → {a : Answer} → a ≡ sounds ix.live → a ≡ sounds_index ix
     unfolding sounds_index fits_index sounds
-    fit_journal f h = let z : fits_journal ix.lines ≡ true = sym e ∙ not-false b f in rw (z, and_yes (fits ix.live)) h
-
-  module _ {b : Bool} (e : b ≡ fits_index ix) where
-    pub taken_unfit : not b ≡ true → refused 1 ≡ taken_as_sound ix
-    unfolding taken_as_sound
-    taken_unfit f = let z : fits_index ix ≡ false = sym e ∙ not-true b f in rw z
-
-    module _ (f : not b ≡ false) {n : ℕ} (h : n ≡ count_of ix.live) where
-      pub taken_no : most_slots < n → given 0 ≡ taken_as_sound ix
-      unfolding taken_as_sound
-      taken_no l = let z : fits_index ix ≡ true = sym e ∙ not-false b f in rw (z, ← h, lt-leb n most_slots l)
-
-      pub taken_yes : n ≤ most_slots → given 1 ≡ taken_as_sound ix
-      unfolding taken_as_sound
-      taken_yes l = let z : fits_index ix ≡ true = sym e ∙ not-false b f in rw (z, ← h, le-leb n most_slots l)
+    fit_journal f h = let z : fits_journal ix.lines ≡ true = sym e ∙ f in rw (z, and_yes (fits ix.live)) h
 
   pub unfit_taken : refused 1 ≡ taken_as_sound ix → fits_index ix ≡ false
   unfolding taken_as_sound
@@ -65,8 +47,13 @@ module _ (ix : Index) where
   unfolding taken_as_sound
   yes_taken e = told_yes _ _ e
 
+-- What a `?` hands on.
+pub passed : {A E : Type 0} (k : E) (r : Result A E) → IsErrAnd r (λ e. e ≡ k) → r ≡ Err k
+passed k (Ok x) h = absurd h
+passed k (Err e) h = ap Err h
+
 -- The search names a slot, or it does not.
-module _ (t : Live) (hash key : ℕ) {root : ℕ} (e : root ≡ root_of t) (r : Found)
+module _ (t : Live) (hash key : ℕ) {root : ℕ} (e : root ≡ root_of t) (r : Found ℕ)
     (s : searched_of r ≡ counted (found t.names t.cells root hash key)) where
   sought : sought_in t hash key ≡ (searched_of r).answer.value
   unfolding sought_in
@@ -76,16 +63,15 @@ module _ (t : Live) (hash key : ℕ) {root : ℕ} (e : root ≡ root_of t) (r : 
       z
 
   pub sought-at : {slot looks : ℕ} → r ≡ At slot looks → sought_in t hash key ≡ some slot
-  sought-at y = sought ∙ ap (λ (q : Found). (searched_of q).answer.value) y
+  sought-at y = sought ∙ ap (λ (q : Found ℕ). (searched_of q).answer.value) y
 
-  pub sought-not : OneOf (1 ∷ 2 ∷ []) (tag_of searched r) → sought_in t hash key ≡ none
-  sought-not k = sought ∙ go r k
+  pub sought-not : ((slot looks : ℕ) → r ≡ At slot looks → ⊥) → sought_in t hash key ≡ none
+  sought-not n = sought ∙ go r n
     where
-      go : (r : Found) → OneOf (1 ∷ 2 ∷ []) (tag_of searched r) → (searched_of r).answer.value ≡ none
-      go (At slot looks) (inl z) = absurd (omega arith)
-      go (At slot looks) (inr z) = absurd (omega arith)
-      go (Nothing looks) z = refl
-      go (Lost looks) z = refl
+      go : (r : Found ℕ) → ((slot looks : ℕ) → r ≡ At slot looks → ⊥) → (searched_of r).answer.value ≡ none
+      go (At slot looks) n = absurd (n slot looks refl)
+      go (Nothing looks) n = refl
+      go (Lost looks) n = refl
 
 -- The case that a driver's tests come to: a refusal, which writes nothing, or a slot and what the call leaves.
 module _ (ix : Index) (u : ℕ → Index) (o : Outcome) where

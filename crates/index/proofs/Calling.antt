@@ -1,6 +1,8 @@
 -- Every claim of `Calling` holds: an answer is read back off its number and value, and the slices are those of the one outcome.
 use mathlib.Core.Path.{◌≡◌, refl, ap, sym, ◌∙◌}
 use mathlib.Core.List.{List}
+use Prim.{Unit, tt}
+use Rattle.std.specs.Prelude.{Result, Ok, Err}
 use Prim.Native.Nat.{ℕ}
 use lib.Dec.{eqb}
 use Rattle.slots.specs.Words.{pick}
@@ -10,55 +12,55 @@ use Rattle.index_rules.specs.Index.{Outcome}
 use Rattle.index.specs.Calls.{inserted_of, presence_of}
 use Rattle.index.specs.Fresh.{fresh_of}
 use Rattle.index.specs.Calling.{CallReturned, outcome_of, Calling}
-use Rattle.index.specs.declared.fresh.Freshness.{Freshness}
-use Rattle.index.specs.declared.fresh.Freshness.TheVariants.{Made, Unfit as FreshUnfit}
-use Rattle.index.specs.declared.insert.Inserted.{Inserted}
-use Rattle.index.specs.declared.insert.Inserted.TheVariants.{At as InsertAt, Unfit as InsertUnfit, Damaged as InsertDamaged, Present}
-use Rattle.index.specs.declared.insert.Inserted.TheVariants.{Full, JournalFull as InsertJournalFull}
-use Rattle.index.specs.declared.present.Presence.{Presence}
-use Rattle.index.specs.declared.present.Presence.TheVariants.{At as PresentAt, Unfit as PresentUnfit, Damaged as PresentDamaged}
-use Rattle.index.specs.declared.present.Presence.TheVariants.{Absent as PresentAbsent, JournalFull as PresentJournalFull}
+use Rattle.slots.specs.declared.answer.Unfit.{Unfit}
+use Rattle.index.specs.declared.insert.InsertRefusal.{InsertRefusal}
+use Rattle.index.specs.declared.insert.InsertRefusal.TheVariants.{Unfit as InsertUnfit, Damaged as InsertDamaged, Present}
+use Rattle.index.specs.declared.insert.InsertRefusal.TheVariants.{Full, JournalFull as InsertJournalFull}
+use Rattle.index.specs.declared.present.PairRefusal.{PairRefusal}
+use Rattle.index.specs.declared.present.PairRefusal.TheVariants.{Unfit as PairUnfit, Damaged as PairDamaged}
+use Rattle.index.specs.declared.present.PairRefusal.TheVariants.{Absent as PairAbsent, JournalFull as PairJournalFull}
 
-abbrev insert_back : ℕ → Value → Inserted
-insert_back number (some slot) = pick (eqb number 0) (InsertAt slot) (Present slot)
+abbrev insert_back : ℕ → Value → Result ℕ InsertRefusal
+insert_back number (some slot) = pick (eqb number 0) (Ok slot) (Err (Present slot))
 insert_back number none =
-    pick (eqb number 1) InsertUnfit (pick (eqb number 2) InsertDamaged (pick (eqb number 5) Full InsertJournalFull))
+    Err (pick (eqb number 1) InsertUnfit (pick (eqb number 2) InsertDamaged (pick (eqb number 5) Full InsertJournalFull)))
 
-insert_back_lem : (r : Inserted) → insert_back (inserted_of r).number (inserted_of r).value ≡ r
-insert_back_lem (InsertAt slot) = refl
-insert_back_lem InsertUnfit = refl
-insert_back_lem InsertDamaged = refl
-insert_back_lem (Present slot) = refl
-insert_back_lem Full = refl
-insert_back_lem InsertJournalFull = refl
+insert_back_lem : (r : Result ℕ InsertRefusal) → insert_back (inserted_of r).number (inserted_of r).value ≡ r
+insert_back_lem (Ok slot) = refl
+insert_back_lem (Err InsertUnfit) = refl
+insert_back_lem (Err InsertDamaged) = refl
+insert_back_lem (Err (Present slot)) = refl
+insert_back_lem (Err Full) = refl
+insert_back_lem (Err InsertJournalFull) = refl
 
-inserted_one_to_one : (a b : Inserted) → inserted_of a ≡ inserted_of b → a ≡ b
+inserted_one_to_one : (a b : Result ℕ InsertRefusal) → inserted_of a ≡ inserted_of b → a ≡ b
 inserted_one_to_one = told_apart inserted_of (λ a. insert_back a.number a.value) insert_back_lem
 
-abbrev presence_back : ℕ → Value → Presence
-presence_back number (some slot) = PresentAt slot
+abbrev presence_back : ℕ → Value → Result ℕ PairRefusal
+presence_back number (some slot) = Ok slot
 presence_back number none =
-    pick (eqb number 1) PresentUnfit (pick (eqb number 2) PresentDamaged (pick (eqb number 4) PresentAbsent PresentJournalFull))
+    Err (pick (eqb number 1) PairUnfit (pick (eqb number 2) PairDamaged (pick (eqb number 4) PairAbsent PairJournalFull)))
 
-presence_back_lem : (r : Presence) → presence_back (presence_of r).number (presence_of r).value ≡ r
-presence_back_lem (PresentAt slot) = refl
-presence_back_lem PresentUnfit = refl
-presence_back_lem PresentDamaged = refl
-presence_back_lem PresentAbsent = refl
-presence_back_lem PresentJournalFull = refl
+presence_back_lem : (r : Result ℕ PairRefusal) → presence_back (presence_of r).number (presence_of r).value ≡ r
+presence_back_lem (Ok slot) = refl
+presence_back_lem (Err PairUnfit) = refl
+presence_back_lem (Err PairDamaged) = refl
+presence_back_lem (Err PairAbsent) = refl
+presence_back_lem (Err PairJournalFull) = refl
 
-presence_one_to_one : (a b : Presence) → presence_of a ≡ presence_of b → a ≡ b
+presence_one_to_one : (a b : Result ℕ PairRefusal) → presence_of a ≡ presence_of b → a ≡ b
 presence_one_to_one = told_apart presence_of (λ a. presence_back a.number a.value) presence_back_lem
 
-abbrev fresh_back : ℕ → Freshness
-fresh_back number = pick (eqb number 0) Made FreshUnfit
+abbrev fresh_back : Value → Result Unit Unfit
+fresh_back (some value) = Ok tt
+fresh_back none = Err (record {})
 
-fresh_back_lem : (r : Freshness) → fresh_back (fresh_of r).number ≡ r
-fresh_back_lem Made = refl
-fresh_back_lem FreshUnfit = refl
+fresh_back_lem : (r : Result Unit Unfit) → fresh_back (fresh_of r).value ≡ r
+fresh_back_lem (Ok made) = refl
+fresh_back_lem (Err unfit) = refl
 
-freshness_one_to_one : (a b : Freshness) → fresh_of a ≡ fresh_of b → a ≡ b
-freshness_one_to_one = told_apart fresh_of (λ a. fresh_back a.number) fresh_back_lem
+freshness_one_to_one : (a b : Result Unit Unfit) → fresh_of a ≡ fresh_of b → a ≡ b
+freshness_one_to_one = told_apart fresh_of (λ a. fresh_back a.value) fresh_back_lem
 
 -- Calls whose outcomes are one are one.
 module _ {A : Type 0} (f : A → Answer) (apart : (a b : A) → f a ≡ f b → a ≡ b) where

@@ -3,13 +3,11 @@ use mathlib.Core.Path.{◌≡◌, ap, sym, ◌∙◌}
 use mathlib.Core.Bool.{Bool, true, false}
 use Prim.Native.Nat.{ℕ, ◌≤◌}
 use native.Mathlib.Omega.{arith}
-use Rattle.slots.specs.Answers.{Answer, refused}
+use Rattle.slots.specs.Answers.{refused}
 use Rattle.tree_rules.specs.Find.{Counted, with_looks, counted, found}
-use Rattle.tree_rules.specs.Check.{checked}
 use Rattle.tree_rules.proofs.Claims.{claims}
 use Rattle.index_rules.specs.Live.{Unsized, root_word, fits_unsized}
 use Rattle.index_rules.specs.Find.{finds}
-use Rattle.index_rules.specs.Check.{checks}
 use Rattle.index_rules.proofs.Fit.{fits-unsized}
 
 module _ (t : Unsized) {r : Bool} (e : r ≡ fits_unsized t) where
@@ -21,14 +19,6 @@ module _ (t : Unsized) {r : Bool} (e : r ≡ fits_unsized t) where
       → a ≡ counted (found t.names t.cells root hash key) → a ≡ counted (finds t hash key)
   unfolding finds
   find_fit hash key f h i = rw (← e, f, ← h) i
-
-  pub check_unfit : r ≡ false → refused 1 ≡ checks t
-  unfolding checks
-  check_unfit f = rw (← e, f)
-
-  pub check_fit : r ≡ true → {root : ℕ} {a : Answer} → root ≡ root_word t.head → a ≡ checked t.names t.cells root → a ≡ checks t
-  unfolding checks
-  check_fit f h i = rw (← e, f, ← h) i
 
 -- A search in fit words looks at no more slots than a word counts.
 pub looks_word : (t : Unsized) {r : Bool} → r ≡ fits_unsized t → r ≡ true → (root hash key : ℕ) {a : Counted}

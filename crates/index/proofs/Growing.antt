@@ -5,10 +5,10 @@ use mathlib.Core.List.{List}
 use Prim.Native.Nat.{ℕ, zero, suc, ◌+◌, ◌-◌, ◌<◌, ◌≤◌}
 use native.Mathlib.Numerals.{add-one, sub-one}
 use native.Mathlib.Omega.{arith}
-use lib.ListN.{length, set}
+use lib.ListN.{length}
 use lib.Dec.{eqb}
-use borrow.Author.Tests.{eq-eqb, ne_eqb, le-leb, lt-leb}
-use Rattle.slots.specs.Words.{null, pick, place, state, prev, next, free, cell, write, rename, hash_part, key_part}
+use borrow.Author.Tests.{eq-eqb, ne_eqb, le-leb}
+use Rattle.slots.specs.Words.{null, pick, place, state, next, free, cell, write, rename, hash_part, key_part}
 use Rattle.redblack.specs.Links.{Links, lent_links}
 use Rattle.redblack.specs.Hanging.{inserted, spotted}
 use Rattle.index_rules.specs.Live.{Live, lent_tree, root_of, first_of, count_of}
@@ -42,30 +42,9 @@ module _ (cells : List ℕ) (n k : ℕ) {x : ℕ} (same : free_from (n - k) cell
   pub free_end : n ≤ k → null ≡ x
   free_end l = sym (free_none (n - k) (omega arith) cells k) ∙ same
 
-module _ (cells : List ℕ) (x y q : ℕ) where
-  pub seat : {l1 l2 l3 l4 : List ℕ} → l1 ≡ write cells x prev y → l2 ≡ write l1 x next q → l3 ≡ write l2 y next x → l4 ≡ write l3 q prev x
-      → l4 ≡ seated cells x y q
-  unfolding seated
-  seat e1 e2 e3 e4 = rw (← e1, ← e2, ← e3) e4
-
-module _ (head : List ℕ) (root first count : ℕ) where
-  pub heads : {l1 l2 l3 : List ℕ} → l1 ≡ set head 0 root → l2 ≡ set l1 1 first → l3 ≡ set l2 2 count → l3 ≡ headed head root first count
-  heads e1 e2 e3 = rw (← e1, ← e2) e3
-
-module _ (names : List ℕ) (x hash key : ℕ) where
-  pub pair : {l1 l2 : List ℕ} → l1 ≡ rename names x hash_part hash → l2 ≡ rename l1 x key_part key
-      → l2 ≡ rename (rename names x hash_part hash) x key_part key
-  pair e1 e2 = rw (← e1) e2
-
--- The names are too many, the count is null, or the slot joins.
+-- The slot joins, where the names are not too many and the count is not null.
 module _ (t : Live) (x y hash key p : ℕ) where
-  pub grow_wide : 8192 < length t.names → t ≡ grown_if t x y hash key p
-  grow_wide h = rw (lt-leb (length t.names) 8192 h)
-
   module _ (h : length t.names ≤ 8192) {count : ℕ} (e1 : count ≡ count_of t) where
-    pub grow_null : count ≡ null → t ≡ grown_if t x y hash key p
-    grow_null g = let z = sym e1 ∙ g in rw (le-leb (length t.names) 8192 h, eq-eqb (count_of t) null z)
-
     pub grow : {root q front : ℕ} {names c1 c2 head : List ℕ} {hung : Links}
         → count ≢ null
         → root ≡ root_of t → q ≡ follower_of t y → front ≡ pick (eqb y null) x (first_of t)

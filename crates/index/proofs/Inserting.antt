@@ -1,14 +1,12 @@
 -- insert_sound as its tests settle it: each law takes what the tests gave, in the order of the code.
 use mathlib.Core.Path.{◌≡◌, refl}
-use mathlib.Core.Logic.{◌≢◌, inl, inr}
+use mathlib.Core.Logic.{◌≢◌}
 use mathlib.Core.Bool.{Bool, true, false}
-use mathlib.Core.List.{List, [], ◌∷◌}
+use mathlib.Core.List.{List}
 use Prim.Native.Nat.{ℕ, ◌-◌, ◌≤◌}
 use native.Mathlib.Omega.{arith}
 use lib.Dec.{eqb, leb}
 use borrow.Author.Tests.{eq-eqb, ne_eqb}
-use types.Run.{OneOf}
-use denote.Enum.Declared.{tag_of}
 use Rattle.slots.specs.Words.{null, most_slots}
 use Rattle.slots.specs.Answers.{Value, some, none, given, refused}
 use Rattle.index_rules.specs.Live.{Live, count_of}
@@ -17,10 +15,9 @@ use Rattle.index_rules.specs.Insert.{free_from, sought_in, grown}
 use Rattle.index_rules.specs.Checked.{lowest_from, on_checked, inserts_sound}
 use Rattle.index_rules.proofs.Journal.{fits-index}
 use Rattle.index.specs.Reads.{taken_as_sound}
-use Rattle.index.specs.Calls.{inserted_of}
-use Rattle.index.specs.declared.insert.Inserted.{Inserted}
-use Rattle.index.specs.declared.insert.Inserted.TheVariants.{At, Unfit, Damaged, Present, Full, JournalFull}
-use Rattle.index.specs.contracts.insert.Inserted.{the_type}
+use Rattle.index.specs.Calls.{insert_refusal_of}
+use Rattle.index.specs.declared.insert.InsertRefusal.{InsertRefusal}
+use Rattle.index.specs.declared.insert.InsertRefusal.TheVariants.{Unfit, Damaged, Present, Full, JournalFull}
 use Rattle.index.proofs.Asking.{unfit_taken, no_taken, yes_taken, Settled, refuses, accepts}
 use Rattle.tree_rules.specs.Find.{slots_of}
 
@@ -97,14 +94,10 @@ module _ (floor : ℕ) (ix : Index) (hash key : ℕ) where
         → outcome (given x) (index u l) ≡ inserts_sound floor ix hash key p
     joined e1 e2 e = rw (e1, e2) e
 
-pub not_at : (r : Inserted) → OneOf (1 ∷ 2 ∷ 3 ∷ 4 ∷ 5 ∷ []) (tag_of the_type r) → (inserted_of r).number ≡ 0 → ⊥
-not_at (At slot) (inl z) e = omega arith
-not_at (At slot) (inr (inl z)) e = omega arith
-not_at (At slot) (inr (inr (inl z))) e = omega arith
-not_at (At slot) (inr (inr (inr (inl z)))) e = omega arith
-not_at (At slot) (inr (inr (inr (inr z)))) e = omega arith
-not_at Unfit k e = omega arith
-not_at Damaged k e = omega arith
-not_at (Present slot) k e = omega arith
-not_at Full k e = omega arith
-not_at JournalFull k e = omega arith
+-- A refusal has a number.
+pub not_at : (r : InsertRefusal) → (insert_refusal_of r).number ≡ 0 → ⊥
+not_at Unfit e = omega arith
+not_at Damaged e = omega arith
+not_at (Present slot) e = omega arith
+not_at Full e = omega arith
+not_at JournalFull e = omega arith

@@ -5,7 +5,6 @@ pub mod Walked
 pub mod Reading
 pub mod Writing
 pub mod Growing
-pub mod Shrinking
 pub mod Room
 pub mod Driving
 pub mod Asking

@@ -1,12 +1,8 @@
 -- What remove and replace ask alike, as the tests settle it: each law takes what the tests gave, in the order of the code.
 use mathlib.Core.Path.{◌≡◌, refl}
 use mathlib.Core.Bool.{Bool, true, false}
-use mathlib.Core.Logic.{inl, inr}
-use mathlib.Core.List.{[], ◌∷◌}
 use Prim.Native.Nat.{ℕ}
 use native.Mathlib.Omega.{arith}
-use types.Run.{OneOf}
-use denote.Enum.Declared.{tag_of}
 use lib.Dec.{eqb, leb}
 use Rattle.slots.specs.Words.{most_slots}
 use Rattle.slots.specs.Answers.{Value, some, none, given, refused}
@@ -15,10 +11,9 @@ use Rattle.index_rules.specs.Index.{Index, fits_index, length_of, lines_of}
 use Rattle.index_rules.specs.Insert.{sought_in}
 use Rattle.index_rules.specs.Checked.{on_checked, present_sound}
 use Rattle.index.specs.Reads.{taken_as_sound}
-use Rattle.index.specs.Calls.{presence_of}
-use Rattle.index.specs.declared.present.Presence.{Presence}
-use Rattle.index.specs.declared.present.Presence.TheVariants.{At, Unfit, Damaged, Absent, JournalFull}
-use Rattle.index.specs.contracts.present.Presence.{the_type}
+use Rattle.index.specs.Calls.{pair_refusal_of}
+use Rattle.index.specs.declared.present.PairRefusal.{PairRefusal}
+use Rattle.index.specs.declared.present.PairRefusal.TheVariants.{Unfit, Damaged, Absent, JournalFull}
 use Rattle.index.proofs.Asking.{unfit_taken, no_taken, yes_taken, Settled, refuses, accepts}
 
 module _ (ix : Index) (hash key : ℕ) where
@@ -67,13 +62,9 @@ module _ (ix : Index) (hash key : ℕ) where
       go true e true f (some x) s true r = refuses 5 none (rw (e, f, s, r))
       go true e true f (some x) s false r = accepts x e f (rw (e, f, s, r))
 
--- Another case than a slot is a refusal.
-pub not_at : (r : Presence) → OneOf (1 ∷ 2 ∷ 3 ∷ 4 ∷ []) (tag_of the_type r) → (presence_of r).number ≡ 0 → ⊥
-not_at (At slot) (inl z) e = omega arith
-not_at (At slot) (inr (inl z)) e = omega arith
-not_at (At slot) (inr (inr (inl z))) e = omega arith
-not_at (At slot) (inr (inr (inr z))) e = omega arith
-not_at Unfit k e = omega arith
-not_at Damaged k e = omega arith
-not_at Absent k e = omega arith
-not_at JournalFull k e = omega arith
+-- A refusal has a number.
+pub not_at : (r : PairRefusal) → (pair_refusal_of r).number ≡ 0 → ⊥
+not_at Unfit e = omega arith
+not_at Damaged e = omega arith
+not_at Absent e = omega arith
+not_at JournalFull e = omega arith

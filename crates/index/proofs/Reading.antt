@@ -1,5 +1,6 @@
 -- Every claim of `Reading` holds: an answer is read back off its number and value.
 use mathlib.Core.Path.{◌≡◌, refl, sym, ◌∙◌}
+use Rattle.std.specs.Prelude.{Bool, true, false, Option, None, Some, Result, Ok, Err}
 use Prim.Native.Nat.{ℕ, ◌+◌, ◌-◌}
 use native.Mathlib.Omega.{arith}
 use lib.Dec.{eqb}
@@ -10,49 +11,48 @@ use Rattle.slots.proofs.Claims.{answer_one_to_one}
 use Rattle.tree.proofs.Claims.{counted_one_to_one}
 use Rattle.index.specs.Reads.{found_of, checked_of, sound_of}
 use Rattle.index.specs.Reading.{Reading}
-use Rattle.index.specs.declared.find.Found.{Found}
-use Rattle.index.specs.declared.find.Found.TheVariants.{At, Nothing, Unfit, Lost}
-use Rattle.index.specs.declared.check.Checked.{Checked}
-use Rattle.index.specs.declared.check.Checked.TheVariants.{Passes, Fails, Unfit as CheckUnfit, Lost as CheckLost}
-use Rattle.index.specs.declared.sound.Soundness.{Soundness}
-use Rattle.index.specs.declared.sound.Soundness.TheVariants.{Yes, No, Unfit as SoundUnfit}
+use Rattle.tree.specs.declared.find.Found.{Found}
+use Rattle.tree.specs.declared.find.Found.TheVariants.{At, Nothing, Lost}
+use Rattle.tree.specs.declared.check.Fault.{Fault}
+use Rattle.tree.specs.declared.check.Fault.TheVariants.{Fails, Lost as FaultLost}
+use Rattle.slots.specs.declared.answer.Unfit.{Unfit}
 
-abbrev found_back : ℕ → ℕ → Value → Found
-found_back looks number (some slot) = At slot looks
-found_back looks number none = pick (eqb number 0) (Nothing looks) (pick (eqb number 1) Unfit (Lost looks))
+abbrev found_back : ℕ → ℕ → Value → Result (Found ℕ) Unfit
+found_back looks number (some slot) = Ok (At slot looks)
+found_back looks number none = pick (eqb number 0) (Ok (Nothing looks)) (pick (eqb number 1) (Err (record {})) (Ok (Lost looks)))
 
-found_back_lem : (r : Found) → found_back (found_of r).looks (found_of r).answer.number (found_of r).answer.value ≡ r
-found_back_lem (At slot looks) = refl
-found_back_lem (Nothing looks) = refl
-found_back_lem Unfit = refl
-found_back_lem (Lost looks) = refl
+found_back_lem : (r : Result (Found ℕ) Unfit) → found_back (found_of r).looks (found_of r).answer.number (found_of r).answer.value ≡ r
+found_back_lem (Ok (At slot looks)) = refl
+found_back_lem (Ok (Nothing looks)) = refl
+found_back_lem (Err unfit) = refl
+found_back_lem (Ok (Lost looks)) = refl
 
-found_one_to_one : (a b : Found) → found_of a ≡ found_of b → a ≡ b
+found_one_to_one : (a b : Result (Found ℕ) Unfit) → found_of a ≡ found_of b → a ≡ b
 found_one_to_one = told_apart found_of (λ a. found_back a.looks a.answer.number a.answer.value) found_back_lem
 
-abbrev checked_back : ℕ → Value → Checked
-checked_back number (some slot) = Fails (number - 100) slot
-checked_back number none = pick (eqb number 0) Passes (pick (eqb number 1) CheckUnfit CheckLost)
+abbrev checked_back : ℕ → Value → Result (Option Fault) Unfit
+checked_back number (some slot) = Ok (Some (Fails (number - 100) slot))
+checked_back number none = pick (eqb number 0) (Ok None) (pick (eqb number 1) (Err (record {})) (Ok (Some FaultLost)))
 
-checked_back_lem : (r : Checked) → checked_back (checked_of r).number (checked_of r).value ≡ r
-checked_back_lem Passes = refl
-checked_back_lem (Fails test slot) = let z : 100 + test - 100 ≡ test = omega arith in rw z
-checked_back_lem CheckUnfit = refl
-checked_back_lem CheckLost = refl
+checked_back_lem : (r : Result (Option Fault) Unfit) → checked_back (checked_of r).number (checked_of r).value ≡ r
+checked_back_lem (Ok None) = refl
+checked_back_lem (Ok (Some (Fails test slot))) = let z : 100 + test - 100 ≡ test = omega arith in rw z
+checked_back_lem (Err unfit) = refl
+checked_back_lem (Ok (Some FaultLost)) = refl
 
-checked_one_to_one : (a b : Checked) → checked_of a ≡ checked_of b → a ≡ b
+checked_one_to_one : (a b : Result (Option Fault) Unfit) → checked_of a ≡ checked_of b → a ≡ b
 checked_one_to_one = told_apart checked_of (λ a. checked_back a.number a.value) checked_back_lem
 
-abbrev sound_back : Value → Soundness
-sound_back (some value) = pick (eqb value 1) Yes No
-sound_back none = SoundUnfit
+abbrev sound_back : Value → Result Bool Unfit
+sound_back (some value) = Ok (eqb value 1)
+sound_back none = Err (record {})
 
-sound_back_lem : (r : Soundness) → sound_back (sound_of r).value ≡ r
-sound_back_lem Yes = refl
-sound_back_lem No = refl
-sound_back_lem SoundUnfit = refl
+sound_back_lem : (r : Result Bool Unfit) → sound_back (sound_of r).value ≡ r
+sound_back_lem (Ok true) = refl
+sound_back_lem (Ok false) = refl
+sound_back_lem (Err unfit) = refl
 
-soundness_one_to_one : (a b : Soundness) → sound_of a ≡ sound_of b → a ≡ b
+soundness_one_to_one : (a b : Result Bool Unfit) → sound_of a ≡ sound_of b → a ≡ b
 soundness_one_to_one = told_apart sound_of (λ a. sound_back a.value) sound_back_lem
 
 pub reading : Reading

@@ -1,15 +1,12 @@
 -- rollback_sound as its tests settle it: each law takes what the tests gave, in the order of the code.
 use mathlib.Core.Path.{◌≡◌, refl, sym, ◌∙◌}
-use mathlib.Core.Logic.{inl, inr}
 use mathlib.Core.Bool.{Bool, true, false}
-use mathlib.Core.List.{List, [], ◌∷◌}
+use mathlib.Core.List.{List}
 use Prim.Native.Nat.{ℕ, suc, ◌+◌, ◌-◌, ◌<◌, ◌≤◌}
 use native.Mathlib.Omega.{arith}
 use lib.ListN.{length, set}
 use lib.Dec.{leb, ltb}
 use borrow.Author.Tests.{lt-ltb, le-ltb, ltb-false, leb-true}
-use types.Run.{OneOf}
-use denote.Enum.Declared.{tag_of}
 use Rattle.slots.specs.Words.{null, most_slots}
 use Rattle.slots.specs.Answers.{Answer, given, refused}
 use Rattle.slots.proofs.Laws.{given_is, number}
@@ -19,10 +16,9 @@ use Rattle.index_rules.specs.Rollback.{stays, misfit, blanked}
 use Rattle.index_rules.specs.Checked.{on_checked, unrolled_from, rolls_sound}
 use Rattle.index_rules.proofs.Journal.{fits-index}
 use Rattle.index.specs.Reads.{taken_as_sound}
-use Rattle.index.specs.Rolls.{opened, rolled_of}
-use Rattle.index.specs.declared.rollback.RolledBack.{RolledBack}
-use Rattle.index.specs.declared.rollback.RolledBack.TheVariants.{Lines, Unfit, Damaged, BadMark, Misfit}
-use Rattle.index.specs.contracts.rollback.RolledBack.{the_type}
+use Rattle.index.specs.Rolls.{opened, rollback_refusal_of}
+use Rattle.index.specs.declared.rollback.RollbackRefusal.{RollbackRefusal}
+use Rattle.index.specs.declared.rollback.RollbackRefusal.TheVariants.{Unfit, Damaged, BadMark, Misfit}
 use Rattle.index.proofs.Asking.{unfit_taken, no_taken, yes_taken}
 
 module _ (ix : Index) (m : ℕ) where
@@ -120,12 +116,9 @@ module _ {ix : Index} {m count : ℕ} (o : Open ix m count) where
       let s : unrolled_from (length_of ix.lines - m) 0 ix.live ix.lines m ≡ stays u = rw (← o.lines) (sym h) in
       rw (o.fits, o.counts, le-ltb (length_of ix.lines) m o.mark, s, ← o.lines, ← g)
 
-pub not_lines : (r : RolledBack) → OneOf (1 ∷ 2 ∷ 3 ∷ 4 ∷ []) (tag_of the_type r) → (rolled_of r).number ≡ 0 → ⊥
-not_lines (Lines count) (inl z) e = omega arith
-not_lines (Lines count) (inr (inl z)) e = omega arith
-not_lines (Lines count) (inr (inr (inl z))) e = omega arith
-not_lines (Lines count) (inr (inr (inr z))) e = omega arith
-not_lines Unfit k e = omega arith
-not_lines Damaged k e = omega arith
-not_lines BadMark k e = omega arith
-not_lines Misfit k e = omega arith
+-- A refusal has a number.
+pub not_lines : (r : RollbackRefusal) → (rollback_refusal_of r).number ≡ 0 → ⊥
+not_lines Unfit e = omega arith
+not_lines Damaged e = omega arith
+not_lines BadMark e = omega arith
+not_lines Misfit e = omega arith

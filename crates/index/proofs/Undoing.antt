@@ -1,18 +1,19 @@
 -- What the steps of undoing come to, on plain values: each law takes what the calls and the tests gave, in the order of the code.
 -- Parts: undoing a line of each kind, and of another one; the slot that it frees; how far the count may grow; a turn of undoing many lines;
--- a turn of a copy; whether lines were undone; words that were kept aside come back.
-use mathlib.Core.Path.{◌≡◌, refl, ap, sym, ◌∙◌, subst}
+-- words that were kept aside come back.
+use mathlib.Core.Path.{◌≡◌, refl, ap, sym, ◌∙◌}
 use mathlib.Core.Logic.{◌≢◌}
 use mathlib.Core.Bool.{Bool, true, false}
-use mathlib.Core.List.{List, [], ◌∷◌, ◌++◌}
+use mathlib.Core.List.{List, [], ◌∷◌}
+use Rattle.std.specs.Prelude.{Result}
 use Prim.Native.Nat.{ℕ, zero, suc, ◌+◌, ◌-◌, ◌/◌, ◌%◌, ◌<◌, ◌≤◌}
 use native.Mathlib.Decide.{dec_lt}
-use native.Mathlib.Numerals.{add-one, sub-one}
+use native.Mathlib.Numerals.{sub-one}
 use native.Mathlib.Omega.{arith}
 use lib.ListN.{length, get_or, set, take, length-set, get_or-eq_default}
-use lib.Seq.{get_or-set_same, take-suc, take-suc-set, take_all, take-length}
+use lib.Seq.{get_or-set_same, take_all, take-length}
 use lib.Dec.{eqb, ltb}
-use borrow.Author.Tests.{eq-eqb, ne_eqb, lt-ltb, le-ltb}
+use borrow.Author.Tests.{eq-eqb, ne_eqb, lt-ltb}
 use Rattle.slots.specs.Words.{null, pick, place, cell, write}
 use Rattle.slots.specs.Answers.{Value, some, none}
 use Rattle.index_rules.specs.Live.{Live, lent_tree, count_of}
@@ -22,11 +23,8 @@ use Rattle.index_rules.specs.Remove.{shrunk}
 use Rattle.index_rules.specs.Replace.{placed_at}
 use Rattle.index_rules.specs.Rollback.{Undo, stays, misfit, taken_back, put_back, put_behind, placed_back, undone_into}
 use Rattle.index_rules.specs.Checked.{lesser, lowest_from, slot_in, freed_by, unrolled_from}
-use Rattle.index.specs.Rolls.{undone_of, undo_of, freed_is}
-use Rattle.index.specs.declared.lines.Undone.{Undone}
-use Rattle.index.specs.declared.lines.Undone.TheVariants.{Freed, Misfit as LineMisfit}
-use Rattle.index.specs.declared.lines.Undoing.{Undoing}
-use Rattle.index.specs.declared.lines.Undoing.TheVariants.{Done, Misfit}
+use Rattle.index.specs.Rolls.{freed_is}
+use Rattle.index.specs.declared.lines.Misfit.{Misfit}
 use Rattle.tree_rules.specs.Find.{slots_of}
 
 -- An insert line: its pair is not there, has another place, or goes.
@@ -41,22 +39,14 @@ module _ (t : Live) (hash key p : ℕ) where
     pub back_done : {u : Live} → own ≡ p → u ≡ shrunk t x → stays u ≡ taken_back t (sought_in t hash key) p
     back_done h g = rw (s, ← e, eq-eqb own p h, ← g)
 
--- A remove line: its pair is there, no slot is free, its place is too wide, or it comes back.
+-- A remove line: its pair is there, or it comes back.
 module _ (t : Live) (j : JournalLine) (x y : ℕ) where
   pub put_there : {own : ℕ} → sought_in t j.hash j.key ≡ some own → misfit ≡ put_back t x (sought_in t j.hash j.key) j y
   put_there s = rw s
 
-  module _ (s : sought_in t j.hash j.key ≡ none) where
-    pub put_full : x ≡ null → misfit ≡ put_back t x (sought_in t j.hash j.key) j y
-    put_full v = rw (s, eq-eqb x null v)
-
-    module _ (v : x ≢ null) where
-      pub put_wide : 4294967296 ≤ j.place → misfit ≡ put_back t x (sought_in t j.hash j.key) j y
-      put_wide h = rw (s, ne_eqb x null v, le-ltb j.place 4294967296 h)
-
-      pub put-done : {u : Live} → j.place < 4294967296 → u ≡ grown t x y j.hash j.key j.place
-          → stays u ≡ put_back t x (sought_in t j.hash j.key) j y
-      put-done h g = rw (s, ne_eqb x null v, lt-ltb j.place 4294967296 h, ← g)
+  pub put-done : {u : Live} → sought_in t j.hash j.key ≡ none → x ≢ null → j.place < 4294967296 → u ≡ grown t x y j.hash j.key j.place
+      → stays u ≡ put_back t x (sought_in t j.hash j.key) j y
+  put-done s v h g = rw (s, ne_eqb x null v, lt-ltb j.place 4294967296 h, ← g)
 
 -- A remove line that notes a pair: it is not there, or it is.
 module _ (t : Live) (x prehash prekey : ℕ) (own : Value) (j : JournalLine) where
@@ -116,7 +106,7 @@ module _ (t : Live) (lines : List ℕ) (k x : ℕ) {kind hash key p : ℕ}
 -- The slot that a line's undoing frees.
 module _ (t : Live) (lines : List ℕ) (k : ℕ) {kind hash key : ℕ} (e1 : kind ≡ line_word lines k 0) (e2 : hash ≡ line_word lines k 1)
     (e3 : key ≡ line_word lines k 2)
-    (r : Undone) where
+    (r : Result ℕ Misfit) where
   pub frees_own : kind ≡ 1 → freed_is r (slot_in (sought_in t hash key)) → freed_is r (freed_by t (line_of lines k))
   unfolding freed_by
   frees_own h f = rw (← e1, ← e2, ← e3, eq-eqb kind 1 h) f
@@ -236,16 +226,14 @@ module _ {t₀ : Live} {lines : List ℕ} {m count : ℕ} {t : Live} {floor c x 
   unfolding lowest_from
   from = rw turn.names e0
 
-  pub turn_on : {r : Undone} {u : Live} {freed floor' : ℕ} → 0 < c → undone_of r u ≡ undone_into x t (line_of lines (m + (c - 1)))
-      → freed_is r (freed_by t (line_of lines (m + (c - 1)))) → r ≡ Freed freed → floor' ≡ lesser freed x
+  pub turn_on : {u : Live} {freed floor' : ℕ} → 0 < c → stays u ≡ undone_into x t (line_of lines (m + (c - 1)))
+      → freed ≡ freed_by t (line_of lines (m + (c - 1))) → floor' ≡ lesser freed x
       → length u.names ≡ length t.names → length u.cells ≡ length t.cells → length u.head ≡ length t.head
       → length u.sizes ≡ length t.sizes
       → Turn t₀ lines m count u floor' (c - 1)
-  turn_on {r} {u} {freed} {floor'} h e w f k n1 n2 n3 n4 =
+  turn_on {u} h g z k n1 n2 n3 n4 =
       let line = line_of lines (m + (c - 1)) in
-      let g : stays u ≡ undone_into x t line = ap (λ (b : Undone). undone_of b u) (sym f) ∙ e in
       let l : count_of t < null = omega (arith, turn.small) in
-      let z : freed ≡ freed_by t line = subst (λ (b : Undone). freed_is b (freed_by t line)) f w in
       record {
         same = unroll_on lines m t floor from c h g (k ∙ ap (λ (i : ℕ). lesser i x) z) ∙ turn.same;
         small = omega (arith, turn.small, undone-count t u l x line (sym g));
@@ -255,29 +243,12 @@ module _ {t₀ : Live} {lines : List ℕ} {m count : ℕ} {t : Live} {floor c x 
         sizes = n4 ∙ turn.sizes;
       }
 
-  pub turn_not : {r : Undone} (u : Live) → 0 < c → undone_of r u ≡ undone_into x t (line_of lines (m + (c - 1))) → r ≡ LineMisfit
-      → misfit ≡ unrolled_from count 0 t₀ lines m
-  turn_not {r} u h e f = unroll_not lines m t floor from c h (ap (λ (b : Undone). undone_of b u) (sym f) ∙ e) ∙ turn.same
+  pub turn_not : 0 < c → misfit ≡ undone_into x t (line_of lines (m + (c - 1))) → misfit ≡ unrolled_from count 0 t₀ lines m
+  turn_not h e = unroll_not lines m t floor from c h e ∙ turn.same
 
 pub turn_end : {t₀ : Live} {lines : List ℕ} {m count : ℕ} {t : Live} {floor c : ℕ} → Turn t₀ lines m count t floor c → c ≤ 0
     → stays t ≡ unrolled_from count 0 t₀ lines m
 turn_end {t₀} {lines} {m} {count} {t} {floor} {c} turn h = unroll_end lines m t floor c h ∙ turn.same
-
--- A turn of a copy: one word more.
-pub copy_on : (src dst : List ℕ) (i : ℕ) → i < length src → i < length dst → take i dst ≡ take i src
-    → take (i + 1) (set dst i (get_or src i 0)) ≡ take (i + 1) src
-copy_on src dst i a b e =
-    rw (add-one) (take-suc-set dst i (get_or src i 0) b ∙ ap (λ (l : List ℕ). l ++ (get_or src i 0 ∷ [])) e ∙ sym (take-suc src i 0 a))
-
--- Lines were undone, or they do not fit.
-pub undo_done : {r : Undoing} (u : Live) {o : Undo} → undo_of r u ≡ o → r ≡ Done → stays u ≡ o
-undo_done u e f = ap (λ (b : Undoing). undo_of b u) (sym f) ∙ e
-
-pub undo_not : {r : Undoing} (u : Live) {o : Undo} → undo_of r u ≡ o → r ≡ Misfit → misfit ≡ o
-undo_not u e f = ap (λ (b : Undoing). undo_of b u) (sym f) ∙ e
-
-pub done-not : Done ≡ Misfit → ⊥
-done-not e = let z : ◌≡◌ {A = ℕ} 0 1 = cc in omega arith
 
 -- Words that were kept aside come back.
 pub words_back : {words after : List ℕ} (copy now : List ℕ)

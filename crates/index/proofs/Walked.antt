@@ -74,12 +74,12 @@ inside true false c d rest = refl
 inside false b c d rest = refl
 
 -- T8's two halves, each asked with what asks it.
-halves : (one two tree seven all frees : Bool)
-    → pick one (pick two (pick tree (pick seven (pick all frees false) false) false) false) false
-    ≡ pick (pick one frees false) (pick two (pick (pick tree all false) seven false) false) false
-halves false two tree seven all frees = refl
-halves true false tree seven all true = refl
-halves true false tree seven all false = refl
+halves : (one two three seven all frees : Bool)
+    → pick one (pick two (pick three (pick seven (pick all frees false) false) false) false) false
+    ≡ pick (pick one frees false) (pick two (pick (pick three all false) seven false) false) false
+halves false two three seven all frees = refl
+halves true false three seven all true = refl
+halves true false three seven all false = refl
 halves true true false seven all true = refl
 halves true true false seven all false = refl
 halves true true true false true true = refl

@@ -4,26 +4,13 @@ use mathlib.Core.List.{List}
 use Prim.Native.Nat.{ℕ, zero, suc, ◌+◌, ◌-◌, ◌*◌, ◌<◌, ◌≤◌}
 use native.Mathlib.Numerals.{sub-one}
 use native.Mathlib.Omega.{arith}
-use lib.ListN.{length, set}
+use lib.ListN.{length}
 use lib.Seq.{set_out}
-use borrow.Author.Tests.{lt-leb, le-leb}
-use Rattle.index_rules.specs.Index.{JournalLine, length_of, line_made, plain_line, lined, appended}
+use Rattle.index_rules.specs.Index.{line_made, plain_line, lined}
 use Rattle.index_rules.specs.Rollback.{blanked}
-use Rattle.index.specs.Frees.{appended_if}
 
 module _ (lines : List ℕ) (k kind hash key place prehash prekey : ℕ) where
-  abbrev made : JournalLine
-  made = line_made kind hash key place prehash prekey
-
-  pub line : {l1 l2 l3 l4 l5 l6 : List ℕ}
-      → l1 ≡ set lines (1 + 6 * k) kind → l2 ≡ set l1 (1 + 6 * k + 1) hash
-      → l3 ≡ set l2 (1 + 6 * k + 2) key → l4 ≡ set l3 (1 + 6 * k + 3) place
-      → l5 ≡ set l4 (1 + 6 * k + 4) prehash → l6 ≡ set l5 (1 + 6 * k + 5) prekey
-      → l6 ≡ lined lines k made
-  unfolding lined
-  line e1 e2 e3 e4 e5 e6 = let z : 1 + 6 * k + 0 ≡ 1 + 6 * k = omega arith in rw (z, ← e1, ← e2, ← e3, ← e4, ← e5, ← e6)
-
-  pub no_line_lem : length lines ≤ k → lines ≡ lined lines k made
+  pub no_line_lem : length lines ≤ k → lines ≡ lined lines k (line_made kind hash key place prehash prekey)
   unfolding lined
   no_line_lem h =
       rw (
@@ -34,19 +21,6 @@ module _ (lines : List ℕ) (k kind hash key place prehash prekey : ℕ) where
         set_out lines (1 + 6 * k + 4) prehash (omega arith),
         set_out lines (1 + 6 * k + 5) prekey (omega arith),
       )
-
--- The length passes 1,024, does not.
-module _ (lines : List ℕ) (j : JournalLine) where
-  pub no_append : {n : ℕ} → n ≡ length_of lines → 1024 < n → lines ≡ appended_if lines j
-  no_append e h = let g = rw e at h in rw (lt-leb (length_of lines) 1024 g)
-
-  pub append : {n : ℕ} {l1 l2 : List ℕ} → n ≡ length_of lines → n ≤ 1024 → l1 ≡ lined lines n j → l2 ≡ set l1 0 (n + 1)
-      → l2 ≡ appended_if lines j
-  unfolding appended
-  append {n} {l1} {l2} e1 h e2 e3 =
-      let g = rw e1 at h in
-      let z : l2 ≡ appended lines j = rw (← e1, ← e2) e3 in
-      rw (le-leb (length_of lines) 1024 g) z
 
 -- A turn of the clearing: one line more, none left.
 module _ (lines : List ℕ) (m c : ℕ) where
@@ -65,6 +39,3 @@ module _ (lines : List ℕ) (m c : ℕ) where
       go : (c : ℕ) → c ≤ 0 → lines ≡ blanked c lines m
       go zero h = refl
       go (suc c) h = absurd (omega arith)
-
-  pub cut : {l1 l2 : List ℕ} → l1 ≡ blanked c lines m → l2 ≡ set l1 0 m → l2 ≡ set (blanked c lines m) 0 m
-  cut e1 e2 = rw (← e1) e2

@@ -1,23 +1,29 @@
--- The number and value of each answer of insert, and of remove and replace, which answer alike.
+-- The number and value of each refusal of insert, and of remove and replace, which refuse alike; and of what the three answer.
+use Rattle.std.specs.Prelude.{Result, ℕ}
 use Rattle.slots.specs.Answers.{Answer, some, given, refused}
-use Rattle.index.specs.declared.insert.Inserted.{Inserted}
-use Rattle.index.specs.declared.insert.Inserted.TheVariants.{At as InsertAt, Unfit as InsertUnfit, Damaged as InsertDamaged, Present}
-use Rattle.index.specs.declared.insert.Inserted.TheVariants.{Full, JournalFull as InsertJournalFull}
-use Rattle.index.specs.declared.present.Presence.{Presence}
-use Rattle.index.specs.declared.present.Presence.TheVariants.{At as PresentAt, Unfit as PresentUnfit, Damaged as PresentDamaged}
-use Rattle.index.specs.declared.present.Presence.TheVariants.{Absent as PresentAbsent, JournalFull as PresentJournalFull}
+use Rattle.slots.specs.Coded.{told_by}
+use Rattle.index.specs.declared.insert.InsertRefusal.{InsertRefusal}
+use Rattle.index.specs.declared.insert.InsertRefusal.TheVariants.{Unfit as InsertUnfit, Damaged as InsertDamaged, Present}
+use Rattle.index.specs.declared.insert.InsertRefusal.TheVariants.{Full, JournalFull as InsertJournalFull}
+use Rattle.index.specs.declared.present.PairRefusal.{PairRefusal}
+use Rattle.index.specs.declared.present.PairRefusal.TheVariants.{Unfit as PairUnfit, Damaged as PairDamaged}
+use Rattle.index.specs.declared.present.PairRefusal.TheVariants.{Absent as PairAbsent, JournalFull as PairJournalFull}
 
-abbrev pub inserted_of : Inserted → Answer
-inserted_of (InsertAt slot) = given slot
-inserted_of InsertUnfit = refused 1
-inserted_of InsertDamaged = refused 2
-inserted_of (Present slot) = record { number = 3; value = some slot }
-inserted_of Full = refused 5
-inserted_of InsertJournalFull = refused 6
+abbrev pub insert_refusal_of : InsertRefusal → Answer
+insert_refusal_of InsertUnfit = refused 1
+insert_refusal_of InsertDamaged = refused 2
+insert_refusal_of (Present slot) = record { number = 3; value = some slot }
+insert_refusal_of Full = refused 5
+insert_refusal_of InsertJournalFull = refused 6
 
-abbrev pub presence_of : Presence → Answer
-presence_of (PresentAt slot) = given slot
-presence_of PresentUnfit = refused 1
-presence_of PresentDamaged = refused 2
-presence_of PresentAbsent = refused 4
-presence_of PresentJournalFull = refused 6
+abbrev pub inserted_of : Result ℕ InsertRefusal → Answer
+inserted_of = told_by given insert_refusal_of
+
+abbrev pub pair_refusal_of : PairRefusal → Answer
+pair_refusal_of PairUnfit = refused 1
+pair_refusal_of PairDamaged = refused 2
+pair_refusal_of PairAbsent = refused 4
+pair_refusal_of PairJournalFull = refused 6
+
+abbrev pub presence_of : Result ℕ PairRefusal → Answer
+presence_of = told_by given pair_refusal_of

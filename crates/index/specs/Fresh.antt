@@ -1,8 +1,9 @@
 -- The number and value of each answer of fresh.
-use Rattle.slots.specs.Answers.{Answer, given, refused}
-use Rattle.index.specs.declared.fresh.Freshness.{Freshness}
-use Rattle.index.specs.declared.fresh.Freshness.TheVariants.{Made, Unfit}
+use Prim.{Unit}
+use Rattle.std.specs.Prelude.{Result}
+use Rattle.slots.specs.Answers.{Answer}
+use Rattle.slots.specs.Coded.{told_by, done, unfit_told}
+use Rattle.slots.specs.declared.answer.Unfit.{Unfit}
 
-abbrev pub fresh_of : Freshness → Answer
-fresh_of Made = given 1
-fresh_of Unfit = refused 1
+abbrev pub fresh_of : Result Unit Unfit → Answer
+fresh_of = told_by done unfit_told

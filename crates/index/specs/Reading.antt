@@ -1,6 +1,6 @@
 -- Of the routines that only read beside their contracts: their answers are told apart by their numbers,
 -- and each public routine has one outcome.
-use Rattle.std.specs.Prelude.{◌≡◌, List, ℕ}
+use Rattle.std.specs.Prelude.{◌≡◌, Bool, List, Option, ℕ, Result}
 use Rattle.slots.specs.Answers.{Answer, OneAnswer}
 use Rattle.slots.specs.Coded.{answer_of}
 use Rattle.tree_rules.specs.Find.{Counted, counted}
@@ -13,16 +13,16 @@ use Rattle.index_rules.specs.Checked.{sounds_index}
 use Rattle.tree_rules.specs.Chain.{tally}
 use Rattle.index_rules.specs.Sound.{used, slots_fine, sounds}
 use Rattle.index.specs.Reads.{found_of, checked_of, sound_of}
-use Rattle.index.specs.declared.check.Checked.{Checked}
-use Rattle.index.specs.declared.find.Found.{Found}
-use Rattle.index.specs.declared.sound.Soundness.{Soundness}
+use Rattle.tree.specs.declared.check.Fault.{Fault}
+use Rattle.tree.specs.declared.find.Found.{Found}
+use Rattle.slots.specs.declared.answer.Unfit.{Unfit}
 
 pub record Reading : Type 0 where
-  pub found_one_to_one : (a b : Found) → found_of a ≡ found_of b → a ≡ b
+  pub found_one_to_one : (a b : Result (Found ℕ) Unfit) → found_of a ≡ found_of b → a ≡ b
   pub find_one : (t : Unsized) (hash key : ℕ) → OneAnswer (λ r. found_of r ≡ counted (finds t hash key))
-  pub checked_one_to_one : (a b : Checked) → checked_of a ≡ checked_of b → a ≡ b
+  pub checked_one_to_one : (a b : Result (Option Fault) Unfit) → checked_of a ≡ checked_of b → a ≡ b
   pub check_one : (t : Unsized) → OneAnswer (λ r. checked_of r ≡ checks t)
-  pub soundness_one_to_one : (a b : Soundness) → sound_of a ≡ sound_of b → a ≡ b
+  pub soundness_one_to_one : (a b : Result Bool Unfit) → sound_of a ≡ sound_of b → a ≡ b
   pub sound_one : (t : Live) → OneAnswer (λ r. sound_of r ≡ sounds t)
   pub sound-index_one : (ix : Index) → OneAnswer (λ r. sound_of r ≡ sounds_index ix)
   pub fit_unsized_one : (t : Unsized) → OneAnswer (λ r. r ≡ fits_unsized t)

@@ -7,6 +7,7 @@ use crate::journal::fit_journal;
 use slots::MOST_SLOTS;
 
 // Whether the three slices are a live tree's without its sizes: their lengths agree, and the capacity is 1 to 4,096.
+#[tactic(auto, unfolding(index_rules::specs::Live::fits_unsized))]
 pub fn fit_unsized(names: &[u64], cells: &[u32], head: &[u32]) -> bool
     ensures { result ≡ fits_unsized (unsized names.now cells.now head.now) }
 {
@@ -15,6 +16,7 @@ pub fn fit_unsized(names: &[u64], cells: &[u32], head: &[u32]) -> bool
 }
 
 // Whether the four slices are a live tree's: the first three are, and there is a size to a slot.
+#[tactic(auto, unfolding(index_rules::specs::Live::fits))]
 pub fn fit(names: &[u64], cells: &[u32], head: &[u32], sizes: &[u32]) -> bool
     ensures { result ≡ fits (lent_tree names.now cells.now head.now sizes.now) }
 {
@@ -22,6 +24,7 @@ pub fn fit(names: &[u64], cells: &[u32], head: &[u32], sizes: &[u32]) -> bool
 }
 
 // Whether the five slices are a live tree's with its journal.
+#[tactic(auto, unfolding(index_rules::specs::Index::fits_index))]
 pub(crate) fn fit_index(
     names: &[u64],
     cells: &[u32],

@@ -13,16 +13,14 @@ use slots::{
 };
 
 // The lowest free of the n slots from the floor on, null where there is none.
+// Form kept: null and no Option, since the clause equates the result with the rules' free_from, whose floors go on from null.
 pub fn lowest_free(cells: &[u32], n: u32, floor: u32) -> u32
     ensures { result ≡ free_from (n - floor) cells.now floor }
 {
-    let mut k = floor;
-    while k < n {
-        let state = get(cells, k, STATE);
-        if state == FREE {
+    for k in floor..n {
+        if get(cells, k, STATE) == FREE {
             return k;
         }
-        k += 1;
     }
     NULL
 }
@@ -35,6 +33,7 @@ pub fn lesser(a: u32, b: u32) -> u32
 }
 
 // Slot x stands in the chain between y and q; nothing is written to a null link.
+#[tactic(auto, unfolding(index_rules::specs::Insert::seated))]
 fn seat(cells: &mut [u32], x: u32, y: u32, q: u32)
     ensures { cells.new ≡ seated cells.old x y q }
 {

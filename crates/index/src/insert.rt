@@ -1,22 +1,21 @@
 // insert: a pair with its place joins the tree, and the journal takes a line.
 ghost use Rattle.std.specs.Prelude.{◌≡◌, ℕ};
-ghost use Rattle.slots.specs.Coded.{answer_of};
 ghost use Rattle.index_rules.specs.Index.{lent, outcome};
 ghost use Rattle.index_rules.specs.Insert.{inserts};
 ghost use Rattle.index_rules.specs.Checked.{raised_by, inserts_sound};
-ghost use Rattle.index.specs.Calls.{inserted_of};
+ghost use Rattle.index.specs.Calls.{insert_refusal_of, inserted_of};
+ghost use Rattle.index.specs.declared.insert.InsertRefusal.TheVariants.{Unfit as InsertUnfit};
 
 use crate::grow::{grow, lowest_free};
 use crate::journal::{INSERT, append, is_full};
-use crate::sound::{Soundness, sound_index, taken_as_sound};
-use slots::answer::{Answer, Value, given, refused};
+use crate::sound::{sound_index, taken_as_sound};
+use slots::answer::{Answer, Answers, Unfit, refused};
 use slots::{NULL, ROOT, word};
 use tree::find::{Found, find_tree_node};
 
-// What insert answers, with the number of each refusal.
+// Why insert refuses, with the number of each reason.
 #[derive(Clone, Copy)]
-pub enum Inserted {
-    At(u32), // the slot taken
+pub enum InsertRefusal {
     Unfit, // 1
     Damaged, // 2
     Present(u32), // 3, with the slot that has the pair
@@ -24,36 +23,42 @@ pub enum Inserted {
     JournalFull, // 6
 }
 
-impl Inserted {
-    // The number and the value.
-    pub fn answer(self) -> Answer
-        ensures { answer_of result ≡ (inserted_of self) }
-    {
+impl Answers for InsertRefusal {
+    ghost told = { insert_refusal_of };
+
+    fn answer(self) -> Answer {
         match self {
-            Inserted::At(slot) => given(slot),
-            Inserted::Unfit => refused(1),
-            Inserted::Damaged => refused(2),
-            Inserted::Present(slot) => Answer {
+            InsertRefusal::Unfit => refused(1),
+            InsertRefusal::Damaged => refused(2),
+            InsertRefusal::Present(slot) => Answer {
                 number: 3,
-                value: Value::Some(slot),
+                value: Some(slot),
             },
-            Inserted::Full => refused(5),
-            Inserted::JournalFull => refused(6),
+            InsertRefusal::Full => refused(5),
+            InsertRefusal::JournalFull => refused(6),
         }
     }
+}
 
-    // The floor after this answer: the slot taken, null where none was free, else as it was.
-    pub fn raise(self, floor: u32) -> u32
-        ensures { result ≡ raised_by (inserted_of self) floor }
-    {
-        match self {
-            Inserted::At(slot) => slot,
-            Inserted::Unfit => floor,
-            Inserted::Damaged => floor,
-            Inserted::Present(_) => floor,
-            Inserted::Full => NULL,
-            Inserted::JournalFull => floor,
-        }
+impl From<Unfit> for InsertRefusal {
+    ghost from_gives = { λ _ r. r ≡ InsertUnfit };
+
+    fn from(_unfit: Unfit) -> InsertRefusal {
+        InsertRefusal::Unfit
+    }
+}
+
+// The floor after an insert: the slot taken, null where none was free, else as it was.
+#[tactic(auto, unfolding(index_rules::specs::Checked::raised_by))]
+pub fn raise(inserted: Result<u32, InsertRefusal>, floor: u32) -> u32
+    ensures { result ≡ raised_by (inserted_of inserted) floor }
+{
+    match inserted {
+        Ok(slot) => slot,
+        Err(refusal) => match refusal {
+            InsertRefusal::Full => NULL,
+            _ => floor,
+        },
     }
 }
 
@@ -68,33 +73,28 @@ fn ask(
     floor: u32,
     hash: u64,
     key: u64,
-) -> Inserted
+) -> Result<u32, InsertRefusal>
     ensures { (p : ℕ) → inserted_of result
         ≡ (inserts_sound floor
         (lent names.now cells.now head.now sizes.now lines.now)
         hash key p).answer }
 {
-    let verdict = taken_as_sound(names, cells, head, sizes, lines);
-    match verdict {
-        Soundness::Unfit => Inserted::Unfit,
-        Soundness::No => Inserted::Damaged,
-        Soundness::Yes => {
-            let root = word(head, ROOT, NULL);
-            let found = find_tree_node(names, cells, root, hash, key);
-            if let Found::At(slot, _) = found {
-                return Inserted::Present(slot);
-            }
-            let x = lowest_free(cells, (names.len() / 2) as u32, floor);
-            if x == NULL {
-                return Inserted::Full;
-            }
-            let full = is_full(lines);
-            if full {
-                return Inserted::JournalFull;
-            }
-            Inserted::At(x)
-        }
+    if !taken_as_sound(names, cells, head, sizes, lines)? {
+        return Err(InsertRefusal::Damaged);
     }
+    let root = word(head, ROOT, NULL);
+    let found = find_tree_node(names, cells, root, hash, key);
+    if let Found::At(slot, _) = found {
+        return Err(InsertRefusal::Present(slot));
+    }
+    let x = lowest_free(cells, (names.len() / 2) as u32, floor);
+    if x == NULL {
+        return Err(InsertRefusal::Full);
+    }
+    if is_full(lines) {
+        return Err(InsertRefusal::JournalFull);
+    }
+    Ok(x)
 }
 
 // insert where the full check has said yes and no slot below the floor is free.
@@ -108,20 +108,17 @@ pub fn insert_sound(
     hash: u64,
     key: u64,
     place: u32,
-) -> Inserted
+) -> Result<u32, InsertRefusal>
     ensures { outcome (inserted_of result)
         (lent names.new cells.new head.new sizes.new lines.new)
         ≡ inserts_sound floor
         (lent names.old cells.old head.old sizes.old lines.old)
         hash key place }
 {
-    let asked = ask(names, cells, head, sizes, lines, floor, hash, key);
-    let Inserted::At(x) = asked else {
-        return asked;
-    };
+    let x = ask(names, cells, head, sizes, lines, floor, hash, key)?;
     grow(names, cells, head, sizes, x, NULL, hash, key, place);
     append(lines, INSERT, hash, key, place as u64, 0, 0);
-    Inserted::At(x)
+    Ok(x)
 }
 
 // The pair (hash, key) with its place joins the tree, and the journal takes a line. A refusal writes nothing.
@@ -134,16 +131,14 @@ pub fn insert(
     hash: u64,
     key: u64,
     place: u32,
-) -> Inserted
+) -> Result<u32, InsertRefusal>
     ensures { outcome (inserted_of result)
         (lent names.new cells.new head.new sizes.new lines.new)
         ≡ inserts (lent names.old cells.old head.old sizes.old lines.old)
         hash key place }
 {
-    let verdict = sound_index(names, cells, head, sizes, lines);
-    match verdict {
-        Soundness::Unfit => Inserted::Unfit,
-        Soundness::No => Inserted::Damaged,
-        Soundness::Yes => insert_sound(names, cells, head, sizes, lines, 0, hash, key, place),
+    if !sound_index(names, cells, head, sizes, lines)? {
+        return Err(InsertRefusal::Damaged);
     }
+    insert_sound(names, cells, head, sizes, lines, 0, hash, key, place)
 }

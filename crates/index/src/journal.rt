@@ -4,9 +4,10 @@ ghost use Rattle.index_rules.specs.Index.{fits_journal, whole_lines, length_of, 
 ghost use Rattle.index_rules.specs.Rollback.{blanked};
 ghost use Rattle.index.specs.Frees.{appended_if};
 
-use slots::{MOST_LINES, put_wide, wide};
+use slots::{MOST_LINES, put_word, word};
 
 // The words of a line, by their place.
+// Form kept: numbers, since the rules read word f of line k by its number (line_word), as the words of a slot are read.
 pub const LINE_KIND: u32 = 0;
 
 pub const LINE_HASH: u32 = 1;
@@ -22,6 +23,7 @@ pub const LINE_PRIOR_KEY: u32 = 5;
 const LINE_WORDS: usize = 6;
 
 // The kinds of a line.
+// Form kept: numbers, since a line's kind is a word of the journal, which the C interface hands over, and any word may stand there.
 pub const INSERT: u64 = 1;
 
 pub const REMOVE: u64 = 2;
@@ -38,7 +40,7 @@ pub const MOST_PLACES: u64 = 4294967296;
 pub fn length_of(lines: &[u64]) -> u64
     ensures { result ≡ length_of lines.now }
 {
-    wide(lines, 0)
+    word(lines, 0, 0)
 }
 
 // How many lines there is room for.
@@ -53,36 +55,27 @@ pub fn capacity_of(lines: &[u64]) -> usize
 }
 
 // Whether there are as many words as so many lines have.
+#[tactic(auto, unfolding(index_rules::specs::Index::whole_lines))]
 pub(crate) fn is_whole(lines: &[u64]) -> bool
     ensures { result ≡ whole_lines lines.now }
 {
     let capacity = capacity_of(lines);
-    if MOST_LINES < capacity {
-        return false;
-    }
-    lines.len() == 1 + LINE_WORDS * capacity
+    capacity <= MOST_LINES && lines.len() == 1 + LINE_WORDS * capacity
 }
 
 // Whether the words are a journal's: a capacity of 0 to 1,024 lines, and a length that does not pass it.
+#[tactic(auto, unfolding(index_rules::specs::Index::fits_journal))]
 pub fn fit_journal(lines: &[u64]) -> bool
     ensures { result ≡ fits_journal lines.now }
 {
-    let whole = is_whole(lines);
-    if !whole {
-        return false;
-    }
-    let capacity = capacity_of(lines);
-    let length = length_of(lines);
-    length <= capacity as u64
+    is_whole(lines) && length_of(lines) <= capacity_of(lines) as u64
 }
 
 // Whether no line is left.
 pub fn is_full(lines: &[u64]) -> bool
     ensures { result ≡ eqb (length_of lines.now) (lines_of lines.now) }
 {
-    let length = length_of(lines);
-    let capacity = capacity_of(lines);
-    length == capacity as u64
+    length_of(lines) == capacity_of(lines) as u64
 }
 
 // Word f of line k; 0 where there is no such word.
@@ -90,13 +83,14 @@ pub fn line_word(lines: &[u64], k: usize, f: u32) -> u64
     ensures { result ≡ line_word lines.now k f }
 {
     if k < lines.len() {
-        wide(lines, 1 + LINE_WORDS * k + f as usize)
+        word(lines, 1 + LINE_WORDS * k + f as usize, 0)
     } else {
         0
     }
 }
 
 // Line k with these six words; nothing where there is no such line.
+#[tactic(auto, unfolding(index_rules::specs::Index::lined))]
 fn put_line(
     lines: &mut [u64],
     k: usize,
@@ -113,15 +107,16 @@ fn put_line(
         return;
     }
     let at = 1 + LINE_WORDS * k;
-    put_wide(lines, at, kind);
-    put_wide(lines, at + 1, hash);
-    put_wide(lines, at + 2, key);
-    put_wide(lines, at + 3, place);
-    put_wide(lines, at + 4, prehash);
-    put_wide(lines, at + 5, prekey);
+    put_word(lines, at, kind);
+    put_word(lines, at + 1, hash);
+    put_word(lines, at + 2, key);
+    put_word(lines, at + 3, place);
+    put_word(lines, at + 4, prehash);
+    put_word(lines, at + 5, prekey);
 }
 
 // Each accepted insert, remove or replace appends a line. Nothing where the length passes the limit.
+#[tactic(auto, unfolding(index_rules::specs::Index::appended))]
 pub fn append(
     lines: &mut [u64],
     kind: u64,
@@ -147,7 +142,7 @@ pub fn append(
         prehash,
         prekey,
     );
-    put_wide(lines, 0, length + 1);
+    put_word(lines, 0, length + 1);
 }
 
 // Both places of a replace line in one word: the new place, and the old one above its 32 bits.
@@ -161,9 +156,7 @@ pub(crate) fn both_places(new: u32, old: u32) -> u64
 fn blank(lines: &mut [u64], m: u32, count: u32)
     ensures { lines.new ≡ blanked count lines.old m }
 {
-    let mut c = count;
-    while 0 < c {
-        c -= 1;
+    for c in (0..count).rev() {
         put_line(lines, m as usize + c as usize, 0, 0, 0, 0, 0, 0);
     }
 }
@@ -173,5 +166,5 @@ pub fn cut(lines: &mut [u64], m: u32, count: u32)
     ensures { lines.new ≡ set (blanked count lines.old m) 0 m }
 {
     blank(lines, m, count);
-    put_wide(lines, 0, m as u64);
+    put_word(lines, 0, m as u64);
 }

@@ -17,21 +17,11 @@ use crate::shrink::shrink;
 use slots::{NULL, PLACE, ROOT, get, put, word};
 use tree::find::{Found, find_tree_node};
 
-// What comes of undoing a line: it is undone, with the slot that it freed, null where it freed none; or it does not fit.
+// A line does not fit the tree, so that it cannot be undone.
 #[derive(Clone, Copy)]
-enum Undone {
-    Freed(u32),
-    Misfit,
-}
+pub(crate) struct Misfit;
 
-// What comes of undoing lines: they are undone; or one does not fit.
-#[derive(Clone, Copy)]
-pub(crate) enum Undoing {
-    Done,
-    Misfit,
-}
-
-// An insert line is undone by a removal: its pair is there with its place. Misfit where it is not.
+// An insert line is undone by a removal: its pair is there with its place. The slot that it freed; Misfit where it is not.
 fn take_back(
     names: &mut [u64],
     cells: &mut [u32],
@@ -40,7 +30,7 @@ fn take_back(
     hash: u64,
     key: u64,
     place: u64,
-) -> Undone
+) -> Result<u32, Misfit>
     requires { length names.old ≤ most_names }
     ensures sizes_after { undone_of result (lent_tree names.new cells.new head.new sizes.new)
         ≡ taken_back (lent_tree names.old cells.old head.old sizes.old)
@@ -51,14 +41,14 @@ fn take_back(
     let root = word(head, ROOT, NULL);
     let found = find_tree_node(names, cells, root, hash, key);
     let Found::At(x, _) = found else {
-        return Undone::Misfit;
+        return Err(Misfit);
     };
     let own = get(cells, x, PLACE);
     if own as u64 != place {
-        return Undone::Misfit;
+        return Err(Misfit);
     }
     shrink(names, cells, head, sizes, x);
-    Undone::Freed(x)
+    Ok(x)
 }
 
 // A remove line is undone by an insert into the free slot x, right behind the slot y, at the front where y is null: its pair is not there,
@@ -73,7 +63,7 @@ fn put_back(
     place: u64,
     x: u32,
     y: u32,
-) -> Undone
+) -> Result<u32, Misfit>
     requires names_len_bound { length names.old ≤ most_names }
     requires null_bound { get_or head.old 2 null < null }
     ensures by_index { (kind prior_hash prior_key : ℕ) → undone_of result
@@ -86,16 +76,16 @@ fn put_back(
     let root = word(head, ROOT, NULL);
     let found = find_tree_node(names, cells, root, hash, key);
     if let Found::At(_, _) = found {
-        return Undone::Misfit;
+        return Err(Misfit);
     }
     if x == NULL {
-        return Undone::Misfit;
+        return Err(Misfit);
     }
     if MOST_PLACES <= place {
-        return Undone::Misfit;
+        return Err(Misfit);
     }
     grow(names, cells, head, sizes, x, y, hash, key, place as u32);
-    Undone::Freed(NULL)
+    Ok(NULL)
 }
 
 // A remove line that notes a pair is undone right behind that one. Misfit where it is not there.
@@ -110,7 +100,7 @@ fn put_behind(
     prehash: u64,
     prekey: u64,
     x: u32,
-) -> Undone
+) -> Result<u32, Misfit>
     requires names_len_bound { length names.old ≤ most_names }
     requires null_bound { get_or head.old 2 null < null }
     ensures by_index { (kind : ℕ) → undone_of result (lent_tree names.new cells.new head.new sizes.new)
@@ -123,7 +113,7 @@ fn put_behind(
     let root = word(head, ROOT, NULL);
     let found = find_tree_node(names, cells, root, prehash, prekey);
     let Found::At(y, _) = found else {
-        return Undone::Misfit;
+        return Err(Misfit);
     };
     put_back(names, cells, head, sizes, hash, key, place, x, y)
 }
@@ -137,7 +127,7 @@ fn place_back(
     hash: u64,
     key: u64,
     places: u64,
-) -> Undone
+) -> Result<u32, Misfit>
     ensures sizes_after { undone_of result (lent_tree names.now cells.new head.now sizes.now)
         ≡ placed_back (lent_tree names.now cells.old head.now sizes.now)
         (sought_in (lent_tree names.now cells.old head.now sizes.now) hash key) places }
@@ -146,14 +136,14 @@ fn place_back(
     let root = word(head, ROOT, NULL);
     let found = find_tree_node(names, cells, root, hash, key);
     let Found::At(x, _) = found else {
-        return Undone::Misfit;
+        return Err(Misfit);
     };
     let own = get(cells, x, PLACE);
     if own as u64 != places % MOST_PLACES {
-        return Undone::Misfit;
+        return Err(Misfit);
     }
     put(cells, x, PLACE, (places / MOST_PLACES) as u32);
-    Undone::Freed(NULL)
+    Ok(NULL)
 }
 
 // Line k is undone; a pair that comes back takes the free slot x. Misfit where it does not fit; the slices are then left anyhow.
@@ -165,7 +155,7 @@ fn undo_line(
     lines: &[u64],
     k: usize,
     x: u32,
-) -> Undone
+) -> Result<u32, Misfit>
     requires names_len_bound { length names.old ≤ most_names }
     requires null_bound { get_or head.old 2 null < null }
     ensures sizes_after { undone_of result (lent_tree names.new cells.new head.new sizes.new)
@@ -195,7 +185,7 @@ fn undo_line(
     if kind == REPLACE {
         return place_back(names, cells, head, sizes, hash, key, place);
     }
-    Undone::Misfit
+    Err(Misfit)
 }
 
 // So many lines from m on are undone, from the last down; the search for a free slot goes on where the last one ended, or at a lower slot
@@ -208,7 +198,7 @@ pub(crate) fn unroll(
     lines: &[u64],
     m: u32,
     count: u32,
-) -> Undoing
+) -> Result<(), Misfit>
     requires names_len_bound { length names.old ≤ most_names }
     requires count_bound { get_or head.old 2 null + count < null }
     ensures { undo_of result (lent_tree names.new cells.new head.new sizes.new)
@@ -217,15 +207,10 @@ pub(crate) fn unroll(
 {
     let n = (names.len() / 2) as u32;
     let mut floor: u32 = 0;
-    let mut c = count;
-    while 0 < c {
-        c -= 1;
+    for c in (0..count).rev() {
         let x = lowest_free(cells, n, floor);
-        let undone = undo_line(names, cells, head, sizes, lines, m as usize + c as usize, x);
-        let Undone::Freed(freed) = undone else {
-            return Undoing::Misfit;
-        };
+        let freed = undo_line(names, cells, head, sizes, lines, m as usize + c as usize, x)?;
         floor = lesser(freed, x);
     }
-    Undoing::Done
+    Ok(())
 }

@@ -1,52 +1,55 @@
-// What remove and replace ask alike of a pair that has to be there, where the full check has said yes, and what both answer.
+// What remove and replace ask alike of a pair that has to be there, where the full check has said yes, and why both refuse.
 ghost use Rattle.std.specs.Prelude.{◌≡◌, ℕ};
-ghost use Rattle.slots.specs.Coded.{answer_of};
 ghost use Rattle.index_rules.specs.Index.{Index, lent};
 ghost use Rattle.index_rules.specs.Checked.{lowered_by, present_sound};
-ghost use Rattle.index.specs.Calls.{presence_of};
+ghost use Rattle.index.specs.Calls.{pair_refusal_of, presence_of};
+ghost use Rattle.index.specs.declared.present.PairRefusal.TheVariants.{Unfit as PairUnfit};
 
 use crate::grow::lesser;
 use crate::journal::is_full;
-use crate::sound::{Soundness, taken_as_sound};
-use slots::answer::{Answer, given, refused};
+use crate::sound::taken_as_sound;
+use slots::answer::{Answer, Answers, Unfit, refused};
 use slots::{NULL, ROOT, word};
 use tree::find::{Found, find_tree_node};
 
-// What remove and replace answer, with the number of each refusal.
+// Why remove and replace refuse, with the number of each reason.
 #[derive(Clone, Copy)]
-pub enum Presence {
-    At(u32), // the slot that has the pair; of an accepted remove the slot freed
+pub enum PairRefusal {
     Unfit, // 1
     Damaged, // 2
     Absent, // 4
     JournalFull, // 6
 }
 
-impl Presence {
-    // The number and the value.
-    pub fn answer(self) -> Answer
-        ensures { answer_of result ≡ (presence_of self) }
-    {
+impl Answers for PairRefusal {
+    ghost told = { pair_refusal_of };
+
+    fn answer(self) -> Answer {
         match self {
-            Presence::At(slot) => given(slot),
-            Presence::Unfit => refused(1),
-            Presence::Damaged => refused(2),
-            Presence::Absent => refused(4),
-            Presence::JournalFull => refused(6),
+            PairRefusal::Unfit => refused(1),
+            PairRefusal::Damaged => refused(2),
+            PairRefusal::Absent => refused(4),
+            PairRefusal::JournalFull => refused(6),
         }
     }
+}
 
-    // The floor after a remove with this answer: the slot freed, where it is lower.
-    pub fn lower(self, floor: u32) -> u32
-        ensures { result ≡ lowered_by (presence_of self) floor }
-    {
-        match self {
-            Presence::At(slot) => lesser(slot, floor),
-            Presence::Unfit => floor,
-            Presence::Damaged => floor,
-            Presence::Absent => floor,
-            Presence::JournalFull => floor,
-        }
+impl From<Unfit> for PairRefusal {
+    ghost from_gives = { λ _ r. r ≡ PairUnfit };
+
+    fn from(_unfit: Unfit) -> PairRefusal {
+        PairRefusal::Unfit
+    }
+}
+
+// The floor after a remove: the slot freed, where it is lower.
+#[tactic(auto, unfolding(index_rules::specs::Checked::lowered_by))]
+pub fn lower(removed: Result<u32, PairRefusal>, floor: u32) -> u32
+    ensures { result ≡ lowered_by (presence_of removed) floor }
+{
+    match removed {
+        Ok(slot) => lesser(slot, floor),
+        Err(_) => floor,
     }
 }
 
@@ -59,26 +62,21 @@ pub(crate) fn present(
     lines: &[u64],
     hash: u64,
     key: u64,
-) -> Presence
+) -> Result<u32, PairRefusal>
     ensures { (leave : ℕ → Index) → presence_of result
         ≡ (present_sound (lent names.now cells.now head.now sizes.now lines.now)
         hash key leave).answer }
 {
-    let verdict = taken_as_sound(names, cells, head, sizes, lines);
-    match verdict {
-        Soundness::Unfit => Presence::Unfit,
-        Soundness::No => Presence::Damaged,
-        Soundness::Yes => {
-            let root = word(head, ROOT, NULL);
-            let found = find_tree_node(names, cells, root, hash, key);
-            let Found::At(x, _) = found else {
-                return Presence::Absent;
-            };
-            let full = is_full(lines);
-            if full {
-                return Presence::JournalFull;
-            }
-            Presence::At(x)
-        }
+    if !taken_as_sound(names, cells, head, sizes, lines)? {
+        return Err(PairRefusal::Damaged);
     }
+    let root = word(head, ROOT, NULL);
+    let found = find_tree_node(names, cells, root, hash, key);
+    let Found::At(x, _) = found else {
+        return Err(PairRefusal::Absent);
+    };
+    if is_full(lines) {
+        return Err(PairRefusal::JournalFull);
+    }
+    Ok(x)
 }

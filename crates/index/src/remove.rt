@@ -8,12 +8,13 @@ ghost use Rattle.index.specs.Calls.{presence_of};
 ghost use Rattle.index.specs.Frees.{appended_if};
 
 use crate::journal::{NOTED_REMOVE, REMOVE, append};
-use crate::present::{Presence, present};
+use crate::present::{PairRefusal, present};
 use crate::shrink::shrink;
-use crate::sound::{Soundness, sound_index};
+use crate::sound::sound_index;
 use slots::{HASH, KEY, NULL, PLACE, PREV, get, name};
 
 // The line of a removal, before the slot x goes: its place, and the pair of the slot before it in the chain, if one stands there.
+#[tactic(auto, unfolding(index_rules::specs::Remove::removal_of))]
 fn note_removal(names: &[u64], cells: &[u32], lines: &mut [u64], hash: u64, key: u64, x: u32)
     ensures { (head sizes : List ℕ) → lines.new
         ≡ appended_if lines.old (removal_of (lent_tree names.now cells.now head sizes) hash key x) }
@@ -44,19 +45,16 @@ pub fn remove_sound(
     lines: &mut [u64],
     hash: u64,
     key: u64,
-) -> Presence
+) -> Result<u32, PairRefusal>
     ensures { outcome (presence_of result)
         (lent names.new cells.new head.new sizes.new lines.new)
         ≡ removes_sound (lent names.old cells.old head.old sizes.old lines.old)
         hash key }
 {
-    let asked = present(names, cells, head, sizes, lines, hash, key);
-    let Presence::At(x) = asked else {
-        return asked;
-    };
+    let x = present(names, cells, head, sizes, lines, hash, key)?;
     note_removal(names, cells, lines, hash, key, x);
     shrink(names, cells, head, sizes, x);
-    Presence::At(x)
+    Ok(x)
 }
 
 // The pair (hash, key) leaves the tree, and the journal takes a line, which notes the pair before it in the chain, if one stood there. A
@@ -69,16 +67,14 @@ pub fn remove(
     lines: &mut [u64],
     hash: u64,
     key: u64,
-) -> Presence
+) -> Result<u32, PairRefusal>
     ensures { outcome (presence_of result)
         (lent names.new cells.new head.new sizes.new lines.new)
         ≡ removes (lent names.old cells.old head.old sizes.old lines.old)
         hash key }
 {
-    let verdict = sound_index(names, cells, head, sizes, lines);
-    match verdict {
-        Soundness::Unfit => Presence::Unfit,
-        Soundness::No => Presence::Damaged,
-        Soundness::Yes => remove_sound(names, cells, head, sizes, lines, hash, key),
+    if !sound_index(names, cells, head, sizes, lines)? {
+        return Err(PairRefusal::Damaged);
     }
+    remove_sound(names, cells, head, sizes, lines, hash, key)
 }

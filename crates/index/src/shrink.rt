@@ -1,5 +1,5 @@
 // A slot leaves the tree: "remove" after the check.
-ghost use Rattle.std.specs.Prelude.{◌≡◌, ◌-◌, eqb};
+ghost use Rattle.std.specs.Prelude.{◌≡◌, eqb};
 ghost use Rattle.slots.specs.Words.{null, pick, prev, next, cell};
 ghost use Rattle.index_rules.specs.Live.{lent_tree};
 ghost use Rattle.index_rules.specs.Remove.{unchained, wiped};
@@ -13,6 +13,7 @@ use slots::{
 };
 
 // Slot x leaves the chain: what stood before it leads to what stood after, and back.
+#[tactic(auto, unfolding(index_rules::specs::Remove::unchained))]
 fn unchain(cells: &mut [u32], x: u32)
     ensures { cells.new ≡ unchained cells.old x }
 {
@@ -23,6 +24,7 @@ fn unchain(cells: &mut [u32], x: u32)
 }
 
 // A freed slot is cleared whole: all zero with null links.
+#[tactic(auto, unfolding(index_rules::specs::Remove::wiped))]
 pub(crate) fn wipe(cells: &mut [u32], x: u32)
     ensures { cells.new ≡ wiped cells.old x }
 {
@@ -46,15 +48,9 @@ fn new_first(cells: &[u32], first: u32, x: u32) -> u32
     first
 }
 
-// One less, and 0 of 0.
-fn one_less(count: u32) -> u32
-    ensures { result ≡ count - 1 }
-{
-    if count == 0 { 0 } else { count - 1 }
-}
-
 // Slot x leaves the chain and the tree, is cleared, and counts no more. Nothing where the names are more than 4,096
 // slots have.
+#[tactic(auto, unfolding(index_rules::specs::Remove::shrunk))]
 pub fn shrink(names: &mut [u64], cells: &mut [u32], head: &mut [u32], sizes: &mut [u32], x: u32)
     ensures { lent_tree names.new cells.new head.new sizes.new
         ≡ shrunk_if (lent_tree names.old cells.old head.old sizes.old) x }
@@ -65,7 +61,7 @@ pub fn shrink(names: &mut [u64], cells: &mut [u32], head: &mut [u32], sizes: &mu
     let n = (names.len() / 2) as u32;
     let root = word(head, ROOT, NULL);
     let first = new_first(cells, word(head, FIRST, NULL), x);
-    let count = one_less(word(head, COUNT, NULL));
+    let count = word(head, COUNT, NULL).saturating_sub(1);
     put_pair(names, x, 0, 0);
     unchain(cells, x);
     let top = unlink_slot(cells, sizes, root, x, n);

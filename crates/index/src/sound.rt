@@ -1,7 +1,6 @@
 // The full check of a live tree: T1 to T8, where one pass over the slots answers for T1 but for the links of used slots, and for the sizes
 // of free slots; one walk of the tree for T3 to T6 and the sizes of its own slots; and walk and chain for those links, as they follow them.
 ghost use Rattle.std.specs.Prelude.{◌≡◌, true, false, List, [], ℕ, ◌≤◌, length, eqb};
-ghost use Rattle.slots.specs.Coded.{answer_of};
 ghost use Rattle.slots.specs.Words.{null, pick, state, free, cell, most_names};
 ghost use Rattle.tree_rules.specs.Chain.{tally};
 ghost use Rattle.index_rules.specs.Live.{lent_tree, fits};
@@ -10,21 +9,22 @@ ghost use Rattle.index_rules.specs.Sound.{rule2 as obeys2, rule7 as obeys7, soun
 ghost use Rattle.index_rules.specs.Index.{lent};
 ghost use Rattle.index_rules.specs.Checked.{sounds_index};
 ghost use Rattle.index.specs.Reads.{sound_of, taken_as_sound};
-ghost use Rattle.tree.specs.Rules.{size_of};
+ghost use Rattle.slots.specs.Coded.{value_of};
 ghost use Rattle.index.specs.Sound.{state_fine, used_if_fine, rule1_unlinked, tree_rules};
 
 use crate::fit::{fit, fit_index};
 use crate::journal::fit_journal;
-use slots::answer::{Answer, given, refused};
+use slots::answer::Unfit;
 use slots::{
     COUNT, FIRST, FREE, HASH, KEY, LEFT, MOST_SLOTS, NEXT, NULL, PARENT, PLACE, PREV, RED, RIGHT,
     ROOT, STATE, get, name, word,
 };
 use tree::chain::chain;
 use tree::check::{in_range, links_in};
-use tree::rules::{Rest, Size, tree_size};
+use tree::rules::tree_size;
 
 // Slot i is cleared: all zero with null links.
+#[tactic(auto, unfolding(index_rules::specs::Sound::is_cleared))]
 fn is_cleared(names: &[u64], cells: &[u32], i: u32) -> bool
     ensures { result ≡ is_cleared (lent_tree names.now cells.now [] []) i }
 {
@@ -39,6 +39,7 @@ fn is_cleared(names: &[u64], cells: &[u32], i: u32) -> bool
 }
 
 // T1 of slot i but for its links: its state is 0, 1 or 2, and it is cleared if it is free; and T8 of a free one: it has no size.
+#[tactic(auto, unfolding(crate::specs::Sound::state_fine, index_rules::specs::Sound::is_cleared))]
 fn state_fine(names: &[u64], cells: &[u32], sizes: &[u32], i: u32) -> bool
     ensures { result ≡ state_fine (lent_tree names.now cells.now [] sizes.now) i }
 {
@@ -50,11 +51,11 @@ fn state_fine(names: &[u64], cells: &[u32], sizes: &[u32], i: u32) -> bool
 }
 
 // T1 of slot i, which has no size: its links too are null or name one of n slots.
+#[tactic(auto, unfolding(index_rules::specs::Sound::slot_fine, index_rules::specs::Sound::is_cleared))]
 fn slot_fine(names: &[u64], cells: &[u32], n: usize, i: u32) -> bool
     ensures { result ≡ slot_fine n (lent_tree names.now cells.now [] []) i }
 {
-    let named = links_in(n, cells, i);
-    if !named {
+    if !links_in(n, cells, i) {
         return false;
     }
     let state = get(cells, i, STATE);
@@ -68,11 +69,8 @@ fn slot_fine(names: &[u64], cells: &[u32], n: usize, i: u32) -> bool
 pub fn slots_fine(names: &[u64], cells: &[u32], n: u32) -> bool
     ensures { result ≡ slots_fine n n (lent_tree names.now cells.now [] []) }
 {
-    let mut k = n;
-    while 0 < k {
-        k -= 1;
-        let fine = slot_fine(names, cells, n as usize, k);
-        if !fine {
+    for k in (0..n).rev() {
+        if !slot_fine(names, cells, n as usize, k) {
             return false;
         }
     }
@@ -83,11 +81,7 @@ pub fn slots_fine(names: &[u64], cells: &[u32], n: u32) -> bool
 fn used_slot(cells: &[u32], i: u32) -> u32
     ensures { result ≡ used cells.now i }
 {
-    let state = get(cells, i, STATE);
-    if state == FREE {
-        return 0;
-    }
-    1
+    if get(cells, i, STATE) == FREE { 0 } else { 1 }
 }
 
 // The number of the n slots that are not free.
@@ -95,31 +89,24 @@ pub fn used_slots(cells: &[u32], n: u32) -> u32
     ensures { result ≡ tally n (used cells.now) }
 {
     let mut count: u32 = 0;
-    let mut k = n;
-    while 0 < k {
-        k -= 1;
-        let one = used_slot(cells, k);
-        count += one;
+    for k in (0..n).rev() {
+        count += used_slot(cells, k);
     }
     count
 }
 
 // T1 of each of the n slots but for their links, T8 of the free ones, and how many are not free, in one pass.
-fn used_if_fine(names: &[u64], cells: &[u32], sizes: &[u32], n: u32) -> Size
-    ensures { size_of result ≡ used_if_fine n (lent_tree names.now cells.now [] sizes.now) }
+fn used_if_fine(names: &[u64], cells: &[u32], sizes: &[u32], n: u32) -> Option<u32>
+    ensures { value_of result ≡ used_if_fine n (lent_tree names.now cells.now [] sizes.now) }
 {
     let mut count: u32 = 0;
-    let mut k = n;
-    while 0 < k {
-        k -= 1;
-        let fine = state_fine(names, cells, sizes, k);
-        if !fine {
-            return Size::Broken;
+    for k in (0..n).rev() {
+        if !state_fine(names, cells, sizes, k) {
+            return None;
         }
-        let one = used_slot(cells, k);
-        count += one;
+        count += used_slot(cells, k);
     }
-    Size::Slots(count as usize)
+    Some(count)
 }
 
 // T1 but for the links of the slots: states are 0, 1 or 2; free slots are cleared; the count is the number of slots not free; root and
@@ -129,27 +116,22 @@ fn rules_of_the_slots(names: &[u64], cells: &[u32], head: &[u32], sizes: &[u32])
     ensures { result ≡ rule1_unlinked (lent_tree names.now cells.now head.now sizes.now) }
 {
     let n = names.len() / 2;
-    let pass = used_if_fine(names, cells, sizes, n as u32);
-    let Size::Slots(m) = pass else {
+    let Some(m) = used_if_fine(names, cells, sizes, n as u32) else {
         return false;
     };
     let count = word(head, COUNT, NULL);
-    in_range(n, word(head, ROOT, NULL))
-        && in_range(n, word(head, FIRST, NULL))
-        && count as usize == m
+    in_range(n, word(head, ROOT, NULL)) && in_range(n, word(head, FIRST, NULL)) && count == m
 }
 
 // The link is null exactly if the count is 0.
 fn null_if_none(link: u32, count: u32) -> bool
     ensures { result ≡ agree (eqb link null) (eqb count 0) }
 {
-    if link == NULL {
-        return count == 0;
-    }
-    count != 0
+    (link == NULL) == (count == 0)
 }
 
 // T2: root and first are null exactly if the count is 0.
+#[tactic(auto, unfolding(index_rules::specs::Sound::rule2))]
 fn rule2(head: &[u32]) -> bool
     ensures { result ≡ obeys2 (lent_tree [] [] head.now []) }
 {
@@ -162,8 +144,7 @@ fn rules_of_the_tree(names: &[u64], cells: &[u32], head: &[u32], sizes: &[u32]) 
     ensures { result ≡ tree_rules (lent_tree names.now cells.now head.now sizes.now) }
 {
     let root = word(head, ROOT, NULL);
-    let size = tree_size(names, cells, sizes, root);
-    let Size::Slots(m) = size else {
+    let Some(m) = tree_size(names, cells, sizes, root) else {
         return false;
     };
     let count = word(head, COUNT, NULL);
@@ -178,17 +159,16 @@ fn not_free(cells: &[u32], link: u32) -> bool
 }
 
 // T7: first is not free, prev is the reverse of next, null at first, and next visits as many slots from first as the count says.
+#[tactic(auto, unfolding(index_rules::specs::Sound::rule7))]
 fn rule7(names: &[u64], cells: &[u32], head: &[u32]) -> bool
     ensures { (sizes : List ℕ) → result ≡ obeys7 (lent_tree names.now cells.now head.now sizes) }
 {
     let n = names.len() / 2;
     let first = word(head, FIRST, NULL);
-    let occupied = not_free(cells, first);
-    if !occupied {
+    if !not_free(cells, first) {
         return false;
     }
-    let walk = chain(n, cells, first);
-    let Rest::Left(rest) = walk else {
+    let Some(rest) = chain(n, cells, first) else {
         return false;
     };
     let count = word(head, COUNT, NULL);
@@ -206,40 +186,15 @@ fn is_sound(names: &[u64], cells: &[u32], head: &[u32], sizes: &[u32]) -> bool
         && rule7(names, cells, head)
 }
 
-// What the full check answers.
-#[derive(Clone, Copy)]
-pub enum Soundness {
-    Yes,
-    No,
-    Unfit, // 1
-}
-
-impl Soundness {
-    // The number and the value.
-    pub fn answer(self) -> Answer
-        ensures { answer_of result ≡ (sound_of self) }
-    {
-        match self {
-            Soundness::Yes => given(1),
-            Soundness::No => given(0),
-            Soundness::Unfit => refused(1),
-        }
-    }
-}
-
 // Whether the tree is sound, by the full check of T1 to T8. Unfit where the slices are not a live tree's.
-pub fn sound(names: &[u64], cells: &[u32], head: &[u32], sizes: &[u32]) -> Soundness
+#[tactic(auto, unfolding(index_rules::specs::Sound::sounds))]
+pub fn sound(names: &[u64], cells: &[u32], head: &[u32], sizes: &[u32]) -> Result<bool, Unfit>
     ensures { sound_of result ≡ sounds (lent_tree names.now cells.now head.now sizes.now) }
 {
-    let fits = fit(names, cells, head, sizes);
-    if !fits {
-        return Soundness::Unfit;
+    if !fit(names, cells, head, sizes) {
+        return Err(Unfit);
     }
-    let obeys = is_sound(names, cells, head, sizes);
-    if !obeys {
-        return Soundness::No;
-    }
-    Soundness::Yes
+    Ok(is_sound(names, cells, head, sizes))
 }
 
 // Whether the tree is sound, where the journal is fit as well: the first two numbers of every call that writes, 1 and 2.
@@ -249,34 +204,30 @@ pub fn sound_index(
     head: &[u32],
     sizes: &[u32],
     lines: &[u64],
-) -> Soundness
+) -> Result<bool, Unfit>
     ensures { sound_of result
         ≡ sounds_index (lent names.now cells.now head.now sizes.now lines.now) }
 {
-    let journal = fit_journal(lines);
-    if !journal {
-        return Soundness::Unfit;
+    if !fit_journal(lines) {
+        return Err(Unfit);
     }
     sound(names, cells, head, sizes)
 }
 
 // What is asked again where the full check has said yes: 1 as ever, and of 2 only whether the header's count passes no capacity.
+#[tactic(auto, unfolding(crate::specs::Reads::taken_as_sound))]
 pub(crate) fn taken_as_sound(
     names: &[u64],
     cells: &[u32],
     head: &[u32],
     sizes: &[u32],
     lines: &[u64],
-) -> Soundness
+) -> Result<bool, Unfit>
     ensures { sound_of result
         ≡ taken_as_sound (lent names.now cells.now head.now sizes.now lines.now) }
 {
-    let fits = fit_index(names, cells, head, sizes, lines);
-    if !fits {
-        return Soundness::Unfit;
+    if !fit_index(names, cells, head, sizes, lines) {
+        return Err(Unfit);
     }
-    if MOST_SLOTS < word(head, COUNT, NULL) as usize {
-        return Soundness::No;
-    }
-    Soundness::Yes
+    Ok(word(head, COUNT, NULL) as usize <= MOST_SLOTS)
 }

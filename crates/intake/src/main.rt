@@ -6,6 +6,7 @@ use console::feed::LONGEST;
 use console::receipt::receipt;
 use index::fresh::fresh;
 use reader::words::Reader;
+use slots::answer::Answers;
 use slots::{MOST_CELLS, MOST_NAMES, MOST_SLOTS};
 use std::io;
 use std::io::{Read, Stdin, Stdout};
@@ -32,11 +33,8 @@ fn serve(
             return Ok(kept);
         }
         let read = kept.chunk(names, cells, head, sizes, lines, &chunk[..n]);
-        let next = read.reader;
-        kept = next;
-        let reply = read.reply;
-        let told = reply.answer();
-        if told.number != 0 {
+        kept = read.reader;
+        if read.reply.is_err() {
             return Ok(kept);
         }
     }
@@ -55,8 +53,7 @@ fn finish(
     out: &mut [u8],
 ) -> io::Result<()> {
     let ended = reader.end(names, cells, head, sizes, lines);
-    let reply = ended.reply;
-    let answer = reply.answer();
+    let answer = ended.reply.answer();
     let written = receipt(answer.number, names, cells, head, sizes, out);
     stdout.write_all(&out[..written])
 }
@@ -69,7 +66,7 @@ fn main(rt: HostRuntime) -> io::Result<()> {
     let mut lines = [0u64; JOURNAL_WORDS];
     let mut chunk = [0u8; 65536];
     let mut out = [0u8; LONGEST];
-    fresh(&mut names, &mut cells, &mut head, &mut sizes, &mut lines);
+    let _ = fresh(&mut names, &mut cells, &mut head, &mut sizes, &mut lines);
     let started = Reader::start(&names, &cells, &head, &sizes, &lines);
     let reader = serve(
         rt.stdin(),

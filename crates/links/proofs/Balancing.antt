@@ -1,5 +1,5 @@
 -- What the steps of the balancing come to, on plain values: each law takes the equations that the calls give, in the order of the code.
-use Rattle.std.proofs.Common.{◌≡◌, ℕ, zero, suc, ◌-◌, ◌<◌, ◌≤◌, Bool, true, false, not, ◌≢◌, List, refl, not-suc-le-zero, sub-one}
+use Rattle.std.proofs.Common.{◌≡◌, ℕ, zero, suc, ◌+◌, ◌-◌, ◌<◌, ◌≤◌, Bool, true, false, not, ◌≢◌, List, Option, None, Some, refl, arith}
 use borrow.Author.Tests.{not-true, not-false}
 use Rattle.slots.specs.Words.{null, state, parent, left, right, black, red, code, cell, write}
 use Rattle.slots.proofs.Laws.{pick_eq, pick_ne}
@@ -8,8 +8,6 @@ use Rattle.redblack.specs.Rotate.{rotated}
 use Rattle.redblack.specs.Insertion.{raised, straightened, lifted, insertion_turn, insertion_turns, balanced_insertion}
 use Rattle.redblack.specs.Deletion.{capped, outer_red, inner_red, dark_sib, by_sib, deletion_turn, balanced_deletion}
 use Rattle.links.specs.Turns.{turn_of}
-use Rattle.links.specs.declared.balance.Step.{Step}
-use Rattle.links.specs.declared.balance.Step.TheVariants.{Done, More}
 
 -- The steps of balance_insertion.
 module _ (near far : ℕ) (s : Links) (xp xpp : ℕ) where
@@ -83,21 +81,23 @@ pub record Loop (turn : Links → ℕ → Turn) (loop : ℕ → Links → ℕ �
   pub spent : (s : Links) (x : ℕ) → loop zero s x ≡ s
   pub unrolled : (n : ℕ) (s : Links) (x : ℕ) → loop (suc n) s x ≡ after (turn s x) (loop n)
 
--- The budget is spent, or a turn ends the loop, or it goes on.
-module _ {turn : Links → ℕ → Turn} {loop : ℕ → Links → ℕ → Links} (k : Loop turn loop) where
-  pub over : {n x : ℕ} {s w : Links} → loop n s x ≡ w → n ≤ 0 → s ≡ w
-  over {n = zero} {x = x} {s = s} i h = rw (k.spent s x) at i
-  over {n = suc m} i h = absurd (not-suc-le-zero h)
+-- After b of n turns: the budget is spent, or a turn ends the loop, or it goes on.
+module _ {turn : Links → ℕ → Turn} {loop : ℕ → Links → ℕ → Links} (k : Loop turn loop) {n b x : ℕ} {s w : Links}
+    (i : loop (n - b) s x ≡ w) where
+  pub over : n ≤ b → s ≡ w
+  over h = let z : n - b ≡ 0 = omega arith in rw (k.spent s x) at (rw z at i)
 
-  pub ends : {n x t : ℕ} {s w : Links} {cells sizes : List ℕ} {step : Step}
-      → loop n s x ≡ w → 0 < n → turn_of step cells sizes ≡ turn s x → step ≡ Done t → lent_links cells t sizes ≡ w
-  ends {n = zero} i h e d = absurd (not-suc-le-zero h)
-  ends {n = suc m} {x = x} {s = s} i h e d = rw (k.unrolled m s x, ← e, d) at i
+  module _ (h : b < n) where
+    turned : {v : Turn} → v ≡ turn s x → after v (loop (n - (b + 1))) ≡ w
+    turned e = let z : n - b ≡ suc (n - (b + 1)) = omega arith in rw (k.unrolled (n - (b + 1)) s x, ← e) at (rw z at i)
 
-  pub goes_on : {n x t y : ℕ} {s w : Links} {cells sizes : List ℕ} {step : Step}
-      → loop n s x ≡ w → 0 < n → turn_of step cells sizes ≡ turn s x → step ≡ More t y → loop (n - 1) (lent_links cells t sizes) y ≡ w
-  goes_on {n = zero} i h e d = absurd (not-suc-le-zero h)
-  goes_on {n = suc m} {x = x} {s = s} i h e d = rw sub-one (rw (k.unrolled m s x, ← e, d) at i)
+    pub ends : {step : ℕ × Option ℕ} {cells sizes : List ℕ} → turn_of step cells sizes ≡ turn s x → step.1 ≡ None
+        → lent_links cells step.0 sizes ≡ w
+    ends e d = rw d at (turned e)
+
+    pub goes_on : {step : ℕ × Option ℕ} {cells sizes : List ℕ} {y : ℕ} → turn_of step cells sizes ≡ turn s x → step.1 ≡ Some y
+        → loop (n - (b + 1)) (lent_links cells step.0 sizes) y ≡ w
+    goes_on e d = rw d at (turned e)
 
 pub insertion : Loop insertion_turn insertion_turns
 unfolding insertion_turns

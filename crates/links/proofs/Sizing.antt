@@ -1,5 +1,5 @@
 -- What the steps that write sizes come to, on plain values: each law takes the equations that the calls give, in the order of the code.
-use Rattle.std.proofs.Common.{◌≡◌, ℕ, zero, suc, ◌-◌, ◌<◌, ◌≤◌, ◌≢◌, List, get_or, set, not-suc-le-zero, sub-one}
+use Rattle.std.proofs.Common.{◌≡◌, ℕ, suc, ◌+◌, ◌-◌, ◌<◌, ◌≤◌, ◌≢◌, List, get_or, set, arith}
 use Rattle.slots.specs.Words.{null, parent, cell, sum}
 use Rattle.slots.proofs.Laws.{pick_eq, pick_ne}
 use Rattle.redblack.specs.Links.{lent_links}
@@ -20,25 +20,23 @@ module _ (l : List ℕ) (p t : ℕ) where
   unfolding swapped
   exchange e1 e2 e3 e4 = rw (← e1, ← e2, ← e3) e4
 
--- The way up: no step is left, or there is no slot above, or it goes on.
-module _ (cells : List ℕ) (d : ℕ) where
-  pub spent : (n p : ℕ) (l : List ℕ) {w : List ℕ} → climbed n cells l p d ≡ w → n ≤ 0 → l ≡ w
+-- The way up after t of n steps: no step is left, or there is no slot above, or it goes on.
+module _ (cells : List ℕ) (d n t p : ℕ) (l : List ℕ) {w : List ℕ} (i : climbed (n - t) cells l p d ≡ w) where
+  pub spent : n ≤ t → l ≡ w
   unfolding climbed
-  spent zero p l i h = i
-  spent (suc m) p l i h = absurd (not-suc-le-zero h)
+  spent h = let z : n - t ≡ 0 = omega arith in rw z at i
 
-  pub topped : (n p : ℕ) (l : List ℕ) {w : List ℕ} → climbed n cells l p d ≡ w → 0 < n → p ≡ null → l ≡ w
+  pub topped : t < n → p ≡ null → l ≡ w
   unfolding climbed
-  topped zero p l i h t = absurd (not-suc-le-zero h)
-  topped (suc m) p l i h t = rw (pick_eq _ _ t) at i
+  topped h v = let s : n - t ≡ suc (n - (t + 1)) = omega arith in rw (pick_eq _ _ v) at (rw s at i)
 
-  pub upward : (n p : ℕ) (l : List ℕ) {old new q : ℕ} {l1 w : List ℕ}
-      → climbed n cells l p d ≡ w → 0 < n → p ≢ null
+  pub upward : {old new q : ℕ} {l1 : List ℕ} → t < n → p ≢ null
       → old ≡ get_or l p 0 → new ≡ sum old d → l1 ≡ set l p new → q ≡ cell cells p parent
-      → climbed (n - 1) cells l1 q d ≡ w
+      → climbed (n - (t + 1)) cells l1 q d ≡ w
   unfolding climbed
-  upward zero p l i h t e1 e2 e3 e4 = absurd (not-suc-le-zero h)
-  upward (suc m) p l i h t e1 e2 e3 e4 = rw (sub-one, e3, e2, e1, e4) (rw (pick_ne _ _ t) at i)
+  upward h v e1 e2 e3 e4 =
+      let s : n - t ≡ suc (n - (t + 1)) = omega arith in
+      rw (e3, e2, e1, e4) (rw (pick_ne _ _ v) at (rw s at i))
 
 module _ (budget : ℕ) (cells l : List ℕ) (x v d : ℕ) where
   pub weigh : {above : ℕ} {l1 l2 : List ℕ}

@@ -1,5 +1,6 @@
 // balance_insertion and balance_deletion, a turn of each loop at a time. near is the field of the side where x, or its
 // parent, stands; far that of the other.
+// Form kept: near, far and the colours are the very words that get and put take, so that an enum would be turned back at each.
 ghost use Rattle.std.specs.Prelude.{◌≡◌};
 ghost use Rattle.slots.specs.Words.{state, write};
 ghost use Rattle.redblack.specs.Insertion.{raised, straightened, lifted, insertion_turn, insertion_turns, balanced_insertion};
@@ -10,12 +11,8 @@ ghost use Rattle.redblack.specs.Links.{lent_links};
 use crate::rotate::rotate;
 use slots::{BLACK, LEFT, NULL, PARENT, RED, RIGHT, STATE, colour, get, is_red, put};
 
-// What a turn comes to: the loop ends with this root, or goes on with this root from this slot.
-#[derive(Clone, Copy)]
-enum Step {
-    Done(u32),
-    More(u32, u32),
-}
+// What a turn comes to: the root, and the slot that the loop goes on from, if it does.
+type Step = (u32, Option<u32>);
 
 // Writes a colour as the state of slot i.
 fn paint(cells: &mut [u32], i: u32, colour: u32)
@@ -61,10 +58,10 @@ fn straighten(
         let q = get(cells, xp, PARENT);
         let qp = get(cells, q, PARENT);
         let top = raise(cells, sizes, low, q, qp, near, far);
-        return Step::More(top, xp);
+        return (top, Some(xp));
     }
     let top = raise(cells, sizes, root, xp, xpp, near, far);
-    Step::More(top, x)
+    (top, Some(x))
 }
 
 // The parent stands on the near side of the grandparent. With a red uncle both are painted black, and the loop goes on
@@ -87,7 +84,7 @@ fn lift(
         paint(cells, uncle, BLACK);
         paint(cells, xp, BLACK);
         paint(cells, xpp, RED);
-        return Step::More(root, xpp);
+        return (root, Some(xpp));
     }
     straighten(cells, sizes, root, x, xp, xpp, near, far)
 }
@@ -101,14 +98,14 @@ fn insertion_turn(cells: &mut [u32], sizes: &mut [u32], root: u32, x: u32) -> St
     let xp = get(cells, x, PARENT);
     if xp == NULL {
         paint(cells, x, BLACK);
-        return Step::Done(x);
+        return (x, None);
     }
     if !is_red(cells, xp) {
-        return Step::Done(root);
+        return (root, None);
     }
     let xpp = get(cells, xp, PARENT);
     if xpp == NULL {
-        return Step::Done(root);
+        return (root, None);
     }
     if get(cells, xpp, LEFT) == xp {
         return lift(cells, sizes, root, x, xp, xpp, LEFT, RIGHT);
@@ -123,17 +120,13 @@ fn insertion_turns(cells: &mut [u32], sizes: &mut [u32], root: u32, x: u32, budg
 {
     let mut top = root;
     let mut at = x;
-    let mut turns = budget;
-    while 0 < turns {
-        let step = insertion_turn(cells, sizes, top, at);
-        match step {
-            Step::Done(last) => return last,
-            Step::More(next, y) => {
-                top = next;
-                at = y;
-            }
-        }
-        turns -= 1;
+    for _ in 0..budget {
+        let (low, next) = insertion_turn(cells, sizes, top, at);
+        top = low;
+        let Some(y) = next else {
+            return top;
+        };
+        at = y;
     }
     top
 }
@@ -173,7 +166,7 @@ fn outer_red(
     paint(cells, outer, BLACK);
     paint(cells, xp, BLACK);
     let top = rotate(cells, sizes, root, xp, near, far);
-    Step::More(top, top)
+    (top, Some(top))
 }
 
 // The inner nephew is red and the outer is not: the inner one turns black, the sibling red, and the sibling goes down on
@@ -214,7 +207,7 @@ fn dark_sibling(
         return outer_red(cells, sizes, low, q, z, near, far);
     }
     paint(cells, y, RED);
-    Step::More(root, xp)
+    (root, Some(xp))
 }
 
 // A red sibling turns black, the parent red, and the parent goes down first.
@@ -249,19 +242,19 @@ fn deletion_turn(cells: &mut [u32], sizes: &mut [u32], root: u32, x: u32) -> Ste
         ≡ deletion_turn (lent_links cells.old root sizes.old) x }
 {
     if x == NULL {
-        return Step::Done(root);
+        return (root, None);
     }
     if x == root {
-        return Step::Done(root);
+        return (root, None);
     }
     let xp = get(cells, x, PARENT);
     if xp == NULL {
         paint(cells, x, BLACK);
-        return Step::Done(x);
+        return (x, None);
     }
     if is_red(cells, x) {
         paint(cells, x, BLACK);
-        return Step::Done(root);
+        return (root, None);
     }
     if get(cells, xp, LEFT) == x {
         return by_sibling(cells, sizes, root, x, xp, LEFT, RIGHT);
@@ -282,17 +275,13 @@ pub(crate) fn balance_deletion(
 {
     let mut top = root;
     let mut at = x;
-    let mut turns = budget;
-    while 0 < turns {
-        let step = deletion_turn(cells, sizes, top, at);
-        match step {
-            Step::Done(last) => return last,
-            Step::More(next, y) => {
-                top = next;
-                at = y;
-            }
-        }
-        turns -= 1;
+    for _ in 0..budget {
+        let (low, next) = deletion_turn(cells, sizes, top, at);
+        top = low;
+        let Some(y) = next else {
+            return top;
+        };
+        at = y;
     }
     top
 }

@@ -39,8 +39,7 @@ fn climb(cells: &[u32], sizes: &mut [u32], p: u32, d: u32, budget: u32)
     ensures { sizes.new ≡ climbed budget cells.now sizes.old p d }
 {
     let mut at = p;
-    let mut rest = budget;
-    while 0 < rest {
+    for _ in 0..budget {
         if at == NULL {
             return;
         }
@@ -48,7 +47,6 @@ fn climb(cells: &[u32], sizes: &mut [u32], p: u32, d: u32, budget: u32)
         let new = add(old, d);
         put_word(sizes, at as usize, new);
         at = get(cells, at, PARENT);
-        rest -= 1;
     }
 }
 

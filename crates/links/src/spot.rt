@@ -7,6 +7,7 @@ ghost use Rattle.redblack.specs.Links.{lent_links};
 use slots::{HASH, KEY, LEFT, NULL, RIGHT, comes_before, get, name};
 
 // The slot above, null where the tree is empty, and the field of the side to hang on.
+// Form kept: both are written as they stand, the slot as the new one's parent and the side as the field of its link.
 #[derive(Clone, Copy)]
 pub(crate) struct Spot {
     pub(crate) above: u32,
@@ -31,8 +32,7 @@ fn descend(names: &[u64], cells: &[u32], p: u32, hash: u64, key: u64, steps: u32
     ensures { spot_of result ≡ descended names.now cells.now steps p hash key }
 {
     let mut at = p;
-    let mut rest = steps;
-    while 0 < rest {
+    for _ in 0..steps {
         let side = side_for(names, at, hash, key);
         let q = get(cells, at, side);
         if q == NULL {
@@ -42,7 +42,6 @@ fn descend(names: &[u64], cells: &[u32], p: u32, hash: u64, key: u64, steps: u32
             };
         }
         at = q;
-        rest -= 1;
     }
     let side = side_for(names, at, hash, key);
     Spot {

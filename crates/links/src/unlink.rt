@@ -175,14 +175,12 @@ fn leftmost(cells: &[u32], q: u32, budget: u32) -> u32
     ensures { (root : ℕ) (sizes : List ℕ) → result ≡ leftmost budget (lent_links cells.now root sizes) q }
 {
     let mut at = q;
-    let mut rest = budget;
-    while 0 < rest {
+    for _ in 0..budget {
         let next = get(cells, at, LEFT);
         if next == NULL {
             return at;
         }
         at = next;
-        rest -= 1;
     }
     at
 }

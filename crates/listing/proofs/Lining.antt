@@ -18,9 +18,20 @@ use Rattle.script_rules.specs.Blanks.{blanks_filled}
 use Rattle.script_rules.specs.Feeding.{Paper, typed}
 use Rattle.script_rules.proofs.Typing.{typed_append}
 use Rattle.set_rules.specs.Words.{Set, tables_of, length_at, headers_in, fits, bin_word, bini}
-use Rattle.set_rules.specs.Cursor.{Cursor, Step, starts}
+use Rattle.set_rules.specs.Cursor.{Cursor, Step, blank_cursor, starts}
 use Rattle.set_rules.specs.Walk.{nexts}
 use Rattle.set_rules.proofs.Claims as set-rules
+use Rattle.std.specs.Prelude.{Option, None, Some, Result, Ok, Err}
+use Rattle.slots.specs.Coded.{value_of}
+use Rattle.std.specs.Result.{result_unwrap_or}
+use Rattle.sets.specs.Cursors.{cursor_of, start_of, given_of}
+use Rattle.sets.specs.declared.lookup.NoTable.{NoTable}
+use Rattle.sets.specs.declared.walk.Cursor.{Cursor as CursorCode}
+use Rattle.sets.specs.declared.walk.NextRefusal.{NextRefusal}
+use Rattle.sets.specs.declared.walk.NextRefusal.TheVariants.{Unfit, BadCursor, Lost}
+use Rattle.file.specs.Meanings.{load_refusal_of}
+use Rattle.file.specs.declared.reply.LoadRefusal.{LoadRefusal}
+use Rattle.file.specs.declared.reply.LoadRefusal.TheVariants.{Unfit as UnfitFile, Damaged, Short, Long, OverLimit}
 use Rattle.file_rules.specs.Loading.{LoadOutcome, cut_out}
 use Rattle.listing_rules.specs.Lines.{home_table, slot_line, walk_lines, counts_line, no_line, set_text, load_text}
 
@@ -50,6 +61,20 @@ pub slot_told_lem : (s : Set) (x : ℕ) {hash k len i key at : ℕ} → hash ≡
     → blanks_filled (letters "# # # # # #\n") (k ∷ (i ∷ (x ∷ (hash ∷ (key ∷ (at ∷ [])))))) ≡ slot_line s x
 unfolding slot_line
 slot_told_lem s x a b c d e f = rw (← a, ← b, d, c, ← e, ← f)
+
+-- A walk that does not begin stands at the blank cursor.
+pub start_at : (r : Result CursorCode NoTable) (b : CursorCode) → cursor_of b ≡ blank_cursor
+    → cursor_of (result_unwrap_or r b) ≡ (start_of r).cursor
+start_at (Ok c) b e = refl
+start_at (Err refusal) b e = e
+
+-- A refused step gives no slot.
+pub entry_told : (r : Result (Option ℕ) NextRefusal) → (given_of r).value ≡ value_of (result_unwrap_or r None)
+entry_told (Ok (Some x)) = refl
+entry_told (Ok None) = refl
+entry_told (Err Unfit) = refl
+entry_told (Err BadCursor) = refl
+entry_told (Err Lost) = refl
 
 -- The walk: a line and the rest, or the end of it.
 module _ (s : Set) (p : Paper) (n : ℕ) (c : Cursor) (st : Step) (e : st ≡ nexts s c) where
@@ -106,3 +131,11 @@ module _ (o : LoadOutcome) {a : Answer} (is : a ≡ o.answer) where
   pub yes_told : a.number ≡ 0 → set_text (cut_out o.left.loader o.left.set) ≡ load_text o
   unfolding load_text
   yes_told e = rw (← is, eq-eqb a.number 0 e)
+
+-- Each refusal has a number.
+pub refused_load : (e : LoadRefusal) → (load_refusal_of e).number ≢ 0
+refused_load UnfitFile = omega arith
+refused_load Damaged = omega arith
+refused_load Short = omega arith
+refused_load Long = omega arith
+refused_load OverLimit = omega arith

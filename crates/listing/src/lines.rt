@@ -10,28 +10,28 @@ use index::sound::used_slots;
 use sets::bin::{bin_word, index};
 use sets::fit::{fit_set, length_at};
 use sets::walk::Cursor;
-use slots::answer::Value;
 use slots::{HASH, KEY, PLACE, get, name};
 
 // The word of a Moved bin.
 const MOVED: u32 = 1;
+
+// The last of eight tables.
+const LAST_TABLE: u32 = 7;
 
 // The table whose bin for a hash is the first that is not Moved; of eight the last.
 fn home_table(lengths: &[u32], bins: &[u32], hash: u64) -> u32
     ensures { (heads names cells : List ℕ) → result
         ≡ home_table 7 (lent_set lengths.now bins.now heads names cells) 0 hash }
 {
-    let mut k: u32 = 0;
-    while k < 7 {
+    for k in 0..LAST_TABLE {
         let length = length_at(lengths, k);
         let i = index(length, hash);
         let word = bin_word(lengths, bins, k, i);
         if word != MOVED {
             return k;
         }
-        k += 1;
     }
-    k
+    LAST_TABLE
 }
 
 // The line of slot x.
@@ -76,20 +76,16 @@ fn tell_walk(
         ).cursor) }
 {
     let start = Cursor::start(lengths, bins, heads, names, cells, 0);
-    let mut cursor = start.cursor;
+    let mut cursor = start.unwrap_or(Cursor::blank());
     let mut end = at;
-    let mut left = names.len() / 2;
-    while 0 < left {
+    for _told in 0..names.len() / 2 {
         let step = cursor.next(lengths, bins, heads, names, cells);
-        let given = step.answer;
-        let answer = given.answer();
-        let value = answer.value;
-        let Value::Some(x) = value else {
+        let entry = step.answer.unwrap_or(None);
+        let Some(x) = entry else {
             return end;
         };
         end = tell_slot(out, end, lengths, bins, names, cells, x);
         cursor = step.cursor;
-        left -= 1;
     }
     end
 }

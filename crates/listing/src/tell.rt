@@ -11,6 +11,7 @@ use console::fill::fill;
 use file::cut::{front_cells, front_heads, front_names, front_words};
 use file::load::Load;
 use file::loader::Loader;
+use slots::answer::Answers;
 
 // The set that the counts cut out of the slices.
 fn tell_cut(
@@ -51,11 +52,11 @@ pub fn tell(
         (lent_set lengths.now bins.now heads.now names.now cells.now))) }
     ensures bounds { result ≤ length out.new }
 {
-    let reply = load.reply;
-    let answer = reply.answer();
-    if answer.number != 0 {
-        let numbers = [answer.number as u64];
-        return fill(out, 0, b"no #\n", &numbers);
+    match load.reply {
+        Ok(_) => tell_cut(out, load.loader, lengths, bins, heads, names, cells),
+        Err(refusal) => {
+            let numbers = [refusal.answer().number as u64];
+            fill(out, 0, b"no #\n", &numbers)
+        }
     }
-    tell_cut(out, load.loader, lengths, bins, heads, names, cells)
 }

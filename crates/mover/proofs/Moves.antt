@@ -1,25 +1,21 @@
 -- What a move comes to on each of its ways is what the model says.
-use mathlib.Core.Path.{◌≡◌, refl, sym, ◌∙◌}
-use mathlib.Core.Logic.{inl, inr}
+use mathlib.Core.Path.{◌≡◌, refl, ap, sym, ◌∙◌}
 use mathlib.Core.Bool.{Bool, true, false}
-use mathlib.Core.List.{List, [], ◌∷◌}
+use mathlib.Core.List.{List}
 use Prim.Native.Nat.{ℕ, zero, suc, ◌+◌, ◌-◌, ◌/◌, ◌<◌, ◌≤◌}
 use native.Mathlib.Omega.{arith}
 use lib.ListN.{length}
 use lib.Dec.{eqb, leb}
 use borrow.Author.Tests.{lt-ltb, le-ltb}
-use types.Run.{OneOf}
-use denote.Enum.Declared.{tag_of}
+use Rattle.std.specs.Prelude.{Result, Ok, Err}
+use Rattle.std.specs.Result.{IsErrAnd}
 use Rattle.slots.specs.Words.{null, pick, next, cell}
 use Rattle.slots.specs.Answers.{given, refused}
+use Rattle.slots.specs.Coded.{verdict}
 use Rattle.slots.proofs.Laws.{number, given_is}
 use Rattle.set_rules.specs.Words.{Set, tables_of, length_at, fits, bin_of, bin_word}
 use Rattle.set_rules.specs.Accepting.{accepted, accepts, is_home}
 use Rattle.set_rules.proofs.Fit.{fits_fit, length_bound}
-use Rattle.sets.specs.Verdicts.{accept_of}
-use Rattle.sets.specs.declared.accept.Acceptance.{Acceptance}
-use Rattle.sets.specs.contracts.accept.Acceptance.{the_type}
-use Rattle.sets.specs.declared.accept.Acceptance.TheVariants.{Yes, No, Unfit}
 use Rattle.move_rules.specs.Passes.{home_count}
 use Rattle.move_rules.specs.Moving.{header_in, half_count, half_first, most_listed, spare_from, header_for, low_header, high_header, lacks}
 use Rattle.move_rules.specs.Moving.{bin_taken}
@@ -83,40 +79,62 @@ module _ (s : Set) (k i : ℕ) where
     high_counts : high ≡ half_count s k i (i + length_at s k)
     high_counts = b ∙ rw z
 
-    pub low_short : {t : Bool} → t ≡ lacks low g → t ≡ true → move_outcome (refused 5) s ≡ moves_bin s k i
+    pub low_short : lacks low g ≡ true → move_outcome (refused 5) s ≡ moves_bin s k i
     unfolding moves_bin
-    low_short f y = let n : lacks (half_count s k i i) (low_header s k i) ≡ true = rw (← a, ← low_is) (sym f ∙ y) in rw n
+    low_short y = let n : lacks (half_count s k i i) (low_header s k i) ≡ true = rw (← a, ← low_is) y in rw n
 
-    module _ {from h : ℕ} {t : Bool} (f : t ≡ lacks low g) (y : t ≡ false) (c : from ≡ pick (leb low most_listed) 0 (suc g))
+    module _ {from h : ℕ} (y : lacks low g ≡ false) (c : from ≡ pick (leb low most_listed) 0 (suc g))
         (d : h ≡ pick (leb high most_listed) null (spare_from (length s.heads / 3 - from) s.heads own from)) where
       low_has : lacks (half_count s k i i) (low_header s k i) ≡ false
-      low_has = rw (← a, ← low_is) (sym f ∙ y)
+      low_has = rw (← a, ← low_is) y
 
       high_is : h ≡ high_header s k i
       unfolding high_header header_for
       high_is = d ∙ rw (c, low_is, high_counts, a, o)
 
-      pub high_short : {w : Bool} → w ≡ lacks high h → w ≡ true → move_outcome (refused 5) s ≡ moves_bin s k i
+      pub high_short : lacks high h ≡ true → move_outcome (refused 5) s ≡ moves_bin s k i
       unfolding moves_bin
-      high_short p q =
-          let n : lacks (half_count s k i (i + length_at s k)) (high_header s k i) ≡ true = rw (← high_counts, ← high_is) (sym p ∙ q) in
+      high_short q =
+          let n : lacks (half_count s k i (i + length_at s k)) (high_header s k i) ≡ true = rw (← high_counts, ← high_is) q in
           rw (low_has, n)
 
-      pub moved : {w : Bool} {u : Set} → w ≡ lacks high h → w ≡ false → u ≡ halves_laid s k i (i + len) g h low high
+      pub moved : {u : Set} → lacks high h ≡ false → u ≡ halves_laid s k i (i + len) g h low high
           → move_outcome (given (low + high)) u ≡ moves_bin s k i
       unfolding moves_bin both_laid low_laid halves_laid
-      moved {u = u} p q r =
-          let n : lacks (half_count s k i (i + length_at s k)) (high_header s k i) ≡ false = rw (← high_counts, ← high_is) (sym p ∙ q) in
+      moved {u = u} q r =
+          let n : lacks (half_count s k i (i + length_at s k)) (high_header s k i) ≡ false = rw (← high_counts, ← high_is) q in
           let l : u ≡ both_laid s k i = r ∙ rw (z, high_is, low_is, high_counts, a) in
           let m : low + high ≡ half_count s k i i + half_count s k i (i + length_at s k) = rw (high_counts, a) in
           rw (low_has, n) (λ x. move_outcome (given (m x)) (l x))
 
--- Acceptance that is not yes.
-not_yes : (v : Acceptance) → OneOf (1 ∷ 2 ∷ []) (tag_of the_type v) → accept_of v ≡ given 1 → ⊥
-not_yes Yes (inl z) e = omega arith
-not_yes Yes (inr z) e = omega arith
-not_yes No k e = omega (arith, given_is e)
-not_yes Unfit k e = omega (arith, number e)
+-- An error that is handed on is the only one.
+pub passed : {T E : Type 0} (k : E) (r : Result T E) → IsErrAnd r (λ e. e ≡ k) → r ≡ Err k
+passed k (Ok v) h = absurd h
+passed k (Err e) h = ap Err h
+
+-- What acceptance answers settles both tests.
+module _ (s : Set) where
+  pub judged_unfit : refused 1 ≡ accepts s → fits s ≡ false
+  unfolding accepts
+  judged_unfit e = go (fits s) (accepted s) e refl
+    where
+      go : (f a : Bool) → refused 1 ≡ pick f (pick a (given 1) (given 0)) (refused 1) → fits s ≡ f → fits s ≡ false
+      go true true e z = absurd (omega (arith, number e))
+      go true false e z = absurd (omega (arith, number e))
+      go false a e z = z
+
+  pub judged : (b : Bool) → verdict b ≡ accepts s → (fits s ≡ true) × (accepted s ≡ b)
+  unfolding accepts
+  judged b e = go b (fits s) (accepted s) e refl refl
+    where
+      go : (b f a : Bool) → verdict b ≡ pick f (pick a (given 1) (given 0)) (refused 1) → fits s ≡ f → accepted s ≡ a
+          → (fits s ≡ true) × (accepted s ≡ b)
+      go true true true e z y = (z, y)
+      go true true false e z y = absurd (omega (arith, given_is e))
+      go false true true e z y = absurd (omega (arith, given_is e))
+      go false true false e z y = (z, y)
+      go true false a e z y = absurd (omega (arith, number e))
+      go false false a e z y = absurd (omega (arith, number e))
 
 module _ (s : Set) (k i : ℕ) where
   pub unfit_moves : fits s ≡ false → move_outcome (refused 1) s ≡ moves s k i
@@ -129,22 +147,9 @@ module _ (s : Set) (k i : ℕ) where
     table_moves b = rw (f, le-ltb k (tables_of s) b)
 
     module _ (b : k < tables_of s) where
-      pub damaged_moves : (v : Acceptance) → accept_of v ≡ accepts s → OneOf (1 ∷ 2 ∷ []) (tag_of the_type v)
-          → move_outcome (refused 2) s ≡ moves s k i
-      unfolding moves accepts
-      damaged_moves v e n = go (accepted s) refl
-        where
-          go : (t : Bool) → accepted s ≡ t → move_outcome (refused 2) s ≡ moves s k i
-          go false z = rw (f, lt-ltb k (tables_of s) b, z)
-          go true z = absurd (not_yes v n (e ∙ rw (f, z)))
-
-    pub yes_accepts : given 1 ≡ accepts s → FitAccepted s
-    unfolding accepts
-    yes_accepts e = go (accepted s) refl
-      where
-        go : (t : Bool) → accepted s ≡ t → FitAccepted s
-        go true z = record { fit = f; accepts = z }
-        go false z = absurd (omega (arith, given_is (rw (f, z) at e)))
+      pub damaged_moves : accepted s ≡ false → move_outcome (refused 2) s ≡ moves s k i
+      unfolding moves
+      damaged_moves e = rw (f, lt-ltb k (tables_of s) b, e)
 
   module _ (h : FitAccepted s) (b : k < tables_of s) {t : Bool} (m : t ≡ movable s k i) where
     pub cannot_moves : t ≡ false → move_outcome (refused 16) s ≡ moves s k i

@@ -1,64 +1,68 @@
 -- Each pass from here, with the slots that are left, comes to what the pass from the start comes to: at null, with none left, and a slot
 -- on.
-use mathlib.Core.Path.{◌≡◌, refl, ◌∙◌}
+use mathlib.Core.Path.{◌≡◌, ◌∙◌}
 use mathlib.Core.Logic.{◌≢◌}
 use mathlib.Core.Bool.{Bool, true, false}
 use mathlib.Core.List.{List, []}
-use Prim.Native.Nat.{ℕ, zero, suc, ◌+◌, ◌-◌, ◌≤◌}
-use native.Mathlib.Numerals.{sub-one}
+use Prim.Native.Nat.{ℕ, zero, suc, ◌+◌, ◌-◌, ◌<◌, ◌≤◌}
 use native.Mathlib.Omega.{arith}
 use borrow.Author.Tests.{eq-eqb, ne_eqb}
+use mir.Val.{bool_byte}
 use Rattle.slots.specs.Words.{null, pick, next, prev, cell, write}
 use Rattle.redblack.specs.Links.{Links, lent_links}
 use Rattle.set_rules.specs.Accepting.{is_home}
 use Rattle.move_rules.specs.Passes.{home_count, first_home, halves_ended, threaded, plain_slot, plained, backed, joined, joined_from}
 
-pub one_most : (b : Bool) {n : ℕ} → n ≡ pick b 1 0 → n ≤ 1
-one_most true e = omega arith
-one_most false e = omega arith
+-- One step of those that are left, and none.
+one_left : (m c : ℕ) → c < m → m - c ≡ suc (m - (c + 1))
+one_left m c h = omega arith
+
+none_left : (m c : ℕ) → m ≤ c → m - c ≡ 0
+none_left m c h = omega arith
+
+pub one_most : (b : Bool) → bool_byte b ≤ 1
+one_most true = omega arith
+one_most false = omega arith
 
 module _ (names cells : List ℕ) (len i p : ℕ) {w : ℕ} where
   pub count-null : (v n : ℕ) → n + home_count v names cells len i p ≡ w → p ≡ null → n ≡ w
   unfolding home_count
-  count-null zero n h e = omega arith
+  count-null zero n h e = omega (arith, h)
   count-null (suc v) n h e = let z : n + 0 ≡ w = rw (eq-eqb p null e) at h in omega arith
 
-  pub count_spent : (v n : ℕ) → n + home_count v names cells len i p ≡ w → v ≡ 0 → n ≡ w
+  pub count_spent : (m c n : ℕ) → n + home_count (m - c) names cells len i p ≡ w → m ≤ c → n ≡ w
   unfolding home_count
-  count_spent zero n h e = omega arith
-  count_spent (suc v) n h e = absurd (omega arith)
+  count_spent m c n h e = let z : n + 0 ≡ w = rw (none_left m c e) at h in omega arith
 
-  pub count_on : (v n : ℕ) {one q : ℕ} {b : Bool} → n + home_count v names cells len i p ≡ w → p ≢ null → v ≢ 0 → b ≡ is_home names len i p
-      → one ≡ pick b 1 0
+  pub count_on : (m c n : ℕ) {q : ℕ} {b : Bool} → n + home_count (m - c) names cells len i p ≡ w → p ≢ null → c < m
+      → b ≡ is_home names len i p
       → q ≡ cell cells p next
-      → n + one + home_count (v - 1) names cells len i q ≡ w
+      → n + bool_byte b + home_count (m - (c + 1)) names cells len i q ≡ w
   unfolding home_count
-  count_on zero n h d z e f g = absurd (z refl)
-  count_on (suc v) n h d z e f g = rw (sub-one, f, e, g) (omega (arith, rw (ne_eqb p null d) at h))
+  count_on m c n {q} {b} h d k e g = rw g (go b _ (rw (ne_eqb p null d, ← e) at (rw (one_left m c k) at h)))
+    where
+      go : (b : Bool) (r : ℕ) → n + (pick b 1 0 + r) ≡ w → n + bool_byte b + r ≡ w
+      go true r f = omega (arith, f)
+      go false r f = omega (arith, f)
 
   pub first_null : (v : ℕ) → first_home v names cells len i p ≡ w → p ≡ null → null ≡ w
   unfolding first_home
   first_null zero h e = h
   first_null (suc v) h e = rw (eq-eqb p null e) at h
 
-  pub first_spent : (v : ℕ) → first_home v names cells len i p ≡ w → v ≡ 0 → null ≡ w
+  pub first_spent : (m c : ℕ) → first_home (m - c) names cells len i p ≡ w → m ≤ c → null ≡ w
   unfolding first_home
-  first_spent zero h e = h
-  first_spent (suc v) h e = absurd (omega arith)
+  first_spent m c h e = rw (none_left m c e) at h
 
-  pub first_here : (v : ℕ) {b : Bool} → first_home v names cells len i p ≡ w → p ≢ null → v ≢ 0 → b ≡ is_home names len i p → b ≡ true
-      → p ≡ w
-  unfolding first_home
-  first_here zero h d n e f = absurd (n refl)
-  first_here (suc v) h d n e f = rw (ne_eqb p null d, ← e, f) at h
+  module _ (m c : ℕ) {b : Bool} (h : first_home (m - c) names cells len i p ≡ w) (d : p ≢ null) (k : c < m)
+      (e : b ≡ is_home names len i p) where
+    pub first_here : b ≡ true → p ≡ w
+    unfolding first_home
+    first_here f = rw (ne_eqb p null d, ← e, f) at (rw (one_left m c k) at h)
 
-  pub first_on : (v : ℕ) {q : ℕ} {b : Bool} → first_home v names cells len i p ≡ w → p ≢ null → v ≢ 0 → b ≡ is_home names len i p
-      → b ≡ false
-      → q ≡ cell cells p next
-      → first_home (v - 1) names cells len i q ≡ w
-  unfolding first_home
-  first_on zero h d n e f g = absurd (n refl)
-  first_on (suc v) h d n e f g = rw (sub-one, g) (rw (ne_eqb p null d, ← e, f) at h)
+    pub first_on : {q : ℕ} → b ≡ false → q ≡ cell cells p next → first_home (m - (c + 1)) names cells len i q ≡ w
+    unfolding first_home
+    first_on f g = rw g (rw (ne_eqb p null d, ← e, f) at (rw (one_left m c k) at h))
 
 -- The slot that was met last in a half.
 module _ (names : List ℕ) (len i a b p : ℕ) {w : List ℕ} where
@@ -69,26 +73,25 @@ module _ (names : List ℕ) (len i a b p : ℕ) {w : List ℕ} where
   thread_null zero cells h e f = f ∙ h
   thread_null (suc v) cells h e f = f ∙ rw (eq-eqb p null e) at h
 
-  pub thread_spent : (v : ℕ) (cells : List ℕ) {made : List ℕ} → threaded v names len i cells a b p ≡ w → v ≡ 0
+  pub thread_spent : (m c : ℕ) (cells : List ℕ) {made : List ℕ} → threaded (m - c) names len i cells a b p ≡ w → m ≤ c
       → made ≡ halves_ended cells a b
       → made ≡ w
   unfolding threaded
-  thread_spent zero cells h e f = f ∙ h
-  thread_spent (suc v) cells h e f = absurd (omega arith)
+  thread_spent m c cells h e f = f ∙ rw (none_left m c e) at h
 
-  pub thread_on : (v : ℕ) (cells : List ℕ) (t : Bool) {q last x y : ℕ} {made : List ℕ} → threaded v names len i cells a b p ≡ w → p ≢ null
-      → v ≢ 0
+  pub thread_on : (m c : ℕ) (cells : List ℕ) (t : Bool) {q last x y : ℕ} {made : List ℕ} → threaded (m - c) names len i cells a b p ≡ w
+      → p ≢ null
+      → c < m
       → q ≡ cell cells p next
       → t ≡ is_home names len i p
       → last ≡ pick t a b
       → made ≡ write cells last next p
       → x ≡ pick t p a
       → y ≡ pick t b p
-      → threaded (v - 1) names len i made x y q ≡ w
+      → threaded (m - (c + 1)) names len i made x y q ≡ w
   unfolding threaded
-  thread_on zero cells t h d n e f g k l m = absurd (n refl)
-  thread_on (suc v) cells true h d n e f g k l m = rw (sub-one, k, g, l, m, e) (rw (ne_eqb p null d, ← f) at h)
-  thread_on (suc v) cells false h d n e f g k l m = rw (sub-one, k, g, l, m, e) (rw (ne_eqb p null d, ← f) at h)
+  thread_on m c cells true h d n e f g k l z = rw (k, g, l, z, e) (rw (ne_eqb p null d, ← f) at (rw (one_left m c n) at h))
+  thread_on m c cells false h d n e f g k l z = rw (k, g, l, z, e) (rw (ne_eqb p null d, ← f) at (rw (one_left m c n) at h))
 
 module _ (p : ℕ) {w : List ℕ} where
   pub plain-null : (v : ℕ) (cells : List ℕ) → plained v cells p ≡ w → p ≡ null → cells ≡ w
@@ -96,34 +99,32 @@ module _ (p : ℕ) {w : List ℕ} where
   plain-null zero cells h e = h
   plain-null (suc v) cells h e = rw (eq-eqb p null e) at h
 
-  pub plain_spent : (v : ℕ) (cells : List ℕ) → plained v cells p ≡ w → v ≡ 0 → cells ≡ w
+  pub plain_spent : (m c : ℕ) (cells : List ℕ) → plained (m - c) cells p ≡ w → m ≤ c → cells ≡ w
   unfolding plained
-  plain_spent zero cells h e = h
-  plain_spent (suc v) cells h e = absurd (omega arith)
+  plain_spent m c cells h e = rw (none_left m c e) at h
 
-  pub plain_on : (v : ℕ) (cells : List ℕ) {q : ℕ} {made : List ℕ} → plained v cells p ≡ w → p ≢ null → v ≢ 0 → q ≡ cell cells p next
+  pub plain_on : (m c : ℕ) (cells : List ℕ) {q : ℕ} {made : List ℕ} → plained (m - c) cells p ≡ w → p ≢ null → c < m
+      → q ≡ cell cells p next
       → made ≡ plain_slot cells p
-      → plained (v - 1) made q ≡ w
+      → plained (m - (c + 1)) made q ≡ w
   unfolding plained
-  plain_on zero cells h d n e f = absurd (n refl)
-  plain_on (suc v) cells h d n e f = rw (sub-one, f, e) (rw (ne_eqb p null d) at h)
+  plain_on m c cells h d n e f = rw (f, e) (rw (ne_eqb p null d) at (rw (one_left m c n) at h))
 
   pub back_null : (v q : ℕ) (cells : List ℕ) → backed v cells q p ≡ w → p ≡ null → cells ≡ w
   unfolding backed
   back_null zero q cells h e = h
   back_null (suc v) q cells h e = rw (eq-eqb p null e) at h
 
-  pub back_spent : (v q : ℕ) (cells : List ℕ) → backed v cells q p ≡ w → v ≡ 0 → cells ≡ w
+  pub back_spent : (m c q : ℕ) (cells : List ℕ) → backed (m - c) cells q p ≡ w → m ≤ c → cells ≡ w
   unfolding backed
-  back_spent zero q cells h e = h
-  back_spent (suc v) q cells h e = absurd (omega arith)
+  back_spent m c q cells h e = rw (none_left m c e) at h
 
-  pub back_on : (v q : ℕ) (cells : List ℕ) {r : ℕ} {made : List ℕ} → backed v cells q p ≡ w → p ≢ null → v ≢ 0 → r ≡ cell cells p next
+  pub back_on : (m c q : ℕ) (cells : List ℕ) {r : ℕ} {made : List ℕ} → backed (m - c) cells q p ≡ w → p ≢ null → c < m
+      → r ≡ cell cells p next
       → made ≡ write cells p prev q
-      → backed (v - 1) made p r ≡ w
+      → backed (m - (c + 1)) made p r ≡ w
   unfolding backed
-  back_on zero q cells h d n e f = absurd (n refl)
-  back_on (suc v) q cells h d n e f = rw (sub-one, f, e) (rw (ne_eqb p null d) at h)
+  back_on m c q cells h d n e f = rw (f, e) (rw (ne_eqb p null d) at (rw (one_left m c n) at h))
 
 module _ (names : List ℕ) (p : ℕ) {w : Links} where
   pub join_null : (v : ℕ) (s : Links) → joined_from v names s p ≡ w → p ≡ null → s ≡ w
@@ -131,15 +132,14 @@ module _ (names : List ℕ) (p : ℕ) {w : Links} where
   join_null zero s h e = h
   join_null (suc v) s h e = rw (eq-eqb p null e) at h
 
-  pub join_spent : (v : ℕ) (s : Links) → joined_from v names s p ≡ w → v ≡ 0 → s ≡ w
+  pub join_spent : (m c : ℕ) (s : Links) → joined_from (m - c) names s p ≡ w → m ≤ c → s ≡ w
   unfolding joined_from
-  join_spent zero s h e = h
-  join_spent (suc v) s h e = absurd (omega arith)
+  join_spent m c s h e = rw (none_left m c e) at h
 
-  pub join_on : (v root : ℕ) (cells : List ℕ) {q : ℕ} {r : Links} → joined_from v names (lent_links cells root []) p ≡ w → p ≢ null → v ≢ 0
+  pub join_on : (m c root : ℕ) (cells : List ℕ) {q : ℕ} {r : Links} → joined_from (m - c) names (lent_links cells root []) p ≡ w → p ≢ null
+      → c < m
       → q ≡ cell cells p next
       → r ≡ joined names (lent_links cells root []) p
-      → joined_from (v - 1) names r q ≡ w
+      → joined_from (m - (c + 1)) names r q ≡ w
   unfolding joined_from
-  join_on zero root cells h d n e f = absurd (n refl)
-  join_on (suc v) root cells h d n e f = rw (sub-one, f, e) (rw (ne_eqb p null d) at h)
+  join_on m c root cells h d n e f = rw (f, e) (rw (ne_eqb p null d) at (rw (one_left m c n) at h))

@@ -1,35 +1,30 @@
--- All bins moved, on plain values: each turn of a loop is the model's, a move leaves a set that fits and is accepted, and where every move
--- is refused the first bin that there is stops it.
+-- All bins moved, on plain values: each turn of a loop is the model's, a move leaves a set that fits and is accepted, once it is stopped
+-- nothing more is moved, and where every move is refused alike the first bin that there is stops it.
 use mathlib.Core.Path.{◌≡◌, refl, ap, sym, subst, ◌∙◌}
 use mathlib.Core.Logic.{◌≢◌}
 use mathlib.Core.Bool.{Bool, true, false}
-use mathlib.Core.List.{[], ◌∷◌}
 use Prim.Native.Nat.{ℕ, zero, suc, ◌+◌, ◌-◌, ◌<◌, ◌≤◌}
 use native.Mathlib.Decide.{ℕ_discrete}
 use native.Mathlib.Numerals.{add-one}
 use native.Mathlib.Omega.{arith}
-use lib.Dec.{eqb, ltb}
-use borrow.Author.Tests.{eq-eqb, ne_eqb}
-use types.Run.{OneOf}
-use denote.Enum.Declared.{tag_of}
+use lib.Dec.{ltb}
+use borrow.Author.Tests.{ne_eqb}
+use Rattle.std.specs.Prelude.{Result, Ok, Err}
 use Rattle.slots.specs.Words.{pick}
-use Rattle.slots.specs.Answers.{Answer, value_beside, given, refused}
+use Rattle.slots.specs.Answers.{value_beside, given, refused}
 use Rattle.set_rules.specs.Words.{Set, tables_of, length_at, fits}
-use Rattle.set_rules.specs.Accepting.{accepted, accepts}
+use Rattle.set_rules.specs.Accepting.{accepted}
 use Rattle.set_rules.proofs.Fit.{fits_fit, fit_fits, length_bound}
 use Rattle.set_rules.proofs.Accepting.{accepted_yes}
-use Rattle.sets.specs.Verdicts.{accept_of}
-use Rattle.sets.specs.declared.accept.Acceptance.{Acceptance}
-use Rattle.sets.specs.contracts.accept.Acceptance.{the_type}
 use Rattle.move_rules.specs.Moving.{half_count, high_index, low_header, high_header, lacks, movable, both_laid, MoveOutcome, move_outcome}
 use Rattle.move_rules.specs.Moving.{moves_bin, moves}
-use Rattle.move_rules.specs.Finishing.{Finish, finish_begun, moved_on, stopped_at, move_told, bin_finished, bins_finished, tables_finished}
-use Rattle.move_rules.specs.Finishing.{finishing}
+use Rattle.move_rules.specs.Finishing.{Finish, finish_begun, move_told, bin_finished, bins_finished, tables_finished, finishing}
 use Rattle.move_rules.proofs.Deciding.{View, view}
 use Rattle.move_rules.proofs.Claims as move-rules
-use Rattle.mover.specs.Moved.{FitAccepted}
-use Rattle.mover.specs.Finished.{finish_of, AllRefused}
-use Rattle.mover.specs.declared.finishing.FinishTold.{FinishTold}
+use Rattle.mover.specs.Moved.{move_of, move_refusal_of, FitAccepted}
+use Rattle.mover.specs.Finished.{finish_of, came_to, AllRefused}
+use Rattle.mover.specs.declared.moving.MoveRefusal.{MoveRefusal}
+use Rattle.mover.specs.declared.moving.MoveRefusal.TheVariants.{Unfit, Unknown, Damaged, CannotMove, Full}
 use Rattle.mover.proofs.Moves.{half_most, unfit_moves, damaged_moves}
 
 -- What a move leaves fits and is accepted.
@@ -74,65 +69,99 @@ told_most s k i e =
     (omega arith))
     (omega arith)
 
+-- No refusal has the number 0, and one alone has 16.
+pub not_none : (q : MoveRefusal) → (move_refusal_of q).number ≢ 0
+not_none Unfit e = omega (arith, e)
+not_none Unknown e = omega (arith, e)
+not_none Damaged e = omega (arith, e)
+not_none CannotMove e = omega (arith, e)
+not_none Full e = omega (arith, e)
+
+not_sixteen : (q : MoveRefusal) → q ≢ CannotMove → (move_refusal_of q).number ≢ 16
+not_sixteen Unfit d e = omega (arith, e)
+not_sixteen Unknown d e = omega (arith, e)
+not_sixteen Damaged d e = omega (arith, e)
+not_sixteen CannotMove d e = d refl
+not_sixteen Full d e = omega (arith, e)
+
 -- A move of bin i of table k.
-module _ (s u : Set) (k i : ℕ) {a : Answer} (e : move_outcome a u ≡ moves s k i) where
-  pub move_stays : FitAccepted s → FitAccepted u
-  move_stays h = subst (λ (o : MoveOutcome). FitAccepted o.set) (sym e) (still (view s k i) h)
+module _ (s u : Set) (k i : ℕ) where
+  -- What a refused move leaves is what there was.
+  kept : (q : MoveRefusal) → move_outcome (move_refusal_of q) u ≡ moves s k i → u ≡ s
+  kept q e =
+      ap (λ (o : MoveOutcome). o.set) e
+      ∙ ((move-rules.claims).refusals s k i).unchanged (λ y. not_none q (ap (λ (o : MoveOutcome). o.answer.number) e ∙ y))
 
-  pub move_most : FitAccepted s → value_beside 0 a.number a.value ≤ 8192
-  move_most h = subst (λ (o : MoveOutcome). told o ≤ 8192) (sym e) (told_most s k i h.fit)
+  module _ (r : Result ℕ MoveRefusal) (e : move_outcome (move_of r) u ≡ moves s k i) where
+    pub move_stays : FitAccepted s → FitAccepted u
+    move_stays h = subst (λ (o : MoveOutcome). FitAccepted o.set) (sym e) (still (view s k i) h)
 
-  pub bin-told : (f : FinishTold) {g : Finish} → f.number ≡ 0 → g ≡ move_told (finish_of f u) k i (move_outcome a u)
-      → g ≡ bin_finished (finish_of f s) k i
-  unfolding bin_finished move_told
-  bin-told f z w = w ∙ go (ℕ_discrete a.number 0)
-    where
-      go : Dec (a.number ≡ 0) → move_told (finish_of f u) k i (move_outcome a u) ≡ bin_finished (finish_of f s) k i
-      go (yes y) = rw (eq-eqb f.number 0 z, ← e, eq-eqb a.number 0 y)
-      go (no d) =
-          let same : u ≡ s = ap (λ (o : MoveOutcome). o.set) e
-          ∙ ((move-rules.claims).refusals s k i).unchanged (λ y. d (ap (λ (o : MoveOutcome). o.answer.number) e ∙ y)) in
-          rw (eq-eqb f.number 0 z, ← e, ne_eqb a.number 0 d, same)
+    -- After so many entries: what is moved is added, a bin that cannot move is passed over, and another refusal stops it.
+    pub went_on : (n gone : ℕ) → r ≡ Ok n → finish_of (Ok (gone + n)) u ≡ bin_finished (finish_of (Ok gone) s) k i
+    unfolding bin_finished move_told
+    went_on n gone z = rw (← e, z)
 
--- A refusal that stops it.
-pub stop_told : (f r : FinishTold) (k i n : ℕ) → n ≢ 0 → n ≢ 16
-    → (r.number ≡ n) × (r.table ≡ k) × (r.bin ≡ i) × (r.gone ≡ f.gone)
-    → (s : Set) → finish_of r s ≡ move_told (finish_of f s) k i (move_outcome (refused n) s)
-unfolding move_told
-stop_told f r k i n a b e s =
-    rw (ne_eqb n 0 a, ne_eqb n 16 b) (λ x. record { number = e.0 x; table = e.1 x; bin = e.2 x; gone = e.3 x; set = s })
+    pub passed_over : (gone : ℕ) → r ≡ Err CannotMove → finish_of (Ok (gone + 0)) u ≡ bin_finished (finish_of (Ok gone) s) k i
+    unfolding bin_finished move_told
+    passed_over gone z =
+        let o : move_outcome (refused 16) u ≡ moves s k i = ap (λ x. move_outcome (move_of x) u) (sym z) ∙ e in
+        let same : u ≡ s = kept CannotMove o in
+        let none : gone + 0 ≡ gone = omega arith in
+        rw (← o, none, same)
 
--- Once it is stopped nothing more is moved.
-pub bin_stays : (s : Set) (f : FinishTold) (k i : ℕ) → f.number ≢ 0 → finish_of f s ≡ bin_finished (finish_of f s) k i
-unfolding bin_finished
-bin_stays s f k i d = rw (ne_eqb f.number 0 d)
+    pub stopped : (q : MoveRefusal) (gone : ℕ) → r ≡ Err q → q ≢ CannotMove
+        → finish_of (came_to gone k i (Err q)) u ≡ bin_finished (finish_of (Ok gone) s) k i
+    unfolding bin_finished move_told
+    stopped q gone z d =
+        let o : move_outcome (move_refusal_of q) u ≡ moves s k i = ap (λ x. move_outcome (move_of x) u) (sym z) ∙ e in
+        let same : u ≡ s = kept q o in
+        rw (← o, ne_eqb (move_refusal_of q).number 0 (not_none q), ne_eqb (move_refusal_of q).number 16 (not_sixteen q d), same)
 
--- A move adds no more than it tells.
-pub gone_most : (u : Set) (f r : FinishTold) (k i : ℕ) (a : Answer) → finish_of r u ≡ move_told (finish_of f u) k i (move_outcome a u)
-    → value_beside 0 a.number a.value ≤ 8192
-    → r.gone ≤ f.gone + 8192
-unfolding move_told
-gone_most u f r k i a e l = omega (arith, ap (λ (x : Finish). x.gone) e, most (eqb a.number 0) (eqb a.number 16))
-  where
-    most : (b c : Bool)
-        → (pick b (moved_on (finish_of f u) (move_outcome a u))
-        (pick c (finish_of f u) (stopped_at (finish_of f u) k i (move_outcome a u)))).gone
-        ≤ f.gone + 8192
-    most true c = omega arith
-    most false true = omega arith
-    most false false = omega arith
+    pub most_moved : (n : ℕ) → FitAccepted s → r ≡ Ok n → n ≤ 8192
+    most_moved n h z =
+        let o : move_outcome (given n) u ≡ moves s k i = ap (λ x. move_outcome (move_of x) u) (sym z) ∙ e in
+        subst (λ (o : MoveOutcome). told o ≤ 8192) (sym o) (told_most s k i h.fit)
 
--- The loops.
+-- The loops: a turn, and once it is stopped nothing more is moved.
 pub bins_turn : {g h : Finish} (f : Finish) (k i : ℕ) → g ≡ bins_finished i f k → h ≡ bin_finished g k i → h ≡ bins_finished (i + 1) f k
 unfolding bins_finished
 bins_turn f k i e w = w ∙ rw (add-one i, ← e)
+
+bins_stay : (m j : ℕ) (f : Finish) → f.number ≢ 0 → bins_finished m f j ≡ f
+unfolding bins_finished bin_finished
+bins_stay zero j f d = refl
+bins_stay (suc m) j f d = rw (bins_stay m j f d, ne_eqb f.number 0 d)
+
+pub bins_over : {g : Finish} (f : Finish) (k i m : ℕ) → g ≡ bins_finished i f k → g.number ≢ 0 → i ≤ m → g ≡ bins_finished m f k
+unfolding bins_finished bin_finished
+bins_over {g} f k i zero e d h = let z : i ≡ 0 = omega arith in e ∙ rw z
+bins_over {g} f k i (suc m) e d h = go (ℕ_discrete i (suc m)) (λ n. bins_over f k i m e d (omega arith))
+  where
+    go : Dec (i ≡ suc m) → (i ≢ suc m → g ≡ bins_finished m f k) → g ≡ bins_finished (suc m) f k
+    go (yes z) before = e ∙ rw z
+    go (no n) before = rw (← before n, ne_eqb g.number 0 d)
 
 pub tables_turn : {g h : Finish} (s : Set) (k : ℕ) → g ≡ tables_finished k (finish_begun s) → h ≡ bins_finished (length_at s k) g k
     → h ≡ tables_finished (k + 1) (finish_begun s)
 unfolding tables_finished
 tables_turn s k e w = w ∙ rw (add-one k, ← e)
 
-pub tables-over : {g : Finish} (s : Set) (k : ℕ) → g ≡ tables_finished k (finish_begun s) → k + 1 ≤ tables_of s → tables_of s ≤ k + 1
+tables_stay : {g : Finish} (s : Set) (k m : ℕ) → g ≡ tables_finished k (finish_begun s) → g.number ≢ 0 → k ≤ m
+    → g ≡ tables_finished m (finish_begun s)
+unfolding tables_finished
+tables_stay {g} s k zero e d h = let z : k ≡ 0 = omega arith in e ∙ rw z
+tables_stay {g} s k (suc m) e d h = go (ℕ_discrete k (suc m)) (λ n. tables_stay s k m e d (omega arith))
+  where
+    go : Dec (k ≡ suc m) → (k ≢ suc m → g ≡ tables_finished m (finish_begun s)) → g ≡ tables_finished (suc m) (finish_begun s)
+    go (yes z) before = e ∙ rw z
+    go (no n) before = rw (← before n) (sym (bins_stay (length_at s m) m g d))
+
+pub tables_stopped : {g : Finish} (s : Set) (k : ℕ) → g ≡ tables_finished k (finish_begun s) → g.number ≢ 0 → k ≤ tables_of s - 1
+    → g ≡ finishing s
+unfolding finishing
+tables_stopped s k e d h = tables_stay s k (tables_of s - 1) e d h
+
+pub tables-over : {g : Finish} (s : Set) (k : ℕ) → g ≡ tables_finished k (finish_begun s) → k ≤ tables_of s - 1 → tables_of s - 1 ≤ k
     → g ≡ finishing s
 unfolding finishing
 tables-over s k e a b = let z : tables_of s - 1 ≡ k = omega arith in e ∙ rw z
@@ -146,57 +175,34 @@ pub record Limits (s : Set) (k : ℕ) : Type 0 where
 pub limits : (s : Set) (k : ℕ) → FitAccepted s → Limits s k
 limits s k h = let f = fits_fit s h.fit in record { least = f.least; most = f.most; width = length_bound f k }
 
--- Every move is refused with one number.
-module _ (s : Set) {n : ℕ} (h : AllRefused s n) where
+-- Every move is refused alike.
+module _ (s : Set) (r : MoveRefusal) (h : AllRefused s r) where
   abbrev halted : ℕ → Finish
-  halted k = record { number = n; table = k; bin = 0; gone = 0; set = s }
+  halted k = finish_of (Err record { refusal = r; table = k; bin = 0; gone = 0 }) s
 
-  first_stops : (k m : ℕ) → k < tables_of s → bins_finished (suc m) (finish_begun s) k ≡ halted k
+  first_stops : (k : ℕ) → k < tables_of s → halted k ≡ bins_finished 1 (finish_begun s) k
   unfolding bins_finished bin_finished move_told
-  first_stops k zero b = rw (← h.each k 0 b, ne_eqb n 0 h.refusal, ne_eqb n 16 h.stops)
-  first_stops k (suc m) b = rw (first_stops k m b, ne_eqb n 0 h.refusal)
+  first_stops k b =
+      rw (← h.each k 0 b, ne_eqb (move_refusal_of r).number 0 (not_none r), ne_eqb (move_refusal_of r).number 16 (not_sixteen r h.stops))
 
-  bins_stay : (m k j : ℕ) → bins_finished m (halted k) j ≡ halted k
-  unfolding bins_finished bin_finished
-  bins_stay zero k j = refl
-  bins_stay (suc m) k j = rw (bins_stay m k j, ne_eqb n 0 h.refusal)
-
-  -- A table without bins is passed over.
-  pub table_passed : (k : ℕ) → tables_finished k (finish_begun s) ≡ finish_begun s → length_at s k ≡ 0
-      → tables_finished (k + 1) (finish_begun s) ≡ finish_begun s
+  -- Tables without bins are passed over.
+  none_before : (k : ℕ) → ((j : ℕ) → j < k → length_at s j ≡ 0) → finish_begun s ≡ tables_finished k (finish_begun s)
   unfolding tables_finished bins_finished
-  table_passed k e z = rw (add-one k, tables_finished, e, z)
+  none_before zero e = refl
+  none_before (suc k) e = rw (← none_before k (λ j b. e j (omega arith)), e k (omega arith))
 
-  tables_stay : (k j : ℕ) → suc k ≤ j → tables_finished (suc k) (finish_begun s) ≡ halted k → tables_finished j (finish_begun s) ≡ halted k
-  unfolding tables_finished
-  tables_stay k zero w e = absurd (omega arith)
-  tables_stay k (suc j) w e = go (ℕ_discrete j k) (λ d. tables_stay k j (omega arith) e)
-    where
-      go : Dec (j ≡ k) → (j ≢ k → tables_finished j (finish_begun s) ≡ halted k) → tables_finished (suc j) (finish_begun s) ≡ halted k
-      go (yes z) h = rw z e
-      go (no d) h = rw (h d) (bins_stay (length_at s j) k j)
+  pub stopped_first : (k : ℕ) → ((j : ℕ) → j < k → length_at s j ≡ 0) → k + 1 < tables_of s → length_at s k ≢ 0 → halted k ≡ finishing s
+  stopped_first k e b d =
+      let at_bin = bins_over (finish_begun s) k 1 (length_at s k) (first_stops k (omega arith)) (not_none r) (omega arith) in
+      tables_stopped s (k + 1) (tables_turn s k (none_before k e) at_bin) (not_none r) (omega arith)
 
-  pub stopped_first : (k : ℕ) → tables_finished k (finish_begun s) ≡ finish_begun s → k + 1 < tables_of s → length_at s k ≢ 0
-      → halted k ≡ finishing s
-  unfolding finishing tables_finished
-  stopped_first k e b d = go (length_at s k) refl d
-    where
-      go : (l : ℕ) → length_at s k ≡ l → l ≢ 0 → halted k ≡ finishing s
-      go zero z y = absurd (y refl)
-      go (suc m) z y =
-          let one : tables_finished (suc k) (finish_begun s) ≡ halted k = rw (e, z) (first_stops k m (omega arith)) in
-          sym (tables_stay k (tables_of s - 1) (omega arith) one)
-
-  pub none_stopped : (k : ℕ) → tables_finished k (finish_begun s) ≡ finish_begun s → tables_of s ≤ k + 1 → k ≤ tables_of s - 1
-      → finish_begun s ≡ finishing s
+  pub none_stopped : ((j : ℕ) → j < tables_of s - 1 → length_at s j ≡ 0) → finish_begun s ≡ finishing s
   unfolding finishing
-  none_stopped k e a b = let z : tables_of s - 1 ≡ k = omega arith in rw z (sym e)
+  none_stopped e = none_before (tables_of s - 1) e
 
 -- A set that does not fit, and one that is not accepted.
-pub all_unfit : (s : Set) → fits s ≡ false → AllRefused s 1
-all_unfit s e = record { refusal = omega arith; stops = omega arith; each = λ k i b. unfit_moves s k i e }
+pub all_unfit : (s : Set) → fits s ≡ false → AllRefused s Unfit
+all_unfit s e = record { stops = λ z. (cc); each = λ k i b. unfit_moves s k i e }
 
-pub all_damaged : (s : Set) (v : Acceptance) → fits s ≡ true → accept_of v ≡ accepts s → OneOf (1 ∷ 2 ∷ []) (tag_of the_type v)
-    → AllRefused s 2
-all_damaged s v f e n =
-    record { refusal = omega arith; stops = omega arith; each = λ k i b. damaged_moves s k i f b v e n }
+pub all_damaged : (s : Set) → fits s ≡ true → accepted s ≡ false → AllRefused s Damaged
+all_damaged s f e = record { stops = λ z. (cc); each = λ k i b. damaged_moves s k i f b e }

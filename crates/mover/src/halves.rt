@@ -1,6 +1,5 @@
 // What is read before anything is written: of a bin its first slot and its header, and of each half how many and which first.
 ghost use Rattle.std.specs.Prelude.{◌≡◌, ◌+◌, ◌/◌, ◌<◌, length, get_or};
-ghost use Rattle.slots.specs.Words.{pick};
 ghost use Rattle.set_rules.specs.Words.{lent_set, bins_before, bin_of};
 ghost use Rattle.sets.specs.Bins.{bin_as};
 ghost use Rattle.move_rules.specs.Passes.{home_count, first_home};
@@ -42,15 +41,12 @@ fn home_count(names: &[u64], cells: &[u32], length: u32, i: u32, first: u32, mos
     ensures { result ≡ home_count most names.now cells.now length i first }
 {
     let mut p = first;
-    let mut left = most;
     let mut count: u32 = 0;
-    while p != NULL {
-        if left == 0 {
-            return count;
+    for _ in 0..most {
+        if p == NULL {
+            break;
         }
-        left -= 1;
-        let home = is_home(names, length, i, p);
-        count += one_if(home);
+        count += is_home(names, length, i, p) as u32;
         let next = get(cells, p, NEXT);
         p = next;
     }
@@ -62,12 +58,10 @@ fn first_home(names: &[u64], cells: &[u32], length: u32, i: u32, first: u32, mos
     ensures { result ≡ first_home most names.now cells.now length i first }
 {
     let mut p = first;
-    let mut left = most;
-    while p != NULL {
-        if left == 0 {
-            return NULL;
+    for _ in 0..most {
+        if p == NULL {
+            break;
         }
-        left -= 1;
         let home = is_home(names, length, i, p);
         if home {
             return p;
@@ -76,13 +70,6 @@ fn first_home(names: &[u64], cells: &[u32], length: u32, i: u32, first: u32, mos
         p = next;
     }
     NULL
-}
-
-// 1 where it is so, 0 where not.
-fn one_if(yes: bool) -> u32
-    ensures { result ≡ pick yes 1 0 }
-{
-    if yes { 1 } else { 0 }
 }
 
 // The first slot of bin i of table k, in a set of n slots.

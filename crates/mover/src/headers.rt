@@ -1,51 +1,45 @@
 // Which headers the halves get, and how a header is written.
-ghost use Rattle.std.specs.Prelude.{◌≡◌, ◌-◌, leb};
+ghost use Rattle.std.specs.Prelude.{◌≡◌, ◌-◌, ◌<◌, IfSome, leb};
 ghost use Rattle.slots.specs.Words.{null, pick};
 ghost use Rattle.move_rules.specs.Moving.{most_listed, spare_from, headed_at};
-ghost use Rattle.move_rules.specs.Moving.{lacks as isLacking};
+ghost use Rattle.mover.specs.Moved.{headed, found_or_null};
 
+use crate::moving::MoveRefusal;
 use slots::{COUNT, FIRST, NULL, put_word, word};
 
 // The most entries of a half that becomes a list.
-pub(crate) const MOST_LISTED: u32 = 6;
+const MOST_LISTED: u32 = 6;
 
-// The lowest of so many headers from the first on that has no root or is the bin's own; null where there is none.
-fn spare(heads: &[u32], own: u32, first: u32, headers: u32) -> u32
-    ensures { result ≡ spare_from (headers - first) heads.now own first }
+// The lowest of so many headers from the first on that has no root or is the bin's own.
+fn spare(heads: &[u32], own: u32, first: u32, headers: u32) -> Option<u32>
+    ensures { (found_or_null result ≡ spare_from (headers - first) heads.now own first) × IfSome result (λ h. h < headers) }
 {
-    let mut h = first;
-    while h < headers {
-        if h == own {
-            return h;
+    for h in first..headers {
+        if h == own || word(heads, 3 * (h as usize), NULL) == NULL {
+            return Some(h);
         }
-        let root = word(heads, 3 * (h as usize), NULL);
-        if root == NULL {
-            return h;
-        }
-        h += 1;
     }
-    NULL
+    None
 }
 
-// The header for a half of so many entries: null for one that becomes a list.
-pub(crate) fn header_for(heads: &[u32], own: u32, first: u32, headers: u32, count: u32) -> u32
+// The header for a half of so many entries; none for one that becomes a list.
+pub(crate) fn header_for(
+    heads: &[u32],
+    own: u32,
+    first: u32,
+    headers: u32,
+    count: u32,
+) -> Result<Option<u32>, MoveRefusal>
     ensures { result
-        ≡ pick (leb count most_listed) null (spare_from (headers - first) heads.now own first) }
+        ≡ headed count (pick (leb count most_listed) null (spare_from (headers - first) heads.now own first)) }
 {
     if count <= MOST_LISTED {
-        return NULL;
+        return Ok(None);
     }
-    spare(heads, own, first, headers)
-}
-
-// Whether a half of so many entries wants a header and has none.
-pub(crate) fn lacks(count: u32, h: u32) -> bool
-    ensures { result ≡ isLacking count h }
-{
-    if count <= MOST_LISTED {
-        return false;
+    match spare(heads, own, first, headers) {
+        Some(h) => Ok(Some(h)),
+        None => Err(MoveRefusal::Full),
     }
-    h == NULL
 }
 
 // Writes the three words of a header; nothing where there is none.

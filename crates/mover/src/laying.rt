@@ -1,10 +1,11 @@
 // The bin is taken out of its table, and each half is laid in the next.
-ghost use Rattle.std.specs.Prelude.{◌≡◌, ◌+◌, ◌/◌, ◌<◌, length, set};
+ghost use Rattle.std.specs.Prelude.{◌≡◌, ℕ, ◌+◌, ◌/◌, ◌<◌, length, set};
 ghost use Rattle.set_rules.specs.Words.{lent_set, bins_before};
 ghost use Rattle.move_rules.specs.Moving.{list_head, tree_head, bin_taken, half_laid};
+ghost use Rattle.mover.specs.Moved.{header_of_half};
 
 use crate::halves::{first_of, header_of};
-use crate::headers::{MOST_LISTED, put_header};
+use crate::headers::put_header;
 use crate::passes::{grow, plain, thread};
 use sets::fit::{bins_before, length_at};
 use slots::NULL;
@@ -72,7 +73,7 @@ pub(crate) fn take_bin(
     thread(names, cells, below, i, first, n);
 }
 
-// The slots from the link first, so many, become bin i of table k: a list, or the tree of header h.
+// The slots from the link first, so many, become bin i of table k: a list, or the tree of their header.
 pub(crate) fn lay(
     lengths: &[u32],
     bins: &mut [u32],
@@ -81,21 +82,22 @@ pub(crate) fn lay(
     cells: &mut [u32],
     k: u32,
     i: u32,
-    h: u32,
+    header: Option<u32>,
     first: u32,
     count: u32,
     n: u32,
 )
     requires { n ≡ length names.now / 2 }
-    ensures { lent_set lengths.now bins.new heads.new names.now cells.new
+    ensures { (h : ℕ) → header ≡ header_of_half count h
+        → lent_set lengths.now bins.new heads.new names.now cells.new
         ≡ half_laid (lent_set lengths.now bins.old heads.old names.now cells.old) k i h
         first count }
 {
-    if count <= MOST_LISTED {
+    let Some(h) = header else {
         put_bin(lengths, bins, k, i, list_head(first));
         plain(cells, first, n);
         return;
-    }
+    };
     let root = grow(names, cells, first, n);
     put_header(heads, h, root, first, count);
     put_bin(lengths, bins, k, i, tree_head(h));

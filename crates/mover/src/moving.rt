@@ -1,24 +1,23 @@
 // A move of one bin to the next table.
-ghost use Rattle.std.specs.Prelude.{◌≡◌, true, false, suc, ◌+◌, ◌/◌, ◌<◌, length, get_or, eqb, leb};
-ghost use Rattle.slots.specs.Words.{null, pick};
-ghost use Rattle.slots.specs.Coded.{answer_of};
+ghost use Rattle.std.specs.Prelude.{◌≡◌, ◌≢◌, true, ℕ, ◌+◌, ◌/◌, ◌<◌, IfSome, length, get_or, eqb};
+ghost use Rattle.slots.specs.Words.{null};
 ghost use Rattle.set_rules.specs.Words.{lent_set, fits, bins_before};
-ghost use Rattle.move_rules.specs.Moving.{most_listed, parent_moved, move_outcome, moves_bin, moves};
-ghost use Rattle.move_rules.specs.Moving.{movable as mayMove, lacks as isLacking};
-ghost use Rattle.mover.specs.Moved.{move_of, halves_laid, FitAccepted};
+ghost use Rattle.move_rules.specs.Moving.{parent_moved, move_outcome, moves_bin, moves};
+ghost use Rattle.move_rules.specs.Moving.{movable as mayMove};
+ghost use Rattle.mover.specs.Moved.{move_of, move_refusal_of, header_of_half, header_after, halves_laid, FitAccepted};
+ghost use Rattle.mover.specs.declared.moving.MoveRefusal.TheVariants.{Unfit as OnlyUnfit};
 
 use crate::halves::{half_count, half_first, header_of};
-use crate::headers::{MOST_LISTED, header_for, lacks};
+use crate::headers::header_for;
 use crate::laying::{lay, take_bin};
-use sets::accept::{Acceptance, accept};
+use sets::accept::accept;
 use sets::bin::bin_word;
-use sets::fit::{fit_set, length_at};
-use slots::answer::{Answer, given, refused};
+use sets::fit::length_at;
+use slots::answer::{Answer, Answers, Unfit, refused};
 
-// What a move answers.
-#[derive(Clone, Copy)]
-pub enum MoveReply {
-    Moved(u32), // the entries moved
+// What refuses a move.
+#[derive(Clone, Copy, PartialEq, Eq)]
+pub enum MoveRefusal {
     Unfit, // 1
     Unknown, // 10
     Damaged, // 2
@@ -26,19 +25,25 @@ pub enum MoveReply {
     Full, // 5
 }
 
-impl MoveReply {
-    // The number and the value.
-    pub fn answer(self) -> Answer
-        ensures { answer_of result ≡ (move_of self) }
-    {
+impl Answers for MoveRefusal {
+    ghost told = { move_refusal_of };
+
+    fn answer(self) -> Answer {
         match self {
-            MoveReply::Moved(entries) => given(entries),
-            MoveReply::Unfit => refused(1),
-            MoveReply::Unknown => refused(10),
-            MoveReply::Damaged => refused(2),
-            MoveReply::CannotMove => refused(16),
-            MoveReply::Full => refused(5),
+            MoveRefusal::Unfit => refused(1),
+            MoveRefusal::Unknown => refused(10),
+            MoveRefusal::Damaged => refused(2),
+            MoveRefusal::CannotMove => refused(16),
+            MoveRefusal::Full => refused(5),
         }
+    }
+}
+
+impl From<Unfit> for MoveRefusal {
+    ghost from_gives = { λ _ r. r ≡ OnlyUnfit };
+
+    fn from(_unfit: Unfit) -> MoveRefusal {
+        MoveRefusal::Unfit
     }
 }
 
@@ -93,22 +98,21 @@ fn movable(
     if length <= i {
         return false;
     }
-    let gone = says_moved(lengths, bins, k, i);
-    if gone {
+    if says_moved(lengths, bins, k, i) {
         return false;
     }
     parent_moved(lengths, bins, heads, names, cells, k, i)
 }
 
 // The header that the high half may have first: the one after the low half's, if that is a tree's.
-fn after_low(low: u32, g: u32) -> u32
-    requires { isLacking low g ≡ false }
-    ensures { result ≡ pick (leb low most_listed) 0 (suc g) }
+fn after_low(low: Option<u32>) -> u32
+    requires { IfSome low (λ h. h ≢ null) }
+    ensures { result ≡ header_after low }
 {
-    if low <= MOST_LISTED {
-        return 0;
+    match low {
+        Some(h) => h + 1,
+        None => 0,
     }
-    g + 1
 }
 
 // The bin is taken out of its table, and its halves, so many each, are laid below: the low half under header g, the high half, which goes
@@ -122,17 +126,18 @@ fn lay_halves(
     k: u32,
     i: u32,
     j: u32,
-    g: u32,
-    h: u32,
+    g: Option<u32>,
+    h: Option<u32>,
     low: u32,
     high: u32,
     n: u32,
 )
     requires { (n ≡ length names.now / 2) × (k < 8) }
-    ensures { lent_set lengths.now bins.new heads.new names.now cells.new
+    ensures { (under over : ℕ) → g ≡ header_of_half low under → h ≡ header_of_half high over
+        → lent_set lengths.now bins.new heads.new names.now cells.new
         ≡ halves_laid
         (lent_set lengths.now bins.old heads.old names.now cells.old) k i j
-        g h low high }
+        under over low high }
 {
     let below = k + 1;
     let a = half_first(lengths, bins, heads, names, cells, k, i, i, n);
@@ -151,7 +156,7 @@ fn move_entries(
     cells: &mut [u32],
     k: u32,
     i: u32,
-) -> MoveReply
+) -> Result<u32, MoveRefusal>
     requires { (fits (lent_set lengths.now bins.old heads.old names.now cells.old) ≡ true)
         × (mayMove (lent_set lengths.now bins.old heads.old names.now cells.old) k i ≡ true) }
     ensures { move_outcome (move_of result)
@@ -166,21 +171,12 @@ fn move_entries(
     let low = half_count(lengths, bins, heads, names, cells, k, i, i, n);
     let high = half_count(lengths, bins, heads, names, cells, k, i, j, n);
     let own = header_of(lengths, bins, heads, n, k, i);
-    let g = header_for(heads, own, 0, headers, low);
-    let none = lacks(low, g);
-    if none {
-        return MoveReply::Full;
-    }
-    let from = after_low(low, g);
-    let h = header_for(heads, own, from, headers, high);
-    let short = lacks(high, h);
-    if short {
-        return MoveReply::Full;
-    }
+    let g = header_for(heads, own, 0, headers, low)?;
+    let h = header_for(heads, own, after_low(g), headers, high)?;
     lay_halves(
         lengths, bins, heads, names, cells, k, i, j, g, h, low, high, n,
     );
-    MoveReply::Moved(low + high)
+    Ok(low + high)
 }
 
 // A move of a bin of a set that fits and is accepted.
@@ -192,16 +188,15 @@ pub(crate) fn move_accepted(
     cells: &mut [u32],
     table: u32,
     bin: u32,
-) -> MoveReply
+) -> Result<u32, MoveRefusal>
     requires { FitAccepted (lent_set lengths.now bins.old heads.old names.now cells.old) × (table < length lengths.now) }
     ensures { move_outcome (move_of result)
         (lent_set lengths.now bins.new heads.new names.now cells.new)
         ≡ moves
         (lent_set lengths.now bins.old heads.old names.now cells.old) table bin }
 {
-    let may = movable(lengths, bins, heads, names, cells, table, bin);
-    if !may {
-        return MoveReply::CannotMove;
+    if !movable(lengths, bins, heads, names, cells, table, bin) {
+        return Err(MoveRefusal::CannotMove);
     }
     move_entries(lengths, bins, heads, names, cells, table, bin)
 }
@@ -215,22 +210,18 @@ pub fn move_bin(
     cells: &mut [u32],
     table: u32,
     bin: u32,
-) -> MoveReply
+) -> Result<u32, MoveRefusal>
     ensures { move_outcome (move_of result)
         (lent_set lengths.now bins.new heads.new names.now cells.new)
         ≡ moves
         (lent_set lengths.now bins.old heads.old names.now cells.old) table bin }
 {
-    let fit = fit_set(lengths, bins, heads, names, cells);
-    if !fit {
-        return MoveReply::Unfit;
-    }
+    let accepted = accept(lengths, bins, heads, names, cells)?;
     if lengths.len() <= table as usize {
-        return MoveReply::Unknown;
+        return Err(MoveRefusal::Unknown);
     }
-    let judged = accept(lengths, bins, heads, names, cells);
-    let Acceptance::Yes = judged else {
-        return MoveReply::Damaged;
-    };
+    if !accepted {
+        return Err(MoveRefusal::Damaged);
+    }
     move_accepted(lengths, bins, heads, names, cells, table, bin)
 }

@@ -31,13 +31,10 @@ pub(crate) fn thread(names: &[u64], cells: &mut [u32], length: u32, i: u32, firs
     let mut a = NULL;
     let mut b = NULL;
     let mut p = first;
-    let mut left = most;
-    while p != NULL {
-        if left == 0 {
-            end_halves(cells, a, b);
-            return;
+    for _ in 0..most {
+        if p == NULL {
+            break;
         }
-        left -= 1;
         let next = get(cells, p, NEXT);
         let home = is_home(names, length, i, p);
         let last = either(home, a, b);
@@ -65,12 +62,10 @@ pub(crate) fn plain(cells: &mut [u32], first: u32, most: u32)
     ensures { cells.new ≡ plained most cells.old first }
 {
     let mut p = first;
-    let mut left = most;
-    while p != NULL {
-        if left == 0 {
-            return;
+    for _ in 0..most {
+        if p == NULL {
+            break;
         }
-        left -= 1;
         let next = get(cells, p, NEXT);
         plain_slot(cells, p);
         p = next;
@@ -83,12 +78,10 @@ fn back(cells: &mut [u32], first: u32, most: u32)
 {
     let mut q = NULL;
     let mut p = first;
-    let mut left = most;
-    while p != NULL {
-        if left == 0 {
-            return;
+    for _ in 0..most {
+        if p == NULL {
+            break;
         }
-        left -= 1;
         let next = get(cells, p, NEXT);
         put(cells, p, PREV, q);
         q = p;
@@ -116,12 +109,10 @@ fn join_all(names: &[u64], cells: &mut [u32], first: u32, n: u32) -> u32
 {
     let mut root = NULL;
     let mut p = first;
-    let mut left = n;
-    while p != NULL {
-        if left == 0 {
-            return root;
+    for _ in 0..n {
+        if p == NULL {
+            break;
         }
-        left -= 1;
         let next = get(cells, p, NEXT);
         root = join(names, cells, root, p, n);
         p = next;

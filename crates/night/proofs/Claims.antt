@@ -6,6 +6,9 @@ use mathlib.Core.List.{List}
 use Prim.Native.Nat.{ℕ}
 use native.Mathlib.Omega.{arith}
 use lib.ListN.{length}
+use Rattle.std.specs.Prelude.{Result, Ok, Err}
+use Rattle.slots.specs.Coded.{told_by, unfit_told}
+use Rattle.night.specs.Told.{account_told}
 use borrow.Author.Tests.{eq-eqb}
 use Rattle.slots.specs.Answers.{Answer, some, none}
 use Rattle.slots.proofs.Claims.{answer_one_to_one}
@@ -21,20 +24,22 @@ use Rattle.night.specs.Whys.{why_of}
 use Rattle.night.specs.Salvages.{salvage_of}
 use Rattle.night.proofs.Finding.{account_back, breach_one_to_one, finding_one_to_one}
 use Rattle.night.specs.Claims.{SalvageReturned, left_with, Claims}
-use Rattle.night.specs.declared.why.Explanation.{Explanation}
-use Rattle.night.specs.declared.why.Explanation.TheVariants.{Told, Unfit}
-use Rattle.night.specs.declared.salvage.SalvageMade.{SalvageMade}
-use Rattle.night.specs.declared.salvage.SalvageMade.TheVariants.{Kept, Unfit as SalvageUnfit}
+use Rattle.night.specs.declared.account.Account.{Account as AccountCode}
+use Rattle.slots.specs.declared.answer.Unfit.{Unfit}
 
-abbrev why_back : Telling → Explanation
-why_back refuses = Unfit
-why_back (tells w) = Told (account_back w)
+abbrev why_back : Telling → Result AccountCode Unfit
+why_back refuses = Err (record {})
+why_back (tells w) = Ok (account_back w)
 
-why_back_lem : (r : Explanation) → why_back (why_of r) ≡ r
-why_back_lem (Told account) = refl
-why_back_lem Unfit = refl
+why_back_lem : (r : Result AccountCode Unfit) → why_back (why_of r) ≡ r
+why_back_lem (Ok account) = refl
+why_back_lem (Err _) = refl
 
-why_one_to_one : (a b : Explanation) → why_of a ≡ why_of b → a ≡ b
+why_answer : (r : Result AccountCode Unfit) → told_by account_told unfit_told r ≡ telling_answer (why_of r)
+why_answer (Ok account) = refl
+why_answer (Err _) = refl
+
+why_one_to_one : (a b : Result AccountCode Unfit) → why_of a ≡ why_of b → a ≡ b
 why_one_to_one a b e = sym (why_back_lem a) ∙ ap why_back e ∙ why_back_lem b
 
 never : {w : Account} → tells w ≡ refuses → ⊥
@@ -58,17 +63,17 @@ module _ (t : Live) where
       go true f = simp (f, eq-eqb (length shown) 8 e)
       go false f = simp f
 
-abbrev salvage_back : Answer → SalvageMade
+abbrev salvage_back : Answer → Result ℕ Unfit
 salvage_back a = elim a.value [
-  | some count ↦ Kept count
-  | none ↦ SalvageUnfit
+  | some count ↦ Ok count
+  | none ↦ Err (record {})
 ]
 
-salvage_back_lem : (a : SalvageMade) → salvage_back (salvage_of a) ≡ a
-salvage_back_lem (Kept count) = refl
-salvage_back_lem SalvageUnfit = refl
+salvage_back_lem : (a : Result ℕ Unfit) → salvage_back (salvage_of a) ≡ a
+salvage_back_lem (Ok count) = refl
+salvage_back_lem (Err _) = refl
 
-salvage_one_to_one : (a b : SalvageMade) → salvage_of a ≡ salvage_of b → a ≡ b
+salvage_one_to_one : (a b : Result ℕ Unfit) → salvage_of a ≡ salvage_of b → a ≡ b
 salvage_one_to_one a b e = sym (salvage_back_lem a) ∙ ap salvage_back e ∙ salvage_back_lem b
 
 one_left : (a b : SalvageReturned) → left_with salvage_of a ≡ left_with salvage_of b → a ≡ b
@@ -84,11 +89,11 @@ one_left a b e =
     }
 
 salvage_refuses : (names cells : List ℕ) (u : Live) (report : List ℕ) (r : SalvageReturned)
-    → left_with salvage_of r ≡ salvages names cells u report → (r.answer ≡ SalvageUnfit) ↔ (FitSalvage names cells u report → ⊥)
+    → left_with salvage_of r ≡ salvages names cells u report → (r.answer ≡ Err (record {})) ↔ (FitSalvage names cells u report → ⊥)
 salvage_refuses names cells u report r e =
     let a : salvage_of r.answer ≡ (salvages names cells u report).answer = ap (λ (o : Salvaged). o.answer) e in
     let q = (rules.salvages names cells u report).one in
-    (λ z. q.0 (sym a ∙ ap salvage_of z), λ n. salvage_one_to_one r.answer SalvageUnfit (a ∙ q.1 n))
+    (λ z. q.0 (sym a ∙ ap salvage_of z), λ n. salvage_one_to_one r.answer (Err (record {})) (a ∙ q.1 n))
 
 pub claims : Claims
 claims =
@@ -99,6 +104,7 @@ claims =
       why-called = why-called;
       breach_one_to_one = breach_one_to_one;
       finding_one_to_one = finding_one_to_one;
+      why_answer = why_answer;
       examine_one = λ t a b e f. finding_one_to_one a b (e ∙ sym f);
       salvage_one_to_one = salvage_one_to_one;
       salvage_one = λ names cells u report a b e f. one_left a b (e ∙ sym f);

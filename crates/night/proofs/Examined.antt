@@ -1,11 +1,12 @@
 -- What is found, from what was told.
 use mathlib.Core.Path.{◌≡◌, refl}
 use mathlib.Core.Logic.{◌≢◌}
-use mathlib.Core.Bool.{Bool, true, false}
+use mathlib.Core.Bool.{Bool, true, false, false≢true}
 use Prim.Native.Nat.{ℕ, ◌≤◌}
 use native.Mathlib.Omega.{arith}
 use lib.ListN.{length}
 use borrow.Author.Tests.{eq-eqb, ne_eqb}
+use Rattle.std.specs.Prelude.{Option, Result, Ok, Err, IsErr}
 use Rattle.slots.specs.Words.{pick, most_names}
 use Rattle.index_rules.specs.Live.{Live, fits}
 use Rattle.night_rules.specs.Account.{Account}
@@ -13,7 +14,16 @@ use Rattle.night_rules.specs.Why.{why}
 use Rattle.night_rules.specs.Breach.{Breach, breach}
 use Rattle.night_rules.specs.Finding.{Finding, sound, broken, unfit, examined}
 use Rattle.night.specs.Shown.{refuses, tells, why_told}
+use Rattle.night.specs.Found.{finding_of}
+use Rattle.night.specs.declared.account.Account.{Account as AccountCode}
+use Rattle.night.specs.declared.breach.Breach.{Breach as BreachCode}
+use Rattle.slots.specs.declared.answer.Unfit.{Unfit}
 use Rattle.night.proofs.Sought.{few_names}
+
+-- What a refusal of why is passed on as.
+pub left_unfit : (r : Result (Option (AccountCode × BreachCode)) Unfit) → IsErr r → finding_of r ≡ unfit
+left_unfit (Ok found) e = absurd (false≢true e)
+left_unfit (Err _) e = refl
 
 module _ (t : Live) where
   told-why : {w : Account} → tells w ≡ why_told t → (fits t ≡ true) × (w ≡ why t)

@@ -1,5 +1,6 @@
 -- A breach and a finding are read back off what they mean.
 use mathlib.Core.Path.{◌≡◌, refl, ap, sym, ◌∙◌}
+use Rattle.std.specs.Prelude.{Option, None, Some, Result, Ok, Err}
 use Rattle.night_rules.specs.Account.{Account}
 use Rattle.night_rules.specs.Breach.{Breach, stray_link, stray_state, left_hash, left_key, left_field, stray_root, stray_first, miscount}
 use Rattle.night_rules.specs.Breach.{root_count}
@@ -17,8 +18,7 @@ use Rattle.night.specs.declared.breach.Breach.TheVariants.{Miscount, RootCount, 
 use Rattle.night.specs.declared.breach.Breach.TheVariants.{ChildElsewhere}
 use Rattle.night.specs.declared.breach.Breach.TheVariants.{ChildTwice, OffRoot, Falls, RedRoot, RedUnder, Uneven, FirstBehind}
 use Rattle.night.specs.declared.breach.Breach.TheVariants.{PrevAstray, NextAstray, OffFirst, WrongSize, FreeSize}
-use Rattle.night.specs.declared.examine.Finding.{Finding as FindingCode}
-use Rattle.night.specs.declared.examine.Finding.TheVariants.{Sound, Broken, Unfit}
+use Rattle.slots.specs.declared.answer.Unfit.{Unfit}
 
 abbrev breach_back : Breach → BreachCode
 breach_back (stray_link f x) = StrayLink f x
@@ -86,15 +86,18 @@ account_back w =
       two = record { last = w.two.last; side = w.two.side; blacks = w.two.blacks };
     }
 
+abbrev FindingCode : Type 0
+FindingCode = Result (Option (AccountCode × BreachCode)) Unfit
+
 abbrev finding_back : Finding → FindingCode
-finding_back sound = Sound
-finding_back (broken w b) = Broken (account_back w) (breach_back b)
-finding_back unfit = Unfit
+finding_back sound = Ok None
+finding_back (broken w b) = Ok (Some (account_back w, breach_back b))
+finding_back unfit = Err (record {})
 
 finding_back_lem : (f : FindingCode) → finding_back (finding_of f) ≡ f
-finding_back_lem Sound = refl
-finding_back_lem (Broken account breach) = ap (Broken account) (breach_back_lem breach)
-finding_back_lem Unfit = refl
+finding_back_lem (Ok None) = refl
+finding_back_lem (Ok (Some found)) = ap (λ b. Ok (Some (found.0, b))) (breach_back_lem found.1)
+finding_back_lem (Err _) = refl
 
 pub breach_one_to_one : (a b : BreachCode) → breach_of a ≡ breach_of b → a ≡ b
 breach_one_to_one a b e = sym (breach_back_lem a) ∙ ap breach_back e ∙ breach_back_lem b

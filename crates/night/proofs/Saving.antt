@@ -1,8 +1,8 @@
 -- What the steps of a salvage come to, on plain values: each law takes what the calls and the tests gave, in the order of the code.
 use mathlib.Core.Path.{◌≡◌, refl, ap, sym, ◌∙◌}
-use mathlib.Core.Logic.{◌≢◌, inl, inr}
+use mathlib.Core.Logic.{◌≢◌}
 use mathlib.Core.Bool.{Bool, true, false}
-use mathlib.Core.List.{List, [], ◌∷◌}
+use mathlib.Core.List.{List}
 use Prim.Native.Nat.{ℕ, zero, suc, ◌+◌, ◌-◌, ◌<◌, ◌≤◌}
 use native.Mathlib.Decide.{ℕ_discrete, dec_lt}
 use native.Mathlib.Numerals.{add-one}
@@ -10,8 +10,6 @@ use native.Mathlib.Omega.{arith}
 use lib.ListN.{length, get_or, set, length-set}
 use lib.Seq.{get_or-set_same, get_or-set_other}
 use lib.Dec.{eqb}
-use types.Run.{OneOf}
-use denote.Enum.Declared.{tag_of}
 use borrow.Author.Tests.{eq-eqb, ne_eqb, lt-ltb, le-ltb, le-leb, lt-leb}
 use Rattle.slots.specs.Words.{null, place, state, cell, name_of, hash_part, key_part}
 use Rattle.slots.specs.Answers.{some, none, given, refused}
@@ -20,10 +18,6 @@ use Rattle.tree_rules.specs.Find.{slots_of}
 use Rattle.index_rules.specs.Live.{Live, fits, count_of}
 use Rattle.index_rules.specs.Sound.{sound, sounds}
 use Rattle.index_rules.specs.Insert.{sought_in, grown}
-use Rattle.index.specs.Reads.{sound_of}
-use Rattle.index.specs.declared.sound.Soundness.{Soundness}
-use Rattle.index.specs.declared.sound.Soundness.TheVariants.{Yes, No, Unfit}
-use Rattle.index.specs.contracts.sound.Soundness.{the_type}
 use Rattle.night_rules.specs.Salvage.{Salvage, salvaging, came_from, unknown_state, salvaged_pair, salvaged_slot, salvaged_from}
 use Rattle.night_rules.specs.Salvage.{salvaged_all}
 use Rattle.night_rules.specs.Salvage.{is_cleared_tree, fits_salvage, salvaged, salvages}
@@ -127,14 +121,8 @@ module _ (names cells : List ℕ) (i : ℕ) (u : Live) (kept : ℕ) (r : List �
     slot_pair d l f = rw (← e, ne_eqb x 0 d, le-ltb 2 x l) f
 
 -- The tests before the first slot.
-pub not_yes : (v : Soundness) → OneOf (1 ∷ 2 ∷ []) (tag_of the_type v) → sound_of v ≡ given 1 → ⊥
-not_yes Yes (inl z) e = omega arith
-not_yes Yes (inr z) e = omega arith
-not_yes No k e = omega (arith, given_is e)
-not_yes Unfit k e = omega (arith, number e)
-
 module _ (u : Live) where
-  pub cleared-not : (sounds u ≡ given 1 → ⊥) → false ≡ is_cleared_tree u
+  cleared-not : (sounds u ≡ given 1 → ⊥) → false ≡ is_cleared_tree u
   unfolding is_cleared_tree sounds
   cleared-not d = go (fits u) refl (sound u) refl
     where
@@ -143,10 +131,16 @@ module _ (u : Live) where
       go true e false f = rw (e, f)
       go true e true f = absurd (d (rw (e, f)))
 
-  pub cleared_counts : sounds u ≡ given 1 → {c : ℕ} → c ≡ count_of u → eqb c 0 ≡ is_cleared_tree u
+  pub cleared_no : given 0 ≡ sounds u → false ≡ is_cleared_tree u
+  cleared_no n = cleared-not (λ e. omega (arith, given_is (n ∙ e)))
+
+  pub cleared_unfit : refused 1 ≡ sounds u → false ≡ is_cleared_tree u
+  cleared_unfit n = cleared-not (λ e. omega (arith, number (n ∙ e)))
+
+  pub cleared_counts : given 1 ≡ sounds u → {c : ℕ} → c ≡ count_of u → eqb c 0 ≡ is_cleared_tree u
   unfolding is_cleared_tree
   cleared_counts y e =
-      let h = (sound_claims u).yes.0 y in rw (fit_fits u h.0, sound_yes h.0 h.1, e)
+      let h = (sound_claims u).yes.0 (sym y) in rw (fit_fits u h.0, sound_yes h.0 h.1, e)
 
 module _ (names cells : List ℕ) (u : Live) (report : List ℕ) where
   pub other_names : length names ≢ length u.names → false ≡ fits_salvage names cells u report

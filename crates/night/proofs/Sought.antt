@@ -1,7 +1,6 @@
 -- What the search finds is what is told: by completeness a rule holds, given those before it, exactly if no slot shows it, so whether the
 -- lowest slot is null decides as the full check's test of the rule does.
 use mathlib.Core.Path.{◌≡◌, refl, ap, sym, ◌∙◌}
-use mathlib.Core.Logic.{◌≢◌}
 use mathlib.Core.List.{List, []}
 use mathlib.Core.Bool.{Bool, true, false, false≢true}
 use Prim.Native.Nat.{ℕ, zero, suc, ◌+◌, ◌-◌, ◌<◌, ◌≤◌}
@@ -49,9 +48,6 @@ module _ (f : ℕ → Bool) where
     pub low_on : i < n → b ≡ false → lowest_with (n - (i + 1)) f (i + 1) ≡ lowest_with (n - i) f i
     low_on l h = let z : n - i - 1 ≡ n - (i + 1) = omega arith in sym (low_step (n - i) i (omega arith) ∙ rw (← e, h, z))
 
-  pub low_start : (n : ℕ) → lowest_with (n - 0) f 0 ≡ lowest_with n f 0
-  low_start n = let z : n - 0 ≡ n = omega arith in rw z
-
   pub low_end : (k i : ℕ) → k ≤ 0 → null ≡ lowest_with k f i
   unfolding lowest_with
   low_end zero i h = refl
@@ -77,30 +73,6 @@ pub any_header : (names cells head sizes : List ℕ) (n k : ℕ)
 unfolding slots_fine slot_fine is_cleared
 any_header names cells head sizes n zero = refl
 any_header names cells head sizes n (suc k) = rw (any_header names cells head sizes n k)
-
--- A turn of the search over the rules: a slot shows the rule, none does, there is no rule left.
-module _ (t : Live) where
-  rule_step : (k rule : ℕ) → 0 < k
-      → first_shown k rule t
-      ≡ pick (eqb (lowest_slot t (shows_rule rule t)) null) (first_shown (k - 1) (rule + 1) t)
-      (told_by rule t (lowest_slot t (shows_rule rule t)))
-  unfolding first_shown
-  rule_step zero rule h = absurd (omega arith)
-  rule_step (suc k) rule h = let z : suc k - 1 ≡ k = omega arith in rw (z, add-one)
-
-  module _ (rule : ℕ) {i : ℕ} (l : rule < 9) (e : i ≡ lowest_slot t (shows_rule rule t)) where
-    pub rule_here : i ≢ null → told_by rule t i ≡ first_shown (9 - rule) rule t
-    rule_here d = sym (rule_step (9 - rule) rule (omega arith) ∙ rw (← e, ne_eqb i null d))
-
-    pub rule_on : i ≡ null → first_shown (9 - (rule + 1)) (rule + 1) t ≡ first_shown (9 - rule) rule t
-    rule_on h =
-        let z : 9 - rule - 1 ≡ 9 - (rule + 1) = omega arith in
-        sym (rule_step (9 - rule) rule (omega arith) ∙ rw (← e, eq-eqb i null h, z))
-
-  pub rule_end : (k rule : ℕ) → k ≤ 0 → tells_sound ≡ first_shown k rule t
-  unfolding first_shown
-  rule_end zero rule h = refl
-  rule_end (suc k) rule h = absurd (omega arith)
 
 -- The tests of the rules, in order.
 turn : (e b : Bool) (x u v : Account) → e ≡ b → (b ≡ true → u ≡ v) → pick e u x ≡ pick (neg b) x v

@@ -3,8 +3,8 @@ use mathlib.Core.Path.{◌≡◌, refl}
 use mathlib.Core.Logic.{◌≢◌}
 use mathlib.Core.Bool.{Bool, true, false}
 use mathlib.Core.List.{List}
-use Prim.Native.Nat.{ℕ, zero, suc, ◌+◌, ◌-◌, ◌<◌, ◌≤◌}
-use native.Mathlib.Numerals.{sub-one}
+use Prim.Native.Nat.{ℕ, zero, suc, ◌+◌, ◌<◌, ◌≤◌}
+use native.Mathlib.Numerals.{add-one}
 use native.Mathlib.Omega.{arith}
 use lib.Dec.{eqb}
 use borrow.Author.Tests.{eq-eqb, ne_eqb}
@@ -19,16 +19,15 @@ module _ (cells : List ℕ) (f x k : ℕ) where
   leads_there zero e = rw (eq-eqb k x e)
   leads_there (suc budget) e = rw (eq-eqb k x e)
 
-  pub leads_out : (budget : ℕ) → k ≢ x → budget ≡ 0 → false ≡ leads_to budget cells f x k
+  pub leads_end : (budget : ℕ) → budget ≤ 0 → eqb k x ≡ leads_to budget cells f x k
   unfolding leads_to
-  leads_out zero d e = rw (ne_eqb k x d)
-  leads_out (suc budget) d e = absurd (omega arith)
+  leads_end zero h = refl
+  leads_end (suc budget) h = absurd (omega arith)
 
-  pub leads_on : (budget : ℕ) {q : ℕ} → k ≢ x → budget ≢ 0 → q ≡ cell cells k f
-      → leads_to (budget - 1) cells f x q ≡ leads_to budget cells f x k
+  pub leads_on : (budget rest : ℕ) {q : ℕ} → budget ≡ rest + 1 → k ≢ x → q ≡ cell cells k f
+      → leads_to rest cells f x q ≡ leads_to budget cells f x k
   unfolding leads_to
-  leads_on zero d h e = absurd (omega arith)
-  leads_on (suc budget) d h e = rw (sub-one, leads_to, ne_eqb k x d, ← e)
+  leads_on budget rest h d e = rw (h, add-one, leads_to, ne_eqb k x d, ← e)
 
 -- Down by left links.
 module _ (cells : List ℕ) (i : ℕ) where
@@ -42,11 +41,10 @@ module _ (cells : List ℕ) (i : ℕ) where
   below_here zero h e z = absurd (omega arith)
   below_here (suc budget) {l} h e z = rw (← e, eq-eqb l null z)
 
-  pub below_on : (budget : ℕ) {l : ℕ} → 0 < budget → l ≡ cell cells i left → l ≢ null
-      → first_below (budget - 1) cells l ≡ first_below budget cells i
+  pub below_on : (budget rest : ℕ) {l : ℕ} → budget ≡ rest + 1 → l ≡ cell cells i left → l ≢ null
+      → first_below rest cells l ≡ first_below budget cells i
   unfolding first_below
-  below_on zero h e d = absurd (omega arith)
-  below_on (suc budget) {l} h e d = rw (sub-one, first_below, ← e, ne_eqb l null d)
+  below_on budget rest {l} h e d = rw (h, add-one, first_below, ← e, ne_eqb l null d)
 
 -- Up by parents to the first that has the way on its left.
 module _ (cells : List ℕ) (i : ℕ) where
@@ -66,11 +64,10 @@ module _ (cells : List ℕ) (i : ℕ) where
     above_here zero h d g z = absurd (omega arith)
     above_here (suc budget) {l} h d g z = rw (← e, ne_eqb p null d, ← g, eq-eqb l i z)
 
-    pub above_on : (budget : ℕ) {l : ℕ} → 0 < budget → p ≢ null → l ≡ cell cells p left → l ≢ i
-        → next_above (budget - 1) cells p ≡ next_above budget cells i
+    pub above_on : (budget rest : ℕ) {l : ℕ} → budget ≡ rest + 1 → p ≢ null → l ≡ cell cells p left → l ≢ i
+        → next_above rest cells p ≡ next_above budget cells i
     unfolding next_above
-    above_on zero h d g z = absurd (omega arith)
-    above_on (suc budget) {l} h d g z = rw (sub-one, next_above, ← e, ne_eqb p null d, ← g, ne_eqb l i z)
+    above_on budget rest {l} h d g z = rw (h, add-one, next_above, ← e, ne_eqb p null d, ← g, ne_eqb l i z)
 
 -- Up by parents, with the black slots met.
 module _ (cells : List ℕ) where
@@ -108,11 +105,10 @@ module _ (cells : List ℕ) where
       blacks_none zero h z = absurd (omega arith)
       blacks_none (suc budget) h z = rw (← e, eq-eqb p null z) (omega arith)
 
-      pub blacks_on : (budget : ℕ) {o : ℕ} → 0 < budget → p ≢ null → o ≡ one_if_black cells p
-          → blacks_above (budget - 1) cells p + (m + o) ≡ blacks_above budget cells i + m
+      pub blacks_on : (budget rest : ℕ) {o : ℕ} → budget ≡ rest + 1 → p ≢ null → o ≡ one_if_black cells p
+          → blacks_above rest cells p + (m + o) ≡ blacks_above budget cells i + m
       unfolding blacks_above
-      blacks_on zero h d g = absurd (omega arith)
-      blacks_on (suc budget) h d g = rw (sub-one, blacks_above, ← e, ne_eqb p null d, ← g) (omega arith)
+      blacks_on budget rest h d g = rw (h, add-one, blacks_above, ← e, ne_eqb p null d, ← g) (omega arith)
 
 -- From a slot by its link on a side, then by left links.
 module _ (cells : List ℕ) (i : ℕ) (σ : Side) (m : ℕ) where
@@ -130,11 +126,10 @@ module _ (cells : List ℕ) (i : ℕ) (σ : Side) (m : ℕ) where
     way_here zero h z = absurd (omega arith)
     way_here (suc budget) h z = rw (← e, eq-eqb q null z)
 
-    pub way_on_lem : (budget : ℕ) {o : ℕ} → 0 < budget → q ≢ null → o ≡ one_if_black cells q
-        → way_on (budget - 1) cells q leftward (m + o) ≡ way_on budget cells i σ m
+    pub way_on_lem : (budget rest : ℕ) {o : ℕ} → budget ≡ rest + 1 → q ≢ null → o ≡ one_if_black cells q
+        → way_on rest cells q leftward (m + o) ≡ way_on budget cells i σ m
     unfolding way_on
-    way_on_lem zero h d g = absurd (omega arith)
-    way_on_lem (suc budget) h d g = rw (sub-one, way_on, ← e, ne_eqb q null d, ← g)
+    way_on_lem budget rest h d g = rw (h, add-one, way_on, ← e, ne_eqb q null d, ← g)
 
 -- The black slots above, as they were read, are at most the steps.
 pub above_fits : (cells : List ℕ) (n i : ℕ) {a : ℕ} → a ≡ blacks_above n cells i → a ≤ n

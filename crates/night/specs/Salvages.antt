@@ -1,8 +1,8 @@
 -- The number and value of each answer of salvage.
-use Rattle.slots.specs.Answers.{Answer, given, refused}
-use Rattle.night.specs.declared.salvage.SalvageMade.{SalvageMade}
-use Rattle.night.specs.declared.salvage.SalvageMade.TheVariants.{Kept, Unfit}
+use Rattle.std.specs.Prelude.{Result, ℕ}
+use Rattle.slots.specs.Answers.{Answer, given}
+use Rattle.slots.specs.Coded.{told_by, unfit_told}
+use Rattle.slots.specs.declared.answer.Unfit.{Unfit}
 
-abbrev pub salvage_of : SalvageMade → Answer
-salvage_of (Kept count) = given count
-salvage_of Unfit = refused 1
+abbrev pub salvage_of : Result ℕ Unfit → Answer
+salvage_of = told_by given unfit_told

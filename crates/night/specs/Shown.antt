@@ -6,7 +6,7 @@ use Rattle.index_rules.specs.Live.{Live, fits}
 use Rattle.index_rules.specs.Sound.{rule1, rule2}
 use Rattle.night_rules.specs.Account.{WayDown, Account, tells_slot, tells_header, tells_pair, tells_ways, tells_sound, shown_words}
 use Rattle.night_rules.specs.Why.{shows1, shows3, shows4, shows5, shows6, shows7, shows8, next_in, one_if_black, blacks_above}
-use Rattle.night_rules.specs.Why.{way_on, way_by, lowest_with, lowest_slot, why}
+use Rattle.night_rules.specs.Why.{way_on, way_by, lowest_slot, why}
 
 -- The test of a slot for each rule.
 unfoldable pub shows_rule : ℕ → Live → ℕ → Bool
@@ -24,10 +24,6 @@ unfoldable pub told_by : ℕ → Live → ℕ → Account
 told_by rule t i =
     pick (eqb rule 4) (tells_pair i (next_in t i))
     (pick (eqb rule 6) (tells_ways i (way_by t i leftward) (way_by t i rightward)) (tells_slot rule i))
-
--- The lowest of n slots that a rule is shown by.
-abbrev pub lowest_over : ℕ → ℕ → Live → ℕ
-lowest_over n rule t = lowest_with n (shows_rule rule t) 0
 
 -- The way by the slot i and its link on a side, over n slots.
 abbrev pub way_from : ℕ → List ℕ → ℕ → Side → WayDown

@@ -1,11 +1,13 @@
 // What is told of a tree, as `shown` has it.
 ghost use Rattle.std.specs.Prelude.{◌≡◌};
 ghost use Rattle.night_rules.specs.Account.{no_way, tells_slot, tells_pair, tells_ways};
-ghost use Rattle.night.specs.Told.{way_of, account_of};
+ghost use Rattle.night.specs.Told.{way_of, account_of, account_told};
 
 use slots::NULL;
+use slots::answer::{Answer, Answers, given};
 
 // A way from the root to a null link: its last slot, the side of that link (0 left, 1 right), and the black slots met.
+// Form kept: the side is a number and a word that says nothing is null, since these are the words that the C interface writes (why-called).
 #[derive(Clone, Copy)]
 pub struct WayDown {
     pub last: u32,
@@ -21,6 +23,15 @@ pub struct Account {
     pub other: u32,
     pub one: WayDown,
     pub two: WayDown,
+}
+
+// Its number: that of the broken rule, or 0.
+impl Answers for Account {
+    ghost told = { account_told };
+
+    fn answer(self) -> Answer {
+        given(self.rule)
+    }
 }
 
 // Three words that say nothing.

@@ -2,48 +2,34 @@
 ghost use Rattle.std.specs.Prelude.{◌≡◌};
 ghost use Rattle.tree_rules.specs.Rules.{levelled};
 ghost use Rattle.night_rules.specs.Why.{number_below};
-ghost use Rattle.night.specs.Told.{blacks_of, held_number};
+ghost use Rattle.slots.specs.Coded.{value_of};
+ghost use Rattle.night.specs.Told.{held_number};
 
 use slots::{LEFT, NULL, RIGHT, get, is_red};
 
-// So many black slots on every way down, or not equally many.
-#[derive(Clone, Copy)]
-pub(crate) enum Blacks {
-    Even(usize),
-    Uneven,
-}
-
-// The black slots that every way from the link i down meets.
-pub(crate) fn blacks_below(cells: &[u32], i: u32, depth: usize) -> Blacks
-    ensures { blacks_of result ≡ levelled depth cells.now i }
+// The black slots that every way from the link i down meets; None where not every way meets as many.
+pub(crate) fn blacks_below(cells: &[u32], i: u32, depth: usize) -> Option<usize>
+    ensures { value_of result ≡ levelled depth cells.now i }
 {
     if i == NULL {
-        return Blacks::Even(0);
+        return Some(0);
     }
     if depth == 0 {
-        return Blacks::Uneven;
+        return None;
     }
-    let l = get(cells, i, LEFT);
-    let lefts = blacks_below(cells, l, depth - 1);
-    let Blacks::Even(a) = lefts else {
-        return Blacks::Uneven;
-    };
-    let r = get(cells, i, RIGHT);
-    let rights = blacks_below(cells, r, depth - 1);
-    let Blacks::Even(b) = rights else {
-        return Blacks::Uneven;
-    };
+    let a = blacks_below(cells, get(cells, i, LEFT), depth - 1)?;
+    let b = blacks_below(cells, get(cells, i, RIGHT), depth - 1)?;
     if a != b {
-        return Blacks::Uneven;
+        return None;
     }
-    let red = is_red(cells, i);
-    if red {
-        return Blacks::Even(a);
+    if is_red(cells, i) {
+        return Some(a);
     }
-    Blacks::Even(a + 1)
+    Some(a + 1)
 }
 
 // A number, held at 2^32, which is above any size that is stored.
+#[tactic(auto, unfolding(crate::specs::Told::held_number))]
 fn held(x: u64) -> u64
     ensures { result ≡ held_number x }
 {
@@ -60,9 +46,7 @@ pub(crate) fn number_below(cells: &[u32], i: u32, depth: usize) -> u64
     if i == NULL {
         return 0;
     }
-    let l = get(cells, i, LEFT);
-    let a = number_below(cells, l, depth - 1);
-    let r = get(cells, i, RIGHT);
-    let b = number_below(cells, r, depth - 1);
+    let a = number_below(cells, get(cells, i, LEFT), depth - 1);
+    let b = number_below(cells, get(cells, i, RIGHT), depth - 1);
     held(1 + a + b)
 }

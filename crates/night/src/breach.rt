@@ -57,14 +57,10 @@ pub enum Breach {
 fn stray_link(n: usize, cells: &[u32], i: u32) -> u32
     ensures { result ≡ link_with (λ f. neg (in_range n (cell cells.now i f))) }
 {
-    let mut f = PARENT;
-    while f < 7 {
-        let link = get(cells, i, f);
-        let named = in_range(n, link);
-        if !named {
+    for f in PARENT..7 {
+        if !in_range(n, get(cells, i, f)) {
             return f;
         }
-        f += 1;
     }
     NULL
 }
@@ -73,18 +69,16 @@ fn stray_link(n: usize, cells: &[u32], i: u32) -> u32
 fn set_link(cells: &[u32], i: u32) -> u32
     ensures { result ≡ link_with (is_set cells.now i) }
 {
-    let mut f = PARENT;
-    while f < 7 {
-        let link = get(cells, i, f);
-        if link != NULL {
+    for f in PARENT..7 {
+        if get(cells, i, f) != NULL {
             return f;
         }
-        f += 1;
     }
     NULL
 }
 
 // What is not cleared in the free slot i.
+#[tactic(auto, unfolding(night_rules::specs::Breach::left_in))]
 fn left_in(names: &[u64], cells: &[u32], i: u32) -> Breach
     ensures { breach_of result ≡ left_in names.now cells.now i }
 {
@@ -106,6 +100,7 @@ fn left_in(names: &[u64], cells: &[u32], i: u32) -> Breach
 }
 
 // T1 at slot i.
+#[tactic(auto, unfolding(night_rules::specs::Breach::breach1))]
 fn breach1(names: &[u64], cells: &[u32], i: u32) -> Breach
     ensures { (head sizes : List ℕ) → breach_of result ≡ breaks1 (lent_tree names.now cells.now head sizes) i }
 {
@@ -122,6 +117,7 @@ fn breach1(names: &[u64], cells: &[u32], i: u32) -> Breach
 }
 
 // T1 in the header.
+#[tactic(auto, unfolding(night_rules::specs::Breach::header1))]
 fn header1(names: &[u64], cells: &[u32], head: &[u32]) -> Breach
     requires { length names.now ≤ most_names }
     ensures { (sizes : List ℕ) → breach_of result
@@ -129,13 +125,11 @@ fn header1(names: &[u64], cells: &[u32], head: &[u32]) -> Breach
 {
     let n = names.len() / 2;
     let root = word(head, ROOT, NULL);
-    let rooted = in_range(n, root);
-    if !rooted {
+    if !in_range(n, root) {
         return Breach::StrayRoot(root);
     }
     let first = word(head, FIRST, NULL);
-    let begun = in_range(n, first);
-    if !begun {
+    if !in_range(n, first) {
         return Breach::StrayFirst(first);
     }
     let count = word(head, COUNT, NULL);
@@ -144,13 +138,13 @@ fn header1(names: &[u64], cells: &[u32], head: &[u32]) -> Breach
 }
 
 // T2 in the header.
+#[tactic(auto, unfolding(night_rules::specs::Breach::header2))]
 fn header2(head: &[u32]) -> Breach
     ensures { (names cells sizes : List ℕ) → breach_of result ≡ breaksHeader2 (lent_tree names cells head.now sizes) }
 {
     let root = word(head, ROOT, NULL);
     let count = word(head, COUNT, NULL);
-    let rooted = null_if_none(root, count);
-    if rooted {
+    if null_if_none(root, count) {
         let first = word(head, FIRST, NULL);
         return Breach::FirstCount(count, first);
     }
@@ -158,6 +152,7 @@ fn header2(head: &[u32]) -> Breach
 }
 
 // The root with a parent, or a slot that is no child of its own.
+#[tactic(auto, unfolding(night_rules::specs::Breach::misseated))]
 fn misseated(cells: &[u32], head: &[u32], i: u32) -> Breach
     ensures { (names sizes : List ℕ) → breach_of result
         ≡ isMisseated (lent_tree names cells.now head.now sizes) i }
@@ -185,23 +180,20 @@ fn away_from(cells: &[u32], i: u32, f: u32) -> Breach
 }
 
 // T3 at slot i.
+#[tactic(auto, unfolding(night_rules::specs::Breach::breach3))]
 fn breach3(cells: &[u32], head: &[u32], i: u32) -> Breach
     ensures { (names sizes : List ℕ) → breach_of result ≡ breaks3 (lent_tree names cells.now head.now sizes) i }
 {
-    let astray = misrooted(cells, head, i);
-    if astray {
+    if misrooted(cells, head, i) {
         return misseated(cells, head, i);
     }
-    let left = points_back(cells, i, LEFT, PARENT);
-    if !left {
+    if !points_back(cells, i, LEFT, PARENT) {
         return away_from(cells, i, LEFT);
     }
-    let right = points_back(cells, i, RIGHT, PARENT);
-    if !right {
+    if !points_back(cells, i, RIGHT, PARENT) {
         return away_from(cells, i, RIGHT);
     }
-    let same = twins(cells, i);
-    if same {
+    if twins(cells, i) {
         let l = get(cells, i, LEFT);
         return Breach::ChildTwice(l);
     }
@@ -210,6 +202,7 @@ fn breach3(cells: &[u32], head: &[u32], i: u32) -> Breach
 }
 
 // T4 at slot i, whose next in order is j.
+#[tactic(auto, unfolding(night_rules::specs::Breach::breach4))]
 fn breach4(names: &[u64], i: u32, j: u32) -> Breach
     ensures { breach_of result ≡ breaks4 names.now i j }
 {
@@ -221,6 +214,7 @@ fn breach4(names: &[u64], i: u32, j: u32) -> Breach
 }
 
 // T5 at slot i.
+#[tactic(auto, unfolding(night_rules::specs::Breach::breach5))]
 fn breach5(cells: &[u32], head: &[u32], i: u32) -> Breach
     ensures { (names sizes : List ℕ) → breach_of result ≡ breaks5 (lent_tree names cells.now head.now sizes) i }
 {
@@ -229,8 +223,7 @@ fn breach5(cells: &[u32], head: &[u32], i: u32) -> Breach
         return Breach::RedRoot;
     }
     let l = get(cells, i, LEFT);
-    let left = is_red(cells, l);
-    if left {
+    if is_red(cells, l) {
         return Breach::RedUnder(LEFT, l);
     }
     let r = get(cells, i, RIGHT);
@@ -238,22 +231,20 @@ fn breach5(cells: &[u32], head: &[u32], i: u32) -> Breach
 }
 
 // T7 at slot i.
+#[tactic(auto, unfolding(night_rules::specs::Breach::breach7))]
 fn breach7(cells: &[u32], head: &[u32], i: u32) -> Breach
     ensures { (names sizes : List ℕ) → breach_of result ≡ breaks7 (lent_tree names cells.now head.now sizes) i }
 {
     let p = get(cells, i, PREV);
     let x = get(cells, i, NEXT);
-    let behind = misfirst(cells, head, i);
-    if behind {
+    if misfirst(cells, head, i) {
         return Breach::FirstBehind(p);
     }
-    let before = points_back(cells, i, PREV, NEXT);
-    if !before {
+    if !points_back(cells, i, PREV, NEXT) {
         let other = get(cells, p, NEXT);
         return Breach::PrevAstray(p, other);
     }
-    let after = points_back(cells, i, NEXT, PREV);
-    if !after {
+    if !points_back(cells, i, NEXT, PREV) {
         let other = get(cells, x, PREV);
         return Breach::NextAstray(x, other);
     }
@@ -262,6 +253,7 @@ fn breach7(cells: &[u32], head: &[u32], i: u32) -> Breach
 }
 
 // T8 at slot i.
+#[tactic(auto, unfolding(night_rules::specs::Breach::breach8, crate::specs::Told::held_number))]
 fn breach8(names: &[u64], cells: &[u32], sizes: &[u32], i: u32) -> Breach
     ensures { (head : List ℕ) → breach_of result
         ≡ breaks8 (lent_tree names.now cells.now head sizes.now) i }
@@ -276,6 +268,7 @@ fn breach8(names: &[u64], cells: &[u32], sizes: &[u32], i: u32) -> Breach
 }
 
 // How the rule that is told is broken, at the slot that is told or in the header.
+#[tactic(auto, unfolding(night_rules::specs::Breach::breach))]
 pub(crate) fn broken_by(
     names: &[u64],
     cells: &[u32],

@@ -6,29 +6,24 @@ ghost use Rattle.night.specs.Found.{finding_of};
 
 use crate::account::Account;
 use crate::breach::{Breach, broken_by};
-use crate::why::{Explanation, why};
+use crate::why::why;
+use slots::answer::Unfit;
 
-// What examine answers.
-#[derive(Clone, Copy)]
-pub enum Finding {
-    Sound,
-    Broken(Account, Breach),
-    Unfit, // 1
-}
-
-// That the tree is sound, or the first broken rule with what shows it and how it is broken there. Unfit where the slices are not a live
+// The first broken rule with what shows it and how it is broken there, None where the tree is sound. Unfit where the slices are not a live
 // tree's.
-pub fn examine(names: &[u64], cells: &[u32], head: &[u32], sizes: &[u32]) -> Finding
+pub fn examine(
+    names: &[u64],
+    cells: &[u32],
+    head: &[u32],
+    sizes: &[u32],
+) -> Result<Option<(Account, Breach)>, Unfit>
     ensures { finding_of result
         ≡ examined (lent_tree names.now cells.now head.now sizes.now) }
 {
-    let explanation = why(names, cells, head, sizes);
-    let Explanation::Told(account) = explanation else {
-        return Finding::Unfit;
-    };
+    let account = why(names, cells, head, sizes)?;
     if account.rule == 0 {
-        return Finding::Sound;
+        return Ok(None);
     }
     let breach = broken_by(names, cells, head, sizes, account);
-    Finding::Broken(account, breach)
+    Ok(Some((account, breach)))
 }

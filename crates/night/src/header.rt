@@ -9,23 +9,21 @@ use slots::{COUNT, FIRST, NULL, ROOT, word};
 use tree::check::in_range;
 
 // T1 of all slots and of the header.
+#[tactic(auto, unfolding(index_rules::specs::Sound::rule1), using(crate::proofs::Sought::any_header))]
 pub(crate) fn rule1(names: &[u64], cells: &[u32], head: &[u32]) -> bool
     requires { length names.now ≤ most_names }
     ensures { (sizes : List ℕ) → result ≡ obeys1 (lent_tree names.now cells.now head.now sizes) }
 {
     let n = names.len() / 2;
-    let fine = slots_fine(names, cells, n as u32);
-    if !fine {
+    if !slots_fine(names, cells, n as u32) {
         return false;
     }
     let root = word(head, ROOT, NULL);
-    let rooted = in_range(n, root);
-    if !rooted {
+    if !in_range(n, root) {
         return false;
     }
     let first = word(head, FIRST, NULL);
-    let begun = in_range(n, first);
-    if !begun {
+    if !in_range(n, first) {
         return false;
     }
     let count = word(head, COUNT, NULL);
@@ -44,14 +42,14 @@ pub(crate) fn null_if_none(link: u32, count: u32) -> bool
 }
 
 // T2: root and first are null exactly if the count is 0.
+#[tactic(auto, unfolding(index_rules::specs::Sound::rule2))]
 pub(crate) fn rule2(head: &[u32]) -> bool
     ensures { (names cells sizes : List ℕ) → result ≡ obeys2 (lent_tree names cells head.now sizes) }
 {
     let root = word(head, ROOT, NULL);
     let first = word(head, FIRST, NULL);
     let count = word(head, COUNT, NULL);
-    let rooted = null_if_none(root, count);
-    if !rooted {
+    if !null_if_none(root, count) {
         return false;
     }
     null_if_none(first, count)

@@ -1,7 +1,6 @@
 // What can be saved of a damaged tree: its slots by number, whatever their links, into a second tree that is cleared.
 ghost use Rattle.std.specs.Prelude.{◌≡◌, ◌+◌, ◌<◌, ◌≤◌, length, get_or};
 ghost use Rattle.slots.specs.Words.{null, most_slots, most_names};
-ghost use Rattle.slots.specs.Coded.{answer_of};
 ghost use Rattle.index_rules.specs.Live.{lent_tree};
 ghost use Rattle.night_rules.specs.Salvage.{salvaging, salvaged_pair, salvaged_slot, salvaged_all, is_cleared_tree, fits_salvage};
 ghost use Rattle.night_rules.specs.Salvage.{salvaged, salvages};
@@ -10,12 +9,13 @@ ghost use Rattle.night.specs.Salvages.{salvage_of};
 ghost use Rattle.night.specs.Sources.{Sources, SlotReady};
 
 use index::grow::grow;
-use index::sound::{Soundness, sound};
-use slots::answer::{Answer, given, refused};
+use index::sound::sound;
+use slots::answer::Unfit;
 use slots::{COUNT, FREE, HASH, KEY, NULL, PLACE, RED, ROOT, STATE, get, name, put_word, word};
 use tree::find::{Found, find_tree_node};
 
 // The words of the report.
+// Form kept: numbers and no enum, since the report is a slice of words that the C interface lends.
 const KEPT: u32 = 0;
 
 const UNUSED: u32 = 1;
@@ -123,13 +123,11 @@ fn save_all(
 {
     let n = (names.len() / 2) as u32;
     let mut from = [0u32; 4096];
-    let mut kept: u32 = 0;
-    let mut i: u32 = 0;
-    while i < n {
+    let mut kept = 0;
+    for i in 0..n {
         kept = save_slot(
             names, cells, names2, cells2, head2, sizes2, report, &mut from, i, kept,
         );
-        i += 1;
     }
     kept
 }
@@ -138,11 +136,10 @@ fn save_all(
 fn is_cleared_tree(names: &[u64], cells: &[u32], head: &[u32], sizes: &[u32]) -> bool
     ensures { result ≡ is_cleared_tree (lent_tree names.now cells.now head.now sizes.now) }
 {
-    let verdict = sound(names, cells, head, sizes);
-    let Soundness::Yes = verdict else {
-        return false;
-    };
-    word(head, COUNT, NULL) == 0
+    match sound(names, cells, head, sizes) {
+        Ok(true) => word(head, COUNT, NULL) == 0,
+        _ => false,
+    }
 }
 
 // Whether the second tree is cleared and of the first one's capacity, and the report has a word for each slot.
@@ -171,27 +168,8 @@ fn fits_salvage(
     is_cleared_tree(names2, cells2, head2, sizes2)
 }
 
-// What salvage answers.
-#[derive(Clone, Copy)]
-pub enum SalvageMade {
-    Kept(u32), // how many slots are kept
-    Unfit, // 1
-}
-
-impl SalvageMade {
-    // The number and the value.
-    pub fn answer(self) -> Answer
-        ensures { answer_of result ≡ (salvage_of self) }
-    {
-        match self {
-            SalvageMade::Kept(count) => given(count),
-            SalvageMade::Unfit => refused(1),
-        }
-    }
-}
-
 // Each slot with state 1 or 2 whose pair is in no lower kept slot is inserted into the second tree, and the report has a word for each
-// slot. A refusal writes nothing.
+// slot; how many slots are kept. A refusal writes nothing.
 pub fn salvage(
     names: &[u64],
     cells: &[u32],
@@ -200,16 +178,14 @@ pub fn salvage(
     head2: &mut [u32],
     sizes2: &mut [u32],
     report: &mut [u32],
-) -> SalvageMade
+) -> Result<u32, Unfit>
     ensures { salvaged (salvage_of result)
         (lent_tree names2.new cells2.new head2.new sizes2.new) report.new
         ≡ salvages names.now cells.now
         (lent_tree names2.old cells2.old head2.old sizes2.old) report.old }
 {
-    let fits = fits_salvage(names, cells, names2, cells2, head2, sizes2, report);
-    if !fits {
-        return SalvageMade::Unfit;
+    if !fits_salvage(names, cells, names2, cells2, head2, sizes2, report) {
+        return Err(Unfit);
     }
-    let kept = save_all(names, cells, names2, cells2, head2, sizes2, report);
-    SalvageMade::Kept(kept)
+    Ok(save_all(names, cells, names2, cells2, head2, sizes2, report))
 }

@@ -8,7 +8,7 @@ ghost use Rattle.night_rules.specs.Why.{neg, one_child, misrooted as isMisrooted
 ghost use Rattle.night_rules.specs.Why.{shows1 as showing1, shows3 as showing3, shows4 as showing4, shows5 as showing5};
 ghost use Rattle.night_rules.specs.Why.{shows6 as showing6, shows7 as showing7, shows8 as showing8};
 
-use crate::below::{Blacks, blacks_below, number_below};
+use crate::below::{blacks_below, number_below};
 use crate::ways::{leads_to, next_slot};
 use slots::{
     FIRST, FREE, HASH, KEY, LEFT, NEXT, NULL, PARENT, PLACE, PREV, RED, RIGHT, ROOT, STATE,
@@ -25,6 +25,7 @@ fn is_used(cells: &[u32], i: u32) -> bool
 }
 
 // The neighbour of i along the field f, if any, points back to i along the field g.
+#[tactic(auto, unfolding(tree_rules::specs::Check::points_back))]
 pub(crate) fn points_back(cells: &[u32], i: u32, f: u32, g: u32) -> bool
     ensures { result ≡ points_back cells.now i f g }
 {
@@ -33,6 +34,7 @@ pub(crate) fn points_back(cells: &[u32], i: u32, f: u32, g: u32) -> bool
 }
 
 // Slot i is cleared: all zero with null links.
+#[tactic(auto, unfolding(index_rules::specs::Sound::is_cleared))]
 fn is_cleared(names: &[u64], cells: &[u32], i: u32) -> bool
     ensures { result ≡ is_cleared (lent_tree names.now cells.now [] []) i }
 {
@@ -47,11 +49,11 @@ fn is_cleared(names: &[u64], cells: &[u32], i: u32) -> bool
 }
 
 // T1 is broken at slot i.
+#[tactic(auto, unfolding(night_rules::specs::Why::shows1, index_rules::specs::Sound::slot_fine, index_rules::specs::Sound::is_cleared))]
 pub(crate) fn shows1(names: &[u64], cells: &[u32], i: u32) -> bool
     ensures { (head sizes : List ℕ) → result ≡ showing1 (lent_tree names.now cells.now head sizes) i }
 {
-    let named = links_in(names.len() / 2, cells, i);
-    if !named {
+    if !links_in(names.len() / 2, cells, i) {
         return true;
     }
     let state = get(cells, i, STATE);
@@ -66,6 +68,7 @@ pub(crate) fn shows1(names: &[u64], cells: &[u32], i: u32) -> bool
 }
 
 // Slot i is one of the two children of p and not both.
+#[tactic(auto, unfolding(night_rules::specs::Why::one_child))]
 fn one_child(cells: &[u32], p: u32, i: u32) -> bool
     ensures { result ≡ one_child cells.now p i }
 {
@@ -78,6 +81,7 @@ fn one_child(cells: &[u32], p: u32, i: u32) -> bool
 }
 
 // Slot i is the root and has a parent, or is another slot and no child of its own.
+#[tactic(auto, unfolding(night_rules::specs::Why::misrooted))]
 pub(crate) fn misrooted(cells: &[u32], head: &[u32], i: u32) -> bool
     ensures { (names sizes : List ℕ) → result ≡ isMisrooted (lent_tree names cells.now head.now sizes) i }
 {
@@ -86,11 +90,11 @@ pub(crate) fn misrooted(cells: &[u32], head: &[u32], i: u32) -> bool
     if i == root {
         return p != NULL;
     }
-    let child = one_child(cells, p, i);
-    !child
+    !one_child(cells, p, i)
 }
 
 // Slot i has the same child twice.
+#[tactic(auto, unfolding(night_rules::specs::Why::twins))]
 pub(crate) fn twins(cells: &[u32], i: u32) -> bool
     ensures { result ≡ areTwins cells.now i }
 {
@@ -103,6 +107,7 @@ pub(crate) fn twins(cells: &[u32], i: u32) -> bool
 }
 
 // The pair of slot i comes before that of slot j.
+#[tactic(auto, unfolding(night_rules::specs::Why::pair_rises))]
 fn pair_rises(names: &[u64], i: u32, j: u32) -> bool
     ensures { result ≡ pair_rises names.now i j }
 {
@@ -114,6 +119,7 @@ fn pair_rises(names: &[u64], i: u32, j: u32) -> bool
 }
 
 // Slot i is the first and has a prev.
+#[tactic(auto, unfolding(night_rules::specs::Why::misfirst))]
 pub(crate) fn misfirst(cells: &[u32], head: &[u32], i: u32) -> bool
     ensures { (names sizes : List ℕ) → result ≡ isMisfirst (lent_tree names cells.now head.now sizes) i }
 {
@@ -126,58 +132,52 @@ pub(crate) fn misfirst(cells: &[u32], head: &[u32], i: u32) -> bool
 }
 
 // T3 is broken at slot i.
+#[tactic(auto, unfolding(night_rules::specs::Why::shows3))]
 pub(crate) fn shows3(names: &[u64], cells: &[u32], head: &[u32], i: u32) -> bool
     ensures { (sizes : List ℕ) → result ≡ showing3 (lent_tree names.now cells.now head.now sizes) i }
 {
     let n = names.len() / 2;
-    let used = is_used(cells, i);
-    if !used {
+    if !is_used(cells, i) {
         return false;
     }
-    let astray = misrooted(cells, head, i);
-    if astray {
+    if misrooted(cells, head, i) {
         return true;
     }
-    let left = points_back(cells, i, LEFT, PARENT);
-    if !left {
+    if !points_back(cells, i, LEFT, PARENT) {
         return true;
     }
-    let right = points_back(cells, i, RIGHT, PARENT);
-    if !right {
+    if !points_back(cells, i, RIGHT, PARENT) {
         return true;
     }
-    let same = twins(cells, i);
-    if same {
+    if twins(cells, i) {
         return true;
     }
     let root = word(head, ROOT, NULL);
-    let reaches = leads_to(n, cells, PARENT, root, i);
-    !reaches
+    !leads_to(n, cells, PARENT, root, i)
 }
 
 // T4 is broken at slot i.
+#[tactic(auto, unfolding(night_rules::specs::Why::shows4))]
 pub(crate) fn shows4(names: &[u64], cells: &[u32], i: u32) -> bool
     ensures { (head sizes : List ℕ) → result ≡ showing4 (lent_tree names.now cells.now head sizes) i }
 {
     let n = names.len() / 2;
-    let used = is_used(cells, i);
-    if !used {
+    if !is_used(cells, i) {
         return false;
     }
     let j = next_slot(n, cells, i);
     if j == NULL {
         return false;
     }
-    let rises = pair_rises(names, i, j);
-    !rises
+    !pair_rises(names, i, j)
 }
 
 // T5 is broken at slot i.
+#[tactic(auto, unfolding(night_rules::specs::Why::shows5))]
 pub(crate) fn shows5(cells: &[u32], head: &[u32], i: u32) -> bool
     ensures { (names sizes : List ℕ) → result ≡ showing5 (lent_tree names cells.now head.now sizes) i }
 {
-    let red = is_red(cells, i);
-    if !red {
+    if !is_red(cells, i) {
         return false;
     }
     let root = word(head, ROOT, NULL);
@@ -185,8 +185,7 @@ pub(crate) fn shows5(cells: &[u32], head: &[u32], i: u32) -> bool
         return true;
     }
     let l = get(cells, i, LEFT);
-    let left = is_red(cells, l);
-    if left {
+    if is_red(cells, l) {
         return true;
     }
     let r = get(cells, i, RIGHT);
@@ -194,54 +193,47 @@ pub(crate) fn shows5(cells: &[u32], head: &[u32], i: u32) -> bool
 }
 
 // T7 is broken at slot i.
+#[tactic(auto, unfolding(night_rules::specs::Why::shows7))]
 pub(crate) fn shows7(names: &[u64], cells: &[u32], head: &[u32], i: u32) -> bool
     ensures { (sizes : List ℕ) → result ≡ showing7 (lent_tree names.now cells.now head.now sizes) i }
 {
     let n = names.len() / 2;
-    let used = is_used(cells, i);
-    if !used {
+    if !is_used(cells, i) {
         return false;
     }
-    let behind = misfirst(cells, head, i);
-    if behind {
+    if misfirst(cells, head, i) {
         return true;
     }
-    let before = points_back(cells, i, PREV, NEXT);
-    if !before {
+    if !points_back(cells, i, PREV, NEXT) {
         return true;
     }
-    let after = points_back(cells, i, NEXT, PREV);
-    if !after {
+    if !points_back(cells, i, NEXT, PREV) {
         return true;
     }
     let first = word(head, FIRST, NULL);
-    let reaches = leads_to(n, cells, PREV, first, i);
-    !reaches
+    !leads_to(n, cells, PREV, first, i)
 }
 
 // T6 is broken at slot i.
+#[tactic(auto, unfolding(night_rules::specs::Why::shows6))]
 pub(crate) fn shows6(names: &[u64], cells: &[u32], i: u32) -> bool
     ensures { (head sizes : List ℕ) → result ≡ showing6 (lent_tree names.now cells.now head sizes) i }
 {
     let n = names.len() / 2;
-    let used = is_used(cells, i);
-    if !used {
+    if !is_used(cells, i) {
         return false;
     }
-    let l = get(cells, i, LEFT);
-    let lefts = blacks_below(cells, l, n);
-    let Blacks::Even(a) = lefts else {
+    let Some(a) = blacks_below(cells, get(cells, i, LEFT), n) else {
         return false;
     };
-    let r = get(cells, i, RIGHT);
-    let rights = blacks_below(cells, r, n);
-    let Blacks::Even(b) = rights else {
+    let Some(b) = blacks_below(cells, get(cells, i, RIGHT), n) else {
         return false;
     };
     a != b
 }
 
 // T8 is broken at slot i.
+#[tactic(auto, unfolding(night_rules::specs::Why::shows8), using(crate::proofs::Parts::held_tested))]
 pub(crate) fn shows8(names: &[u64], cells: &[u32], sizes: &[u32], i: u32) -> bool
     ensures { (head : List ℕ) → result ≡ showing8 (lent_tree names.now cells.now head sizes.now) i }
 {

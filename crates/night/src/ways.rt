@@ -13,15 +13,13 @@ pub(crate) fn leads_to(n: usize, cells: &[u32], f: u32, x: u32, k: u32) -> bool
     ensures { result ≡ leads_to n cells.now f x k }
 {
     let mut at = k;
-    let mut left = n;
-    while at != x {
-        if left == 0 {
-            return false;
+    for _ in 0..n {
+        if at == x {
+            return true;
         }
         at = get(cells, at, f);
-        left -= 1;
     }
-    true
+    at == x
 }
 
 // The first slot in order below the link i.
@@ -29,14 +27,12 @@ pub(crate) fn first_below(n: usize, cells: &[u32], i: u32) -> u32
     ensures { result ≡ first_below n cells.now i }
 {
     let mut at = i;
-    let mut left = n;
-    while 0 < left {
+    for _ in 0..n {
         let l = get(cells, at, LEFT);
         if l == NULL {
             return at;
         }
         at = l;
-        left -= 1;
     }
     at
 }
@@ -46,23 +42,21 @@ pub(crate) fn next_above(n: usize, cells: &[u32], i: u32) -> u32
     ensures { result ≡ next_above n cells.now i }
 {
     let mut at = i;
-    let mut left = n;
-    while 0 < left {
+    for _ in 0..n {
         let p = get(cells, at, PARENT);
         if p == NULL {
             return NULL;
         }
-        let l = get(cells, p, LEFT);
-        if l == at {
+        if get(cells, p, LEFT) == at {
             return p;
         }
         at = p;
-        left -= 1;
     }
     NULL
 }
 
 // The slot next in order, null where there is none.
+#[tactic(auto, unfolding(night_rules::specs::Why::next_slot))]
 pub(crate) fn next_slot(n: usize, cells: &[u32], i: u32) -> u32
     ensures { result ≡ next_slot n cells.now i }
 {
@@ -74,6 +68,7 @@ pub(crate) fn next_slot(n: usize, cells: &[u32], i: u32) -> u32
 }
 
 // 1 for a black slot, 0 for another.
+#[tactic(auto, unfolding(night_rules::specs::Why::one_if_black))]
 pub(crate) fn one_if_black(cells: &[u32], i: u32) -> u32
     ensures { result ≡ one_if_black cells.now i }
 {
@@ -89,17 +84,14 @@ pub(crate) fn blacks_above(n: usize, cells: &[u32], i: u32) -> usize
     ensures { result ≡ blacks_above n cells.now i }
 {
     let mut at = i;
-    let mut left = n;
-    let mut m: usize = 0;
-    while 0 < left {
+    let mut m = 0;
+    for _ in 0..n {
         let p = get(cells, at, PARENT);
         if p == NULL {
             return m;
         }
-        let one = one_if_black(cells, p);
+        m += one_if_black(cells, p) as usize;
         at = p;
-        left -= 1;
-        m += one as usize;
     }
     m
 }
@@ -110,21 +102,14 @@ fn lefts(n: usize, cells: &[u32], p: u32, k: usize) -> WayDown
     ensures { way_of result ≡ way_on n cells.now p leftward k }
 {
     let mut at = p;
-    let mut left = n;
     let mut m = k;
-    while 0 < left {
+    for _ in 0..n {
         let q = get(cells, at, LEFT);
         if q == NULL {
-            return WayDown {
-                last: at,
-                side: 0,
-                blacks: m as u32,
-            };
+            break;
         }
-        let one = one_if_black(cells, q);
+        m += one_if_black(cells, q) as usize;
         at = q;
-        left -= 1;
-        m += one as usize;
     }
     WayDown {
         last: at,

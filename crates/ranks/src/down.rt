@@ -1,10 +1,9 @@
 // The two ways down a tree by the sizes of left subtrees. They end on any words: each takes at most so many steps.
 ghost use Rattle.std.specs.Prelude.{◌≡◌};
 ghost use Rattle.tree_rules.specs.Ranks.{kth_from, rank_from};
-ghost use Rattle.ranks.specs.Ways.{rank_of};
+ghost use Rattle.slots.specs.Coded.{value_of};
 
 use slots::{HASH, KEY, LEFT, NULL, RIGHT, comes_before, get, name, word};
-use std::num::wrapping_add_u32;
 
 // The slot at position k below root, counted from 0.
 pub(crate) fn kth_slot(cells: &[u32], sizes: &[u32], root: u32, k: u32, steps: u32) -> u32
@@ -12,9 +11,7 @@ pub(crate) fn kth_slot(cells: &[u32], sizes: &[u32], root: u32, k: u32, steps: u
 {
     let mut i = root;
     let mut rest = k;
-    let mut left = steps;
-    while 0 < left {
-        left -= 1;
+    for _left in (0..steps).rev() {
         let l = get(cells, i, LEFT);
         let w = word(sizes, l as usize, 0);
         if rest == w {
@@ -30,13 +27,6 @@ pub(crate) fn kth_slot(cells: &[u32], sizes: &[u32], root: u32, k: u32, steps: u
     NULL
 }
 
-// A position, or that the pair is not met.
-#[derive(Clone, Copy)]
-pub(crate) enum Rank {
-    At(u32),
-    Absent,
-}
-
 // The position of the pair below root. A sum begins again at 0 past the last word, as the model's does.
 pub(crate) fn pair_rank(
     names: &[u64],
@@ -46,16 +36,14 @@ pub(crate) fn pair_rank(
     hash: u64,
     key: u64,
     steps: u32,
-) -> Rank
-    ensures { rank_of result ≡ rank_from steps names.now cells.now sizes.now root hash key 0 }
+) -> Option<u32>
+    ensures { value_of result ≡ rank_from steps names.now cells.now sizes.now root hash key 0 }
 {
     let mut i = root;
     let mut m: u32 = 0;
-    let mut left = steps;
-    while 0 < left {
-        left -= 1;
+    for _left in (0..steps).rev() {
         if i == NULL {
-            return Rank::Absent;
+            return None;
         }
         let at = name(names, i, HASH);
         let own = name(names, i, KEY);
@@ -65,11 +53,11 @@ pub(crate) fn pair_rank(
         } else {
             let w = word(sizes, l as usize, 0);
             if !comes_before(at, own, hash, key) {
-                return Rank::At(wrapping_add_u32(m, w));
+                return Some(m.wrapping_add(w));
             }
-            m = wrapping_add_u32(wrapping_add_u32(m, w), 1);
+            m = m.wrapping_add(w).wrapping_add(1);
             i = get(cells, i, RIGHT);
         }
     }
-    Rank::Absent
+    None
 }

@@ -1,35 +1,40 @@
 // position: how many pairs come before a pair in order.
 ghost use Rattle.std.specs.Prelude.{◌≡◌};
-ghost use Rattle.slots.specs.Coded.{answer_of};
 ghost use Rattle.index_rules.specs.Live.{lent_tree};
 ghost use Rattle.index_rules.specs.Ranks.{positions};
-ghost use Rattle.ranks.specs.Calls.{position_of};
+ghost use Rattle.ranks.specs.Calls.{position_refusal_of, position_of};
+ghost use Rattle.ranks.specs.declared.position.PositionRefusal.TheVariants.{Unfit as PositionUnfit};
 
-use crate::down::{Rank, pair_rank};
-use index::sound::{Soundness, sound};
-use slots::answer::{Answer, given, refused};
+use crate::down::pair_rank;
+use index::sound::sound;
+use slots::answer::{Answer, Answers, Unfit, refused};
 use slots::{NULL, ROOT, word};
 
-// What position answers, with the number of each refusal.
+// Why position refuses, with the number of each reason.
 #[derive(Clone, Copy)]
-pub enum Positioned {
-    At(u32), // the position
+pub enum PositionRefusal {
     Unfit, // 1
     Damaged, // 2
     Absent, // 4
 }
 
-impl Positioned {
-    // The number and the value.
-    pub fn answer(self) -> Answer
-        ensures { answer_of result ≡ (position_of self) }
-    {
+impl Answers for PositionRefusal {
+    ghost told = { position_refusal_of };
+
+    fn answer(self) -> Answer {
         match self {
-            Positioned::At(k) => given(k),
-            Positioned::Unfit => refused(1),
-            Positioned::Damaged => refused(2),
-            Positioned::Absent => refused(4),
+            PositionRefusal::Unfit => refused(1),
+            PositionRefusal::Damaged => refused(2),
+            PositionRefusal::Absent => refused(4),
         }
+    }
+}
+
+impl From<Unfit> for PositionRefusal {
+    ghost from_gives = { λ _ r. r ≡ PositionUnfit };
+
+    fn from(_unfit: Unfit) -> PositionRefusal {
+        PositionRefusal::Unfit
     }
 }
 
@@ -41,29 +46,14 @@ pub fn position(
     sizes: &[u32],
     hash: u64,
     key: u64,
-) -> Positioned
+) -> Result<u32, PositionRefusal>
     ensures { position_of result
         ≡ positions (lent_tree names.now cells.now head.now sizes.now) hash key }
 {
-    let verdict = sound(names, cells, head, sizes);
-    match verdict {
-        Soundness::Unfit => Positioned::Unfit,
-        Soundness::No => Positioned::Damaged,
-        Soundness::Yes => {
-            let root = word(head, ROOT, NULL);
-            let rank = pair_rank(
-                names,
-                cells,
-                sizes,
-                root,
-                hash,
-                key,
-                (names.len() / 2) as u32,
-            );
-            match rank {
-                Rank::At(k) => Positioned::At(k),
-                Rank::Absent => Positioned::Absent,
-            }
-        }
+    if !sound(names, cells, head, sizes)? {
+        return Err(PositionRefusal::Damaged);
     }
+    let root = word(head, ROOT, NULL);
+    let n = (names.len() / 2) as u32;
+    pair_rank(names, cells, sizes, root, hash, key, n).ok_or(PositionRefusal::Absent)
 }

@@ -1,6 +1,7 @@
 -- Every claim of the crate holds: what a call returns and leaves is read back off its outcome.
 use mathlib.Core.Path.{◌≡◌, refl, ap, sym, ◌∙◌}
 use Prim.Native.Nat.{ℕ}
+use Rattle.std.specs.Prelude.{Option, None, Some, Ok, Err}
 use lib.Dec.{eqb}
 use Rattle.slots.specs.Words.{pick}
 use Rattle.slots.specs.Answers.{Value, some, none}
@@ -9,63 +10,58 @@ use Rattle.slots.proofs.Laws.{told_apart}
 use Rattle.index_rules.specs.Index.{Index, lent}
 use Rattle.upload_rules.specs.Reader.{Note as Noting, unsaid, said, Reader as Words}
 use Rattle.upload_rules.specs.Reading.{ReadOutcome}
-use Rattle.reader.specs.Meanings.{reply_of, note_of, words_of, reading_of}
+use Rattle.reader.specs.Meanings.{Reply, reply_of, note_of, words_of, reading_of}
 use Rattle.reader.specs.Claims.{ReadReturned, returned_by, Claims}
 use Rattle.reader.specs.Notes.{note_at_of}
 use Rattle.upload_rules.specs.Notes.{NoteSaid, known, unknown}
 use Rattle.reader.proofs.Noting.{word_back, said_back}
-use Rattle.reader.specs.declared.notes.NoteAt.{NoteAt}
-use Rattle.reader.specs.declared.notes.NoteAt.TheVariants.{Known, Unknown}
-use Rattle.reader.specs.declared.reply.Reply.{Reply}
-use Rattle.reader.specs.declared.reply.Reply.TheVariants.{Given, Unfit, Damaged, Present, Full, JournalFull, BadMark, Misfit, Short}
-use Rattle.reader.specs.declared.reply.Reply.TheVariants.{Long, WrongKind}
-use Rattle.reader.specs.declared.words.Note.{Note}
-use Rattle.reader.specs.declared.words.Note.TheVariants.{Unsaid, Said}
+use Rattle.reader.specs.declared.reply.ReadRefusal.TheVariants.{Unfit, Damaged, Present, Full, JournalFull, BadMark, Misfit, Short}
+use Rattle.reader.specs.declared.reply.ReadRefusal.TheVariants.{Long, WrongKind}
 use Rattle.reader.specs.declared.words.Reader.{Reader}
 use Rattle.reader.specs.declared.read.Read.{Read}
 
 abbrev reply_back : ℕ → Value → Reply
-reply_back number (some v) = pick (eqb number 0) (Given v) (Present v)
+reply_back number (some v) = pick (eqb number 0) (Ok v) (Err (Present v))
 reply_back number none =
-    pick (eqb number 1) Unfit
+    Err (pick (eqb number 1) Unfit
     (pick (eqb number 2) Damaged
     (pick (eqb number 5) Full
     (pick (eqb number 6) JournalFull
-    (pick (eqb number 7) BadMark (pick (eqb number 8) Misfit (pick (eqb number 12) Short (pick (eqb number 13) Long WrongKind)))))))
+    (pick (eqb number 7) BadMark (pick (eqb number 8) Misfit (pick (eqb number 12) Short (pick (eqb number 13) Long WrongKind))))))))
 
 reply_back_lem : (r : Reply) → reply_back (reply_of r).number (reply_of r).value ≡ r
-reply_back_lem (Given v) = refl
-reply_back_lem Unfit = refl
-reply_back_lem Damaged = refl
-reply_back_lem (Present v) = refl
-reply_back_lem Full = refl
-reply_back_lem JournalFull = refl
-reply_back_lem BadMark = refl
-reply_back_lem Misfit = refl
-reply_back_lem Short = refl
-reply_back_lem Long = refl
-reply_back_lem WrongKind = refl
+reply_back_lem (Ok v) = refl
+reply_back_lem (Err Unfit) = refl
+reply_back_lem (Err Damaged) = refl
+reply_back_lem (Err (Present v)) = refl
+reply_back_lem (Err Full) = refl
+reply_back_lem (Err JournalFull) = refl
+reply_back_lem (Err BadMark) = refl
+reply_back_lem (Err Misfit) = refl
+reply_back_lem (Err Short) = refl
+reply_back_lem (Err Long) = refl
+reply_back_lem (Err WrongKind) = refl
 
-abbrev note_back : Noting → Note
-note_back unsaid = Unsaid
-note_back (said a) = Said (reply_back a.number a.value)
+abbrev note_back : Noting → Option Reply
+note_back unsaid = None
+note_back (said a) = Some (reply_back a.number a.value)
 
-note_back_lem : (n : Note) → note_back (note_of n) ≡ n
-note_back_lem Unsaid = refl
-note_back_lem (Said r) = ap Said (reply_back_lem r)
+note_back_lem : (n : Option Reply) → note_back (note_of n) ≡ n
+note_back_lem None = refl
+note_back_lem (Some r) = ap Some (reply_back_lem r)
 
-abbrev note_at_back : NoteSaid → NoteAt
-note_at_back (known n) = Known (note_back n)
-note_at_back unknown = Unknown
+abbrev note_at_back : NoteSaid → Option (Option Reply)
+note_at_back (known n) = Some (note_back n)
+note_at_back unknown = None
 
-note_at_back_lem : (n : NoteAt) → note_at_back (note_at_of n) ≡ n
-note_at_back_lem (Known n) = ap Known (note_back_lem n)
-note_at_back_lem Unknown = refl
+note_at_back_lem : (n : Option (Option Reply)) → note_at_back (note_at_of n) ≡ n
+note_at_back_lem (Some n) = ap Some (note_back_lem n)
+note_at_back_lem None = refl
 
-notes : (a b : NoteAt) → note_at_of a ≡ note_at_of b → a ≡ b
+notes : (a b : Option (Option Reply)) → note_at_of a ≡ note_at_of b → a ≡ b
 notes = told_apart note_at_of note_at_back note_at_back_lem
 
-abbrev noted : Words → Note → Reader
+abbrev noted : Words → Option Reply → Reader
 noted w n =
     record { section = w.section; got = w.got; owed = w.owed; hash = w.hash; key = w.key; mark = w.mark; taken = w.taken; note = n }
 

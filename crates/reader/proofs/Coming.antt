@@ -3,7 +3,7 @@ use mathlib.Core.Path.{◌≡◌, refl, ap, sym, ◌∙◌, subst}
 use mathlib.Core.Logic.{◌≢◌}
 use mathlib.Core.Bool.{Bool, true, false}
 use mathlib.Core.List.{List, [], ◌∷◌}
-use Prim.Native.Nat.{ℕ, ◌+◌, ◌-◌, ◌*◌, ◌/◌, ◌<◌, ◌≤◌}
+use Prim.Native.Nat.{ℕ, ◌+◌, ◌-◌, ◌*◌, ◌<◌, ◌≤◌}
 use native.Mathlib.Decide.{dec_lt}
 use native.Mathlib.Omega.{arith}
 use lib.Dec.{eqb, ltb}
@@ -14,11 +14,11 @@ use Rattle.index_rules.specs.Index.{Index, Outcome, outcome, fits_index, length_
 use Rattle.index_rules.specs.Sound.{sound}
 use Rattle.index_rules.specs.Insert.{inserts}
 use Rattle.index_rules.specs.Rollback.{rolls}
-use Rattle.upload_rules.specs.Reader.{Note, unsaid, said, Reader, reader_of, new_reader, noting, FitReader, fits_reader, is_open}
-use Rattle.upload_rules.specs.Reader.{reader_answer}
-use Rattle.upload_rules.specs.Reading.{Session, session, ReadOutcome, read_outcome, goes_up, back_mark, turned_down, count_byte, name_byte}
+use Rattle.upload_rules.specs.Reader.{Note, unsaid, said, Reader, new_reader, noting, FitReader, fits_reader, is_open}
+use Rattle.upload_rules.specs.Reader.{note_answer, reader_answer}
+use Rattle.upload_rules.specs.Reading.{Session, session, ReadOutcome, read_outcome, goes_up, back_mark, turned_down, name_byte}
 use Rattle.upload_rules.specs.Reading.{owing}
-use Rattle.upload_rules.specs.Reading.{kind_came, count_came, in_hash, entry_came, entry_place, came_of, last_came, byte_came, byte_read}
+use Rattle.upload_rules.specs.Reading.{entry_place, came_of, last_came, byte_came, byte_read}
 use Rattle.upload_rules.specs.Reading.{bytes_read, end_came}
 use Rattle.upload_rules.specs.Reading.{end_read, read_chunk, read_end, read_start}
 use Rattle.index_rules.specs.Checked.{sounds_index}
@@ -35,18 +35,6 @@ goes_up_lem a = go (eqb a.number 0)
     go : (t : Bool) → pick t a a ≡ a
     go true = refl
     go false = refl
-
--- The tests settle to which mark a refusal is rolled back: a journal of length n, the start's mark m, and t entries taken since.
-module _ {n k : ℕ} (m t : ℕ) (is : k ≡ n) where
-  pub cut_below : k < m → null ≡ pick (ltb n (m + t)) null m
-  cut_below l = rw (lt-ltb n (m + t) (omega arith))
-
-  module _ (below : m ≤ k) where
-    pub cut_above : k - m < t → null ≡ pick (ltb n (m + t)) null m
-    cut_above l = rw (lt-ltb n (m + t) (omega arith))
-
-    pub uncut : t ≤ k - m → m ≡ pick (ltb n (m + t)) null m
-    uncut l = rw (le-ltb n (m + t) (omega arith))
 
 module _ (r : Reader) (ix : Index) where
   -- A mark above the length is refused as any other one is.
@@ -88,15 +76,6 @@ module _ (r : Reader) (ix : Index) where
 
 module _ (r : Reader) (ix : Index) where
   module _ (b : ℕ) where
-    pub kind_right : {s : Reader} → b ≡ r.section + 1 → s ≡ reader_of r.section 1 0 0 0 r.mark r.taken unsaid
-        → session s ix ≡ kind_came r ix b
-    unfolding kind_came
-    kind_right e f = rw (eq-eqb b (r.section + 1) e) (ap (λ (x : Reader). session x ix) f)
-
-    pub kind_wrong : {d : Session} → b ≢ r.section + 1 → d ≡ turned_down r ix (refused 18) → d ≡ kind_came r ix b
-    unfolding kind_came
-    kind_wrong n f = rw (ne_eqb b (r.section + 1) n) f
-
     -- An entry's last byte, by what the insert comes to.
     module _ {k : ℕ} {a : Answer} {jx : Index} (e : k ≡ name_byte r.key b)
         (f : outcome a jx ≡ inserts ix r.hash k (3 * r.section + 3 + 16 * r.taken)) where
@@ -115,31 +94,6 @@ module _ (r : Reader) (ix : Index) where
       last_denied {t} n d g q =
           last_refused n g (down r jx t (d (back_mark r jx)) (g ∙ sym (goes_up_lem a) ∙ ap (λ (z : Answer). goes_up z a) (sym g)) q)
 
-    pub came_long : {d : Session} → r.section ≡ 4 → d ≡ turned_down r ix (refused 13) → d ≡ byte_came r ix b
-    unfolding byte_came
-    came_long e f = rw (eq-eqb r.section 4 e) f
-
-    module _ (n4 : r.section ≢ 4) where
-      pub came_kind : r.got ≡ 0 → kind_came r ix b ≡ byte_came r ix b
-      unfolding byte_came
-      came_kind e = rw (ne_eqb r.section 4 n4, eq-eqb r.got 0 e)
-
-      module _ (n0 : r.got ≢ 0) where
-        pub came_count : {s : Reader} → r.got < 3 → s ≡ count_came r b → session s ix ≡ byte_came r ix b
-        unfolding byte_came
-        came_count l f = rw (ne_eqb r.section 4 n4, ne_eqb r.got 0 n0, lt-ltb r.got 3 l) (ap (λ (x : Reader). session x ix) f)
-
-        module _ (l3 : 3 ≤ r.got) where
-          pub came_entry : {s : Reader} → r.got < 18 → s ≡ entry_came r b → session s ix ≡ byte_came r ix b
-          unfolding byte_came
-          came_entry g f =
-              rw (ne_eqb r.section 4 n4, ne_eqb r.got 0 n0, le-ltb r.got 3 l3, lt-ltb r.got 18 g)
-              (ap (λ (x : Reader). session x ix) f)
-
-          pub came_last : 18 ≤ r.got → last_came r ix b ≡ byte_came r ix b
-          unfolding byte_came
-          came_last g = rw (ne_eqb r.section 4 n4, ne_eqb r.got 0 n0, le-ltb r.got 3 l3, le-ltb r.got 18 g)
-
     pub read-noted : {a : Answer} → r.note ≡ said a → session r ix ≡ byte_read (session r ix) b
     unfolding byte_read
     read-noted e = sym (ap (λ (n : Note). pick (is_open n) (byte_came r ix b) (session r ix)) e)
@@ -153,36 +107,12 @@ module _ (r : Reader) (ix : Index) where
   all_noted e [] = refl
   all_noted e (b ∷ l) = rw (← read-noted b e) (all_noted e l)
 
-module _ (r : Reader) (b : ℕ) where
-  pub count_low : r.got ≡ 1 → reader_of r.section 2 (r.owed / 256 + 256 * b) 0 0 r.mark r.taken unsaid ≡ count_came r b
-  unfolding count_came count_byte
-  count_low g = rw (eq-eqb r.got 1 g)
-
-  pub count_high : {s : Reader} → r.got ≢ 1 → s ≡ owing r (r.owed / 256 + 256 * b) r.taken → s ≡ count_came r b
-  unfolding count_came count_byte
-  count_high g q = rw (ne_eqb r.got 1 g) q
-
-  pub entry_hash : {x : ℕ} → r.got < 11 → x ≡ name_byte r.hash b
-      → reader_of r.section (r.got + 1) r.owed x r.key r.mark r.taken unsaid ≡ entry_came r b
-  unfolding entry_came in_hash
-  entry_hash l e = rw (lt-ltb r.got 11 l, e)
-
-  pub entry_key : {x : ℕ} → 11 ≤ r.got → x ≡ name_byte r.key b
-      → reader_of r.section (r.got + 1) r.owed r.hash x r.mark r.taken unsaid ≡ entry_came r b
-  unfolding entry_came in_hash
-  entry_key l e = rw (le-ltb r.got 11 l, e)
-
-module _ (r : Reader) (ix : Index) where
-  pub end_whole : {s : Reader} → r.section ≡ 4 → s ≡ noting r (given r.taken) → session s ix ≡ end_came r ix
-  unfolding end_came
-  end_whole e f = rw (eq-eqb r.section 4 e) (ap (λ (x : Reader). session x ix) f)
-
-  pub end_short : {d : Session} → r.section ≢ 4 → d ≡ turned_down r ix (refused 12) → d ≡ end_came r ix
-  unfolding end_came
-  end_short n f = rw (ne_eqb r.section 4 n) f
-
 abbrev answered : Session → ReadOutcome
 answered d = read_outcome (reader_answer d.reader) d
+
+-- A noted answer is the call's.
+pub noted_answer : (r : Reader) {a : Answer} → r.note ≡ said a → a ≡ reader_answer r
+noted_answer r e = sym (ap (λ (n : Note). note_answer n r.taken) e)
 
 -- A call with a reader out of its range, and one in it.
 module _ (d : Session) {t : Bool} (test : t ≡ fits_reader d.reader) where
@@ -199,11 +129,12 @@ module _ (d : Session) {t : Bool} (test : t ≡ fits_reader d.reader) where
   unfolding read_end
   end_out e = rw (← test, e)
 
-  pub end_noted : {a b : Answer} → t ≡ true → d.reader.note ≡ said b → a ≡ reader_answer d.reader → read_outcome a d ≡ read_end d
+  pub end_noted : {a : Answer} → t ≡ true → d.reader.note ≡ said a → read_outcome a d ≡ read_end d
   unfolding read_end end_read
-  end_noted {a} y n g =
+  end_noted y n =
       rw (← test, y)
-      (ap (λ (x : Answer). read_outcome x d) g ∙ sym (ap (λ (x : Note). answered (pick (is_open x) (end_came d.reader d.index) d)) n))
+      (ap (λ (x : Answer). read_outcome x d) (noted_answer d.reader n)
+      ∙ sym (ap (λ (x : Note). answered (pick (is_open x) (end_came d.reader d.index) d)) n))
 
   pub end_on_lem : {e : Session} {a : Answer} → t ≡ true → d.reader.note ≡ unsaid → e ≡ end_came d.reader d.index
       → a ≡ reader_answer e.reader

@@ -1,22 +1,24 @@
 -- The word of a note and the note of a word, on plain values: the tests that led there settle those of the model.
 use Prim.{Unit, tt}
+use Rattle.std.specs.Prelude.{Option, None, Some, Ok, Err}
+use Rattle.std.specs.Option.{unwrap_or}
 use mathlib.Core.Path.{◌≡◌, refl, ap, sym, ◌∙◌, subst}
 use mathlib.Core.Logic.{◌≢◌}
-use Prim.Native.Nat.{ℕ, ◌+◌, ◌-◌, ◌*◌, ◌/◌, ◌%◌, ◌<◌, ◌≤◌}
+use Prim.Native.Nat.{ℕ, ◌+◌, ◌-◌, ◌*◌, ◌/◌, ◌%◌, ◌<◌}
 use native.Mathlib.Omega.{arith}
 use lib.Dec.{eqb}
 use borrow.Author.Tests.{eq-eqb, ne_eqb, eqb-true, eqb-false}
 use Rattle.slots.specs.Words.{pick}
 use Rattle.slots.specs.Answers.{Answer, Value, some, none, given, refused, answer_word, value_beside}
+use Rattle.slots.specs.Coded.{value_of}
 use Rattle.slots.proofs.Laws.{number, value}
 use Rattle.upload_rules.specs.Reader.{Note as Noting, unsaid, said}
 use Rattle.upload_rules.proofs.Ranges.{pick_by}
-use Rattle.reader.specs.Meanings.{reply_of}
+use Rattle.reader.specs.Meanings.{Reply, reply_of}
 use Rattle.reader.specs.Notes.{plain_at, note_with, note_at}
 use Rattle.upload_rules.specs.Notes.{NoteSaid, known, unknown, note_word}
-use Rattle.reader.specs.declared.reply.Reply.{Reply}
-use Rattle.reader.specs.declared.reply.Reply.TheVariants.{Given, Unfit, Damaged, Present, Full, JournalFull, BadMark, Misfit, Short}
-use Rattle.reader.specs.declared.reply.Reply.TheVariants.{Long, WrongKind}
+use Rattle.reader.specs.declared.reply.ReadRefusal.TheVariants.{Unfit, Damaged, Present, Full, JournalFull, BadMark, Misfit, Short}
+use Rattle.reader.specs.declared.reply.ReadRefusal.TheVariants.{Long, WrongKind}
 
 pub at_unsaid : (w : ℕ) → w ≡ 0 → known unsaid ≡ note_at w
 unfolding note_at
@@ -38,13 +40,6 @@ module _ (w : ℕ) (s : w ≢ 0) where
   at_present e f = f ∙ at_with 3 _ e refl
 
   module _ (n0 : (w - 1) / 4294967296 ≢ 0) (n3 : (w - 1) / 4294967296 ≢ 3) where
-    pub at_unknown : (w - 1) % 4294967296 ≢ 0 → unknown ≡ note_at w
-    unfolding note_with
-    at_unknown v =
-        let z : unknown ≡ note_with ((w - 1) / 4294967296) ((w - 1) % 4294967296) =
-        rw (ne_eqb ((w - 1) / 4294967296) 0 n0, ne_eqb ((w - 1) / 4294967296) 3 n3, ne_eqb ((w - 1) % 4294967296) 0 v) in
-        z ∙ at_with _ _ refl refl
-
     pub at_plain : {n : NoteSaid} → (w - 1) % 4294967296 ≡ 0 → n ≡ plain_at ((w - 1) / 4294967296) → n ≡ note_at w
     unfolding note_with
     at_plain v f =
@@ -58,22 +53,6 @@ told (some v) = 1
 told none = 0
 
 module _ (reply : Reply) {a : Answer} (e : a ≡ reply_of reply) where
-  pub number_small : a.number ≤ 18
-  number_small = rw (number e) (go reply)
-    where
-      go : (r : Reply) → (reply_of r).number ≤ 18
-      go (Given v) = omega arith
-      go (Present v) = omega arith
-      go Unfit = omega arith
-      go Damaged = omega arith
-      go Full = omega arith
-      go JournalFull = omega arith
-      go BadMark = omega arith
-      go Misfit = omega arith
-      go Short = omega arith
-      go Long = omega arith
-      go WrongKind = omega arith
-
   pub word_some : {v : ℕ} → a.value ≡ some v → 1 + (v + 4294967296 * a.number) ≡ 1 + answer_word (reply_of reply)
   unfolding answer_word
   word_some f = rw (← e, f)
@@ -83,36 +62,41 @@ module _ (reply : Reply) {a : Answer} (e : a ≡ reply_of reply) where
   word_none f = rw (← e, f, ne_eqb a.number 0 (λ z. go reply (sym (value e) ∙ f) (sym (number e) ∙ z)))
     where
       go : (r : Reply) → (reply_of r).value ≡ none → (reply_of r).number ≢ 0
-      go (Given v) g z = omega (arith, ap told g)
-      go (Present v) g z = omega arith
-      go Unfit g z = omega arith
-      go Damaged g z = omega arith
-      go Full g z = omega arith
-      go JournalFull g z = omega arith
-      go BadMark g z = omega arith
-      go Misfit g z = omega arith
-      go Short g z = omega arith
-      go Long g z = omega arith
-      go WrongKind g z = omega arith
+      go (Ok v) g z = omega (arith, ap told g)
+      go (Err (Present v)) g z = omega arith
+      go (Err Unfit) g z = omega arith
+      go (Err Damaged) g z = omega arith
+      go (Err Full) g z = omega arith
+      go (Err JournalFull) g z = omega arith
+      go (Err BadMark) g z = omega arith
+      go (Err Misfit) g z = omega arith
+      go (Err Short) g z = omega arith
+      go (Err Long) g z = omega arith
+      go (Err WrongKind) g z = omega arith
+
+pub word_packed : (reply : Reply) (n : ℕ) (o : Option ℕ) → ◌≡◌ {A = Answer} (record { number = n; value = value_of o }) (reply_of reply)
+    → 1 + (unwrap_or o 0 + 4294967296 * n) ≡ 1 + answer_word (reply_of reply)
+word_packed reply n (Some v) e = word_some reply e refl
+word_packed reply n None e = word_none reply e refl
 
 -- What a noted answer's word says is that answer.
 pub word_back : (reply : Reply) → value_beside 0 (reply_of reply).number (reply_of reply).value < 4294967296
     → note_at (note_word (said (reply_of reply))) ≡ known (said (reply_of reply))
 unfolding note_at note_with plain_at note_word answer_word
-word_back (Given v) l =
+word_back (Ok v) l =
     sym (at-given (1 + (v + 4294967296 * 0)) (λ z. omega arith) (omega arith) (ap (λ (x : ℕ). known (said (given x))) (omega arith)))
-word_back (Present v) l =
+word_back (Err (Present v)) l =
     sym (at_present (1 + (v + 4294967296 * 3)) (λ z. omega arith) (omega arith)
     (ap (λ (x : ℕ). known (said (record { number = 3; value = some x }))) (omega arith)))
-word_back Unfit l = refl
-word_back Damaged l = refl
-word_back Full l = refl
-word_back JournalFull l = refl
-word_back BadMark l = refl
-word_back Misfit l = refl
-word_back Short l = refl
-word_back Long l = refl
-word_back WrongKind l = refl
+word_back (Err Unfit) l = refl
+word_back (Err Damaged) l = refl
+word_back (Err Full) l = refl
+word_back (Err JournalFull) l = refl
+word_back (Err BadMark) l = refl
+word_back (Err Misfit) l = refl
+word_back (Err Short) l = refl
+word_back (Err Long) l = refl
+word_back (Err WrongKind) l = refl
 
 -- What a word is known to say has this word.
 abbrev Has : ℕ → NoteSaid → Type 0

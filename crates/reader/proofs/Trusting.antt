@@ -1,6 +1,8 @@
 -- One check for a chunk: on a ready index the calls without the check are the calls, and what they leave is ready.
 use mathlib.Core.Path.{◌≡◌, refl, ap, sym, ◌∙◌, subst}
+use mathlib.Core.Logic.{◌≢◌}
 use mathlib.Core.Bool.{Bool, true, false, false≢true}
+use Rattle.std.specs.Prelude.{Result, Err}
 use mathlib.Core.List.{List, [], ◌∷◌}
 use Prim.Native.Nat.{ℕ, zero, suc, ◌+◌, ◌<◌, ◌≤◌}
 use native.Mathlib.Numerals.{add-one}
@@ -16,6 +18,9 @@ use Rattle.index_rules.specs.Checked.{NoneBelow, Passes, Ready, sounds_index, ra
 use Rattle.index_rules.specs.Claims.{OnceChecked}
 use Rattle.index_rules.proofs.Claims.{claims}
 use Rattle.index.proofs.Singly.{insert_unfit, insert_damaged, rollback_unfit, rollback_damaged}
+use Rattle.index.specs.Calls.{insert_refusal_of, inserted_of}
+use Rattle.index.specs.declared.insert.InsertRefusal.{InsertRefusal}
+use Rattle.index.specs.declared.insert.InsertRefusal.TheVariants.{Unfit, Damaged, Present, Full, JournalFull}
 use Rattle.upload_rules.specs.Reader.{unsaid, said, Reader, FitReader}
 use Rattle.upload_rules.specs.Reading.{Session, session, byte_came, byte_read, bytes_read}
 use Rattle.upload_rules.proofs.Ranges.{byte_range}
@@ -25,9 +30,6 @@ use Rattle.reader.proofs.Coming.{read_on_lem, all_noted}
 -- What was not checked is not said to be ready.
 pub unchecked : {A : Type 0} → false ≡ true → A
 unchecked e = absurd (false≢true e)
-
-pub passes_of : {ix : Index} {checked : Bool} {floor : ℕ} → (checked ≡ true → Ready ix floor) → checked ≡ true → Passes ix
-passes_of r e = (r e).passes
 
 pub rolls_on : (ix : Index) (m : ℕ) {o : Outcome} → Passes ix → o ≡ rolls_sound ix m → o ≡ rolls ix m
 rolls_on ix m p e = e ∙ (claims.once_checked ix p.fit p.sound).rollback m
@@ -61,13 +63,20 @@ module _ (ix : Index) (hash key p : ℕ) where
   entry_damaged e =
       record { same = insert_damaged ix e hash key p; ready = unchecked; denied = λ z. ((λ y. omega arith), rollback_damaged ix e) }
 
--- A step that notes an answer, and one told otherwise.
+-- An insert that is refused has a number.
+pub insert_refused : {r : Result ℕ InsertRefusal} {e : InsertRefusal} → r ≡ Err e → (inserted_of r).number ≢ 0
+insert_refused {r} {e} h z = go e (sym (ap (λ (x : Result ℕ InsertRefusal). (inserted_of x).number) h) ∙ z)
+  where
+    go : (e : InsertRefusal) → (insert_refusal_of e).number ≢ 0
+    go Unfit y = omega arith
+    go Damaged y = omega arith
+    go (Present slot) y = omega arith
+    go Full y = omega arith
+    go JournalFull y = omega arith
+
+-- A step that notes an answer.
 pub step_down : {d : Session} {r : Reader} {ix : Index} → session r ix ≡ d → Stepped d r false 0 ix
 step_down e = record { same = e; ready = unchecked }
-
-pub step_as : {d e : Session} {r : Reader} {checked : Bool} {floor : ℕ} {ix : Index} → d ≡ e → Stepped d r checked floor ix
-    → Stepped e r checked floor ix
-step_as e s = record { same = s.same ∙ e; ready = s.ready }
 
 -- The bytes from a place on are the byte there and those after it; past the end there are none.
 from : (l : List ℕ) (i : ℕ) → i < length l → drop i l ≡ get_or l i 0 ∷ drop (i + 1) l
@@ -135,21 +144,8 @@ module _ {start : Session} {l : List ℕ} {r : Reader} {checked : Bool} {floor :
       }
 
   -- After an answer is noted the bytes left change nothing.
-  pub turn_noted : {a : Answer} → r.note ≡ said a → Turn start l r checked floor ix (length l)
-  unfolding bytes_read
-  turn_noted note =
-      let none : session r ix ≡ bytes_read (session r ix) (drop (length l) l) = rw (past l (length l) (omega arith)) in
-      record {
-        same = sym none ∙ sym (all_noted r ix note (drop i l)) ∙ turn.same;
-        fit = turn.fit;
-        ready = turn.ready;
-        within = omega arith;
-        names = turn.names;
-        cells = turn.cells;
-        head = turn.head;
-        sizes = turn.sizes;
-        lines = turn.lines;
-      }
+  pub turn_noted : {a : Answer} → r.note ≡ said a → session r ix ≡ bytes_read start l
+  turn_noted note = sym (all_noted r ix note (drop i l)) ∙ turn.same
 
   pub turn_end : length l ≤ i → session r ix ≡ bytes_read start l
   unfolding bytes_read

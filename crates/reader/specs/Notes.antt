@@ -1,16 +1,14 @@
 -- The note of a word.
-use Rattle.std.specs.Prelude.{ℕ, ◌-◌, ◌/◌, ◌%◌, eqb}
+use Rattle.std.specs.Prelude.{Option, None, Some, ℕ, ◌-◌, ◌/◌, ◌%◌, eqb}
 use Rattle.slots.specs.Words.{pick}
 use Rattle.slots.specs.Answers.{some, given, refused}
 use Rattle.upload_rules.specs.Reader.{unsaid, said}
 use Rattle.upload_rules.specs.Notes.{NoteSaid, known, unknown}
-use Rattle.reader.specs.Meanings.{note_of}
-use Rattle.reader.specs.declared.notes.NoteAt.{NoteAt}
-use Rattle.reader.specs.declared.notes.NoteAt.TheVariants.{Known, Unknown}
+use Rattle.reader.specs.Meanings.{Reply, note_of}
 
-abbrev pub note_at_of : NoteAt → NoteSaid
-note_at_of (Known note) = known (note_of note)
-note_at_of Unknown = unknown
+abbrev pub note_at_of : Option (Option Reply) → NoteSaid
+note_at_of (Some note) = known (note_of note)
+note_at_of None = unknown
 
 -- A refusal that has no value with it.
 unfoldable pub plain_at : ℕ → NoteSaid

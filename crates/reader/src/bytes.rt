@@ -6,6 +6,7 @@ ghost use Rattle.reader.specs.Meanings.{words_of};
 use crate::words::{Reader, unsaid};
 
 // So many entries are to come in the section: the next one, or else the next section.
+#[tactic(auto, unfolding(upload_rules::specs::Reading::owing))]
 pub(crate) fn owe(r: Reader, owed: u64, taken: u64) -> Reader
     requires { r.section ≤ 4 }
     ensures { words_of result ≡ owing (words_of r) owed taken }
@@ -17,6 +18,7 @@ pub(crate) fn owe(r: Reader, owed: u64, taken: u64) -> Reader
 }
 
 // A byte of the count.
+#[tactic(auto, unfolding(upload_rules::specs::Reading::count_came, upload_rules::specs::Reading::count_byte))]
 pub(crate) fn take_count(r: Reader, b: u8) -> Reader
     requires { r.section ≤ 4 }
     ensures { words_of result ≡ count_came (words_of r) b }
@@ -32,6 +34,7 @@ pub(crate) fn take_count(r: Reader, b: u8) -> Reader
 const TOP: u64 = 72057594037927936;
 
 // A hash or a key with the next of its bytes on top, where the lowest byte goes.
+#[tactic(auto, unfolding(upload_rules::specs::Reading::name_byte))]
 pub(crate) fn name_byte(x: u64, b: u8) -> u64
     ensures { result ≡ name_byte x b }
 {
@@ -39,6 +42,7 @@ pub(crate) fn name_byte(x: u64, b: u8) -> u64
 }
 
 // A byte of an entry that is not its last.
+#[tactic(auto, unfolding(upload_rules::specs::Reading::entry_came, upload_rules::specs::Reading::in_hash))]
 pub(crate) fn take_entry(r: Reader, b: u8) -> Reader
     requires { r.got ≤ 18 }
     ensures { words_of result ≡ entry_came (words_of r) b }

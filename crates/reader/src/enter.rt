@@ -7,14 +7,14 @@ ghost use Rattle.index.specs.Rolls.{rolled_of};
 ghost use Rattle.index_rules.specs.Checked.{Passes, Ready};
 ghost use Rattle.reader.specs.Trusting.{EntryMade};
 
-use index::insert::{Inserted, insert_sound};
-use index::rollback::{RolledBack, rollback, rollback_sound};
-use index::sound::{Soundness, sound_index};
+use index::insert::{InsertRefusal, insert_sound, raise};
+use index::rollback::{RollbackRefusal, rollback, rollback_sound};
+use index::sound::sound_index;
 
 // What an insert answered, whether the check has said yes, and then a slot below which none is free.
 #[derive(Clone, Copy)]
 pub(crate) struct Entered {
-    pub inserted: Inserted,
+    pub inserted: Result<u32, InsertRefusal>,
     pub checked: bool,
     pub floor: u32,
 }
@@ -38,11 +38,10 @@ fn enter_sound(
         (lent names.new cells.new head.new sizes.new lines.new) }
 {
     let inserted = insert_sound(names, cells, head, sizes, lines, floor, hash, key, place);
-    let raised = inserted.raise(floor);
     Entered {
         inserted,
         checked: true,
-        floor: raised,
+        floor: raise(inserted, floor),
     }
 }
 
@@ -68,23 +67,23 @@ pub(crate) fn enter(
     if checked {
         return enter_sound(names, cells, head, sizes, lines, floor, hash, key, place);
     }
-    let verdict = sound_index(names, cells, head, sizes, lines);
-    match verdict {
-        Soundness::Unfit => Entered {
-            inserted: Inserted::Unfit,
+    match sound_index(names, cells, head, sizes, lines) {
+        Err(unfit) => Entered {
+            inserted: Err(unfit.into()),
             checked: false,
             floor: 0,
         },
-        Soundness::No => Entered {
-            inserted: Inserted::Damaged,
+        Ok(false) => Entered {
+            inserted: Err(InsertRefusal::Damaged),
             checked: false,
             floor: 0,
         },
-        Soundness::Yes => enter_sound(names, cells, head, sizes, lines, 0, hash, key, place),
+        Ok(true) => enter_sound(names, cells, head, sizes, lines, 0, hash, key, place),
     }
 }
 
 // rollback, with the check where the chunk has made none.
+#[tactic(auto, using(crate::proofs::Trusting::rolls_on))]
 pub(crate) fn back_to(
     names: &mut [u64],
     cells: &mut [u32],
@@ -93,7 +92,7 @@ pub(crate) fn back_to(
     lines: &mut [u64],
     checked: bool,
     mark: u32,
-) -> RolledBack
+) -> Result<u32, RollbackRefusal>
     requires { checked ≡ true → Passes (lent names.old cells.old head.old sizes.old lines.old) }
     ensures { outcome (rolled_of result)
         (lent names.new cells.new head.new sizes.new lines.new)

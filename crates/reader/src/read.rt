@@ -5,11 +5,11 @@ ghost use Rattle.upload_rules.specs.Reader.{FitReader, new_reader};
 ghost use Rattle.upload_rules.specs.Reading.{session, read_start, read_chunk, end_came, read_end};
 ghost use Rattle.reader.specs.Meanings.{words_of, reading_of};
 
-use crate::reply::Reply;
+use crate::reply::{ReadRefusal, Reply};
 use crate::steps::{Reading, take, turn_down};
-use crate::words::{Note, Reader, fits_reader, noting, reply_of, unsaid};
+use crate::words::{Reader, fits_reader, noting, reply_of, unsaid};
 use index::journal::length_of;
-use index::sound::{Soundness, sound_index};
+use index::sound::sound_index;
 
 // What a call answers, and the reader after it.
 #[derive(Clone, Copy)]
@@ -26,6 +26,7 @@ fn new_reader(mark: u32) -> Reader
 }
 
 // The end of the bytes, nothing being noted.
+#[tactic(auto, using(crate::proofs::Ranging::few_taken), unfolding(upload_rules::specs::Reading::end_came))]
 fn close(
     names: &mut [u64],
     cells: &mut [u32],
@@ -41,9 +42,18 @@ fn close(
         (lent names.old cells.old head.old sizes.old lines.old) }
 {
     if r.section == 4 {
-        return noting(r, Reply::Given(r.taken as u32));
+        return noting(r, Ok(r.taken as u32));
     }
-    turn_down(names, cells, head, sizes, lines, r, false, Reply::Short)
+    turn_down(
+        names,
+        cells,
+        head,
+        sizes,
+        lines,
+        r,
+        false,
+        ReadRefusal::Short,
+    )
 }
 
 impl Reader {
@@ -54,22 +64,20 @@ impl Reader {
             ≡ read_start (session (new_reader 0)
             (lent names.now cells.now head.now sizes.now lines.now)) }
     {
-        let verdict = sound_index(names, cells, head, sizes, lines);
-        match verdict {
-            Soundness::Unfit => Read {
-                reply: Reply::Unfit,
+        match sound_index(names, cells, head, sizes, lines) {
+            Err(_) => Read {
+                reply: Err(ReadRefusal::Unfit),
                 reader: new_reader(0),
             },
-            Soundness::No => Read {
-                reply: Reply::Damaged,
+            Ok(false) => Read {
+                reply: Err(ReadRefusal::Damaged),
                 reader: new_reader(0),
             },
-            Soundness::Yes => {
+            Ok(true) => {
                 let mark = length_of(lines);
-                let reader = new_reader(mark as u32);
                 Read {
-                    reply: Reply::Given(1),
-                    reader,
+                    reply: Ok(1),
+                    reader: new_reader(mark as u32),
                 }
             }
         }
@@ -92,10 +100,9 @@ impl Reader {
             (lent names.old cells.old head.old sizes.old lines.old))
             chunk.now }
     {
-        let fits = fits_reader(self);
-        if !fits {
+        if !fits_reader(self) {
             return Read {
-                reply: Reply::Unfit,
+                reply: Err(ReadRefusal::Unfit),
                 reader: self,
             };
         }
@@ -104,22 +111,18 @@ impl Reader {
             checked: false,
             floor: 0,
         };
-        let mut i = 0;
-        while i < chunk.len() {
-            let r = at.reader;
-            let note = r.note;
-            match note {
-                Note::Unsaid => {
-                    let next = take(names, cells, head, sizes, lines, at, chunk[i]);
-                    at = next;
-                    i += 1;
-                }
-                Note::Said(_) => i = chunk.len(),
+        for b in chunk {
+            let reader = at.reader;
+            if let Some(reply) = reader.note {
+                return Read { reply, reader };
             }
+            at = take(names, cells, head, sizes, lines, at, *b);
         }
         let reader = at.reader;
-        let reply = reply_of(reader);
-        Read { reply, reader }
+        Read {
+            reply: reply_of(reader),
+            reader,
+        }
     }
 
     // The upload has ended.
@@ -136,23 +139,22 @@ impl Reader {
             ≡ read_end (session (words_of self)
             (lent names.old cells.old head.old sizes.old lines.old)) }
     {
-        let fits = fits_reader(self);
-        if !fits {
+        if !fits_reader(self) {
             return Read {
-                reply: Reply::Unfit,
+                reply: Err(ReadRefusal::Unfit),
                 reader: self,
             };
         }
-        let note = self.note;
-        let Note::Unsaid = note else {
-            let reply = reply_of(self);
+        if let Some(reply) = self.note {
             return Read {
                 reply,
                 reader: self,
             };
-        };
+        }
         let reader = close(names, cells, head, sizes, lines, self);
-        let reply = reply_of(reader);
-        Read { reply, reader }
+        Read {
+            reply: reply_of(reader),
+            reader,
+        }
     }
 }

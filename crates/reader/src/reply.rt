@@ -1,19 +1,17 @@
 // What the reader's calls answer.
 ghost use Rattle.std.specs.Prelude.{◌≡◌};
-ghost use Rattle.slots.specs.Coded.{answer_of};
-ghost use Rattle.index.specs.Calls.{inserted_of};
-ghost use Rattle.index.specs.Rolls.{rolled_of};
+ghost use Rattle.index.specs.Calls.{insert_refusal_of};
+ghost use Rattle.index.specs.Rolls.{rollback_refusal_of, rolled_of};
 ghost use Rattle.upload_rules.specs.Reading.{goes_up};
-ghost use Rattle.reader.specs.Meanings.{reply_of};
+ghost use Rattle.reader.specs.Meanings.{read_refusal_of};
 
-use index::insert::Inserted;
-use index::rollback::RolledBack;
-use slots::answer::{Answer, Value, given, refused};
+use index::insert::InsertRefusal;
+use index::rollback::RollbackRefusal;
+use slots::answer::{Answer, Answers, refused};
 
-// What a call of the reader answers, with the number of each refusal.
+// Why the reader refuses, with the number of each reason.
 #[derive(Clone, Copy)]
-pub enum Reply {
-    Given(u32), // the entries taken since the start; of a start 1
+pub enum ReadRefusal {
     Unfit, // 1
     Damaged, // 2
     Present(u32), // 3, with the slot that has the pair
@@ -26,53 +24,70 @@ pub enum Reply {
     WrongKind, // 18
 }
 
-impl Reply {
-    // The number and the value.
-    pub fn answer(self) -> Answer
-        ensures { answer_of result ≡ (reply_of self) }
-    {
+// What a call of the reader answers: the entries taken since the start, of a start 1, or why it refuses.
+pub type Reply = Result<u32, ReadRefusal>;
+
+impl Answers for ReadRefusal {
+    ghost told = { read_refusal_of };
+
+    fn answer(self) -> Answer {
         match self {
-            Reply::Given(count) => given(count),
-            Reply::Unfit => refused(1),
-            Reply::Damaged => refused(2),
-            Reply::Present(slot) => Answer {
+            ReadRefusal::Unfit => refused(1),
+            ReadRefusal::Damaged => refused(2),
+            ReadRefusal::Present(slot) => Answer {
                 number: 3,
-                value: Value::Some(slot),
+                value: Some(slot),
             },
-            Reply::Full => refused(5),
-            Reply::JournalFull => refused(6),
-            Reply::BadMark => refused(7),
-            Reply::Misfit => refused(8),
-            Reply::Short => refused(12),
-            Reply::Long => refused(13),
-            Reply::WrongKind => refused(18),
+            ReadRefusal::Full => refused(5),
+            ReadRefusal::JournalFull => refused(6),
+            ReadRefusal::BadMark => refused(7),
+            ReadRefusal::Misfit => refused(8),
+            ReadRefusal::Short => refused(12),
+            ReadRefusal::Long => refused(13),
+            ReadRefusal::WrongKind => refused(18),
+        }
+    }
+}
+
+// A refusal of the insert is the reader's.
+impl From<InsertRefusal> for ReadRefusal {
+    ghost from_gives = { λ e r. read_refusal_of r ≡ insert_refusal_of e };
+
+    fn from(refusal: InsertRefusal) -> ReadRefusal {
+        match refusal {
+            InsertRefusal::Unfit => ReadRefusal::Unfit,
+            InsertRefusal::Damaged => ReadRefusal::Damaged,
+            InsertRefusal::Present(slot) => ReadRefusal::Present(slot),
+            InsertRefusal::Full => ReadRefusal::Full,
+            InsertRefusal::JournalFull => ReadRefusal::JournalFull,
+        }
+    }
+}
+
+// So is one of the rollback.
+impl From<RollbackRefusal> for ReadRefusal {
+    ghost from_gives = { λ e r. read_refusal_of r ≡ rollback_refusal_of e };
+
+    fn from(refusal: RollbackRefusal) -> ReadRefusal {
+        match refusal {
+            RollbackRefusal::Unfit => ReadRefusal::Unfit,
+            RollbackRefusal::Damaged => ReadRefusal::Damaged,
+            RollbackRefusal::BadMark => ReadRefusal::BadMark,
+            RollbackRefusal::Misfit => ReadRefusal::Misfit,
         }
     }
 }
 
 // The refusal, or that of the rollback where it is refused in turn.
-pub(crate) fn of_rolled(reply: Reply, back: RolledBack) -> Reply
-    ensures { reply_of result ≡ goes_up (reply_of reply) (rolled_of back) }
+#[tactic(auto, unfolding(upload_rules::specs::Reading::goes_up))]
+pub(crate) fn after_rollback(
+    refusal: ReadRefusal,
+    back: Result<u32, RollbackRefusal>,
+) -> ReadRefusal
+    ensures { read_refusal_of result ≡ goes_up (read_refusal_of refusal) (rolled_of back) }
 {
     match back {
-        RolledBack::Lines(_) => reply,
-        RolledBack::Unfit => Reply::Unfit,
-        RolledBack::Damaged => Reply::Damaged,
-        RolledBack::BadMark => Reply::BadMark,
-        RolledBack::Misfit => Reply::Misfit,
-    }
-}
-
-// What an insert answers.
-pub(crate) fn of_inserted(inserted: Inserted) -> Reply
-    ensures { reply_of result ≡ inserted_of inserted }
-{
-    match inserted {
-        Inserted::At(slot) => Reply::Given(slot),
-        Inserted::Unfit => Reply::Unfit,
-        Inserted::Damaged => Reply::Damaged,
-        Inserted::Present(slot) => Reply::Present(slot),
-        Inserted::Full => Reply::Full,
-        Inserted::JournalFull => Reply::JournalFull,
+        Ok(_) => refusal,
+        Err(again) => again.into(),
     }
 }

@@ -4,15 +4,14 @@ ghost use Rattle.slots.specs.Words.{null, pick};
 ghost use Rattle.index_rules.specs.Index.{lent, length_of};
 ghost use Rattle.upload_rules.specs.Reader.{FitReader};
 ghost use Rattle.upload_rules.specs.Reading.{session, turned_down, kind_came, last_came, byte_came};
-ghost use Rattle.reader.specs.Meanings.{words_of, reply_of};
+ghost use Rattle.reader.specs.Meanings.{words_of, read_refusal_of};
 ghost use Rattle.index_rules.specs.Checked.{Passes, Ready};
 ghost use Rattle.reader.specs.Trusting.{Stepped};
 
 use crate::bytes::{name_byte, owe, take_count, take_entry};
 use crate::enter::{back_to, enter};
-use crate::reply::{Reply, of_inserted, of_rolled};
+use crate::reply::{ReadRefusal, after_rollback};
 use crate::words::{Reader, noting, unsaid};
-use index::insert::Inserted;
 use index::journal::length_of;
 use slots::NULL;
 
@@ -49,22 +48,22 @@ pub(crate) fn turn_down(
     lines: &mut [u64],
     r: Reader,
     checked: bool,
-    reply: Reply,
+    refusal: ReadRefusal,
 ) -> Reader
     requires { checked ≡ true → Passes (lent names.old cells.old head.old sizes.old lines.old) }
     ensures { session (words_of result)
         (lent names.new cells.new head.new sizes.new lines.new)
         ≡ turned_down (words_of r)
         (lent names.old cells.old head.old sizes.old lines.old)
-        (reply_of reply) }
+        (read_refusal_of refusal) }
 {
     let mark = back_mark(lines, r);
     let back = back_to(names, cells, head, sizes, lines, checked, mark);
-    let noted = of_rolled(reply, back);
-    noting(r, noted)
+    noting(r, Err(after_rollback(refusal, back)))
 }
 
 // The kind byte.
+#[tactic(auto, unfolding(upload_rules::specs::Reading::kind_came))]
 fn take_kind(
     names: &mut [u64],
     cells: &mut [u32],
@@ -85,11 +84,7 @@ fn take_kind(
     let r = at.reader;
     if b as u64 == r.section + 1 {
         let reader = unsaid(r.section, 1, 0, 0, 0, r.mark, r.taken);
-        return Reading {
-            reader,
-            checked: at.checked,
-            floor: at.floor,
-        };
+        return Reading { reader, ..at };
     }
     let reader = turn_down(
         names,
@@ -99,7 +94,7 @@ fn take_kind(
         lines,
         r,
         at.checked,
-        Reply::WrongKind,
+        ReadRefusal::WrongKind,
     );
     Reading {
         reader,
@@ -142,33 +137,29 @@ fn take_last(
         key,
         place as u32,
     );
-    let inserted = entered.inserted;
-    let Inserted::At(_) = inserted else {
-        let reply = of_inserted(inserted);
-        if !entered.checked {
-            let reader = noting(r, reply);
-            return Reading {
+    match entered.inserted {
+        Ok(_) => Reading {
+            reader: owe(r, r.owed - 1, r.taken + 1),
+            checked: entered.checked,
+            floor: entered.floor,
+        },
+        Err(refusal) => {
+            let reader = if entered.checked {
+                turn_down(names, cells, head, sizes, lines, r, true, refusal.into())
+            } else {
+                noting(r, Err(refusal.into()))
+            };
+            Reading {
                 reader,
                 checked: false,
                 floor: 0,
-            };
+            }
         }
-        let reader = turn_down(names, cells, head, sizes, lines, r, true, reply);
-        return Reading {
-            reader,
-            checked: false,
-            floor: 0,
-        };
-    };
-    let reader = owe(r, r.owed - 1, r.taken + 1);
-    Reading {
-        reader,
-        checked: entered.checked,
-        floor: entered.floor,
     }
 }
 
 // A byte, nothing being noted.
+#[tactic(auto, unfolding(upload_rules::specs::Reading::byte_came))]
 pub(crate) fn take(
     names: &mut [u64],
     cells: &mut [u32],
@@ -188,7 +179,8 @@ pub(crate) fn take(
 {
     let r = at.reader;
     if r.section == 4 {
-        let reader = turn_down(names, cells, head, sizes, lines, r, at.checked, Reply::Long);
+        let long = ReadRefusal::Long;
+        let reader = turn_down(names, cells, head, sizes, lines, r, at.checked, long);
         return Reading {
             reader,
             checked: false,
@@ -200,19 +192,11 @@ pub(crate) fn take(
     }
     if r.got < 3 {
         let reader = take_count(r, b);
-        return Reading {
-            reader,
-            checked: at.checked,
-            floor: at.floor,
-        };
+        return Reading { reader, ..at };
     }
     if r.got < 18 {
         let reader = take_entry(r, b);
-        return Reading {
-            reader,
-            checked: at.checked,
-            floor: at.floor,
-        };
+        return Reading { reader, ..at };
     }
     take_last(names, cells, head, sizes, lines, at, b)
 }

@@ -5,12 +5,8 @@ ghost use Rattle.reader.specs.Meanings.{words_of, reply_of};
 
 use crate::reply::Reply;
 
-// Nothing is noted, or an answer is that every later call gives again.
-#[derive(Clone, Copy)]
-pub enum Note {
-    Unsaid,
-    Said(Reply),
-}
+// The answer that every later call gives again, once one is noted.
+pub type Note = Option<Reply>;
 
 #[derive(Clone, Copy)]
 pub struct Reader {
@@ -25,6 +21,7 @@ pub struct Reader {
 }
 
 // Whether the words are in their ranges: each is bounded before it is counted with.
+#[tactic(auto, unfolding(upload_rules::specs::Reader::fits_reader))]
 pub(crate) fn fits_reader(r: Reader) -> bool
     ensures { result ≡ fits_reader (words_of r) }
 {
@@ -68,7 +65,6 @@ pub(crate) fn unsaid(
 ) -> Reader
     ensures { words_of result ≡ reader_of section got owed hash key mark taken nothing }
 {
-    let note = Note::Unsaid;
     Reader {
         section,
         got,
@@ -77,7 +73,7 @@ pub(crate) fn unsaid(
         key,
         mark,
         taken,
-        note,
+        note: None,
     }
 }
 
@@ -85,16 +81,9 @@ pub(crate) fn unsaid(
 pub(crate) fn noting(r: Reader, reply: Reply) -> Reader
     ensures { words_of result ≡ with_note (words_of r) (reply_of reply) }
 {
-    let note = Note::Said(reply);
     Reader {
-        section: r.section,
-        got: r.got,
-        owed: r.owed,
-        hash: r.hash,
-        key: r.key,
-        mark: r.mark,
-        taken: r.taken,
-        note,
+        note: Some(reply),
+        ..r
     }
 }
 
@@ -103,9 +92,5 @@ pub(crate) fn reply_of(r: Reader) -> Reply
     requires { FitReader (words_of r) }
     ensures { reply_of result ≡ reader_answer (words_of r) }
 {
-    let note = r.note;
-    let Note::Said(reply) = note else {
-        return Reply::Given(r.taken as u32);
-    };
-    reply
+    r.note.unwrap_or(Ok(r.taken as u32))
 }

@@ -23,18 +23,15 @@ fn answer(
     out: &mut [u8],
 ) -> io::Result<Line> {
     let mut kept = line;
-    let mut at = 0;
-    while at < chunk.len() {
-        let fed = feed(kept, &chunk[at..], names, cells, head, sizes, lines, out);
-        let taken = fed.taken;
-        let written = fed.written;
-        stdout.write_all(&out[..written])?;
-        let next = fed.line;
-        kept = next;
-        if taken == 0 {
+    let mut rest = chunk;
+    while !rest.is_empty() {
+        let fed = feed(kept, rest, names, cells, head, sizes, lines, out);
+        stdout.write_all(&out[..fed.written])?;
+        kept = fed.line;
+        if fed.taken == 0 {
             return Ok(kept);
         }
-        at += taken;
+        rest = &rest[fed.taken..];
     }
     Ok(kept)
 }
@@ -85,8 +82,7 @@ fn close(
     out: &mut [u8],
 ) -> io::Result<()> {
     let fed = finish(line, names, cells, head, sizes, lines, out);
-    let written = fed.written;
-    stdout.write_all(&out[..written])
+    stdout.write_all(&out[..fed.written])
 }
 
 // Room for what is printed. Its length is large, and a proof that has the zeros before it counts them: here it only has that there are so
@@ -103,7 +99,7 @@ fn main(rt: HostRuntime) -> io::Result<()> {
     let mut lines = [0u64; JOURNAL_WORDS];
     let mut out = text_room();
     let mut chunk = [0u8; 65536];
-    fresh(&mut names, &mut cells, &mut head, &mut sizes, &mut lines);
+    let _ = fresh(&mut names, &mut cells, &mut head, &mut sizes, &mut lines);
     let line = serve(
         rt.stdin(),
         rt.stdout(),

@@ -6,7 +6,9 @@ use native.Mathlib.Decide.{ℕ_discrete}
 use native.Mathlib.Omega.{arith}
 use lib.Bits.{and_zero_r}
 use borrow.Author.Tests.{eq-eqb, ne_eqb}
+use Rattle.std.specs.Prelude.{Result, Ok, Err}
 use Rattle.slots.specs.Answers.{Answer, Value, some, none, given, refused}
+use Rattle.slots.specs.declared.answer.Unfit.{Unfit}
 use Rattle.slots.proofs.Laws.{told_apart}
 use Rattle.set_rules.specs.Words.{empty, moved, list, tree, bad, bini}
 use Rattle.set_rules.specs.Words.{Bin as SetBin}
@@ -14,8 +16,6 @@ use Rattle.sets.specs.Bins.{bin_as, home_of, binis}
 use Rattle.sets.specs.Binning.{Binning}
 use Rattle.sets.specs.declared.bin.Bin.{Bin}
 use Rattle.sets.specs.declared.bin.Bin.TheVariants.{Empty, Moved, List, Tree, Bad}
-use Rattle.sets.specs.declared.bin.Home.{Home}
-use Rattle.sets.specs.declared.bin.Home.TheVariants.{Bin as InBin, Unfit}
 
 abbrev bin_back : SetBin → Bin
 bin_back empty = Empty
@@ -34,15 +34,15 @@ bin_back_lem Bad = refl
 bin_one_to_one : (a b : Bin) → bin_as a ≡ bin_as b → a ≡ b
 bin_one_to_one = told_apart bin_as bin_back bin_back_lem
 
-abbrev home_back : Value → Home
-home_back (some i) = InBin i
-home_back none = Unfit
+abbrev home_back : Value → Result ℕ Unfit
+home_back (some i) = Ok i
+home_back none = Err (record {})
 
-home_back_lem : (r : Home) → home_back (home_of r).value ≡ r
-home_back_lem (InBin i) = refl
-home_back_lem Unfit = refl
+home_back_lem : (r : Result ℕ Unfit) → home_back (home_of r).value ≡ r
+home_back_lem (Ok i) = refl
+home_back_lem (Err unfit) = refl
 
-home_one_to_one : (a b : Home) → home_of a ≡ home_of b → a ≡ b
+home_one_to_one : (a b : Result ℕ Unfit) → home_of a ≡ home_of b → a ≡ b
 home_one_to_one = told_apart home_of (λ a. home_back a.value) home_back_lem
 
 length_more : (len hash : ℕ) → len ≢ 0 → binis len hash ≡ given (bini len hash)

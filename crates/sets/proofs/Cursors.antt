@@ -1,6 +1,5 @@
--- What each way out of the loops over a cursor's levels says, from the law of one level.
-use mathlib.Core.Path.{◌≡◌, refl, sym, ◌∙◌}
-use mathlib.Core.Bool.{Bool, true, false}
+-- What each way out of the loop over a cursor's points says, from the law of one level.
+use mathlib.Core.Path.{◌≡◌, sym, ◌∙◌}
 use mathlib.Core.List.{List}
 use Prim.Native.Nat.{ℕ, zero, suc, ◌+◌, ◌-◌, ◌<◌, ◌≤◌}
 use native.Mathlib.Numerals.{sub-one}
@@ -10,40 +9,7 @@ use lib.Seq.{get_or-set_other}
 use lib.Dec.{ltb}
 use borrow.Author.Tests.{lt-ltb, le-ltb}
 use Rattle.slots.specs.Words.{pick}
-use Rattle.set_rules.specs.Cursor.{level_fine, levels_fine}
 use Rattle.set_rules.specs.Walk.{WalkPoint, walk_point, advanced}
-
--- One level.
-pub levels_none : (d : ℕ) (lengths : List ℕ) (base : ℕ) (x : List ℕ) → d ≤ 0 → true ≡ levels_fine d lengths base x
-unfolding levels_fine
-levels_none zero lengths base x h = refl
-levels_none (suc d) lengths base x h = absurd (omega arith)
-
-levels_some : (d : ℕ) (lengths : List ℕ) (base : ℕ) (x : List ℕ) → 0 < d
-    → levels_fine d lengths base x
-    ≡ pick (level_fine (get_or lengths (base + (d - 1)) 0) (get_or lengths (base + d) 0) (get_or x (d - 1) 0) (get_or x d 0))
-    (levels_fine (d - 1) lengths base x) false
-unfolding levels_fine
-levels_some zero lengths base x h = absurd (omega arith)
-levels_some (suc d) lengths base x h = rw sub-one
-
-module _ (lengths : List ℕ) (base : ℕ) (x : List ℕ) (d : ℕ) {r : Bool} (inv : levels_fine d lengths base x ≡ r) (more : 0 < d)
-    {lower upper k i : ℕ}
-    (a : lower ≡ get_or lengths (base + d) 0)
-    (b : k ≡ get_or x d 0)
-    (c : upper ≡ get_or lengths (base + (d - 1)) 0)
-    (e : i ≡ get_or x (d - 1) 0)
-    {t : Bool}
-    (f : t ≡ level_fine upper lower i k)
-  where
-    turn : pick t (levels_fine (d - 1) lengths base x) false ≡ r
-    turn = rw (f, a, b, c, e) (sym (levels_some d lengths base x more) ∙ inv)
-
-    pub level_wrong : t ≡ false → false ≡ r
-    level_wrong w = rw w at turn
-
-    pub level-right : t ≡ true → levels_fine (d - 1) lengths base x ≡ r
-    level-right w = rw w at turn
 
 -- The points after one.
 module _ (lengths : List ℕ) (base : ℕ) (x : List ℕ) where

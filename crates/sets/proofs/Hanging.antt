@@ -1,15 +1,13 @@
 -- The slots of a list are hung in a tree, one after the other. The list passes exactly where what is left of it passes and has no pair that
 -- the tree has; so a slot whose pair the tree has is wrong, and one whose pair it lacks is hung, and both stay so.
 use mathlib.Core.Path.{◌≡◌, refl, ap, sym, ◌∙◌}
-use mathlib.Core.Logic.{◌≢◌, inl, inr}
+use mathlib.Core.Logic.{◌≢◌, ◌⊎◌, inl, inr}
 use mathlib.Core.Bool.{Bool, true, false}
 use mathlib.Core.List.{List, [], ◌∷◌}
 use Prim.Native.Nat.{ℕ, ◌-◌, ◌<◌, ◌≤◌}
 use native.Mathlib.Decide.{ℕ_discrete}
 use native.Mathlib.Omega.{arith}
 use lib.ListN.{length}
-use types.Run.{OneOf}
-use denote.Enum.Declared.{tag_of}
 use Rattle.slots.specs.Words.{null, pick, next, cell, name_of, hash_part, key_part, most_slots, most_names}
 use Rattle.slots.specs.Pairs.{pair, pair_of}
 use Rattle.slots.specs.Answers.{Answer, Value, none, some, nothing}
@@ -29,7 +27,6 @@ use Rattle.index_rules.proofs.Seeking.{Answers, seeks}
 use Rattle.tree.specs.Find.{searched_of}
 use Rattle.tree.specs.declared.find.Found.{Found}
 use Rattle.tree.specs.declared.find.Found.TheVariants.{At, Nothing, Lost}
-use Rattle.tree.specs.contracts.find.Found.{the_type as searched}
 use Rattle.set_rules.specs.Words.{Set}
 use Rattle.set_rules.specs.Accepted.{Listed, ended, onward, Unlike}
 use Rattle.set_rules.specs.Accepting.{unlike, list_fine}
@@ -110,21 +107,16 @@ sought names cells few root hash key h r =
     rw h.from (seeks names cells few hash key h.hangs r (slots_of names) (rooted_most (slots_of names) cells few root h))
 
 -- What the code's answer says of the search.
-module _ {a : Answer} {looks : ℕ} (r : Found) (e : searched_of r ≡ with_looks looks a) where
+module _ {a : Answer} {looks : ℕ} (r : Found ℕ) (e : searched_of r ≡ with_looks looks a) where
   told : (searched_of r).answer ≡ a
   told = ap (λ (c : Counted). c.answer) e
 
   pub answer_none : {k : ℕ} → r ≡ Nothing k → a ≡ nothing
-  answer_none f = sym told ∙ ap (λ (q : Found). (searched_of q).answer) f
+  answer_none f = sym told ∙ ap (λ (q : Found ℕ). (searched_of q).answer) f
 
-  pub answer_else : OneOf (0 ∷ 2 ∷ []) (tag_of searched r) → a ≢ nothing
-  answer_else t n = go r t (told ∙ n)
-    where
-      go : (r : Found) → OneOf (0 ∷ 2 ∷ []) (tag_of searched r) → (searched_of r).answer ≡ nothing → ⊥
-      go (At slot k) z f = nothing-given (sym f)
-      go (Nothing k) (inl z) f = omega arith
-      go (Nothing k) (inr z) f = omega arith
-      go (Lost k) z f = omega (arith, number f)
+  pub answer_else : ((slot : ℕ) × (k : ℕ) × (r ≡ At slot k)) ⊎ ((k : ℕ) × (r ≡ Lost k)) → a ≢ nothing
+  answer_else (inl (slot, k, f)) n = nothing-given (sym (ap (λ (q : Found ℕ). (searched_of q).answer) (sym f) ∙ told ∙ n))
+  answer_else (inr (k, f)) n = omega (arith, number (ap (λ (q : Found ℕ). (searched_of q).answer) (sym f) ∙ told ∙ n))
 
 -- The set that has these slots and nothing else: the laws of lists are said of a set.
 abbrev pub lists_of : List ℕ → List ℕ → Set

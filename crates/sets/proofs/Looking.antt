@@ -2,7 +2,7 @@
 use mathlib.Core.Path.{◌≡◌, ap, sym, ◌∙◌}
 use mathlib.Core.Bool.{Bool, true, false}
 use mathlib.Core.List.{List}
-use Prim.Native.Nat.{ℕ, suc, ◌+◌, ◌-◌, ◌*◌, ◌<◌, ◌≤◌}
+use Prim.Native.Nat.{ℕ, ◌+◌, ◌-◌, ◌*◌, ◌<◌, ◌≤◌}
 use native.Mathlib.Numerals.{add-one}
 use native.Mathlib.Nat.{add-zero}
 use native.Mathlib.Omega.{arith}
@@ -41,21 +41,19 @@ module _ (s : Set) (hash key k : ℕ) {r : Counted} (i : counted (forwarded (tab
       → a ≡ counted (found s.names s.cells root hash key) → a ≡ r
   at_tree {h} e f g = g ∙ (rw (f, add-zero (3 * h)) (ap counted (sym (turn s hash key k l e)) ∙ i))
 
-  pub at_last : moved ≡ home_bin s k hash → tables_of s ≤ k + 1 → with_looks 0 (refused 9) ≡ r
-  at_last e h = ap counted (sym (past_last s hash key (suc k) (omega arith)) ∙ sym (turn s hash key k l e)) ∙ i
-
   pub at_moved : moved ≡ home_bin s k hash → counted (forwarded (tables_of s - (k + 1)) s (k + 1) hash key) ≡ r
   at_moved e = rw add-one (ap counted (sym (turn s hash key k l e)) ∙ i)
+
+-- .. and after the last table.
+pub at_end : (s : Set) (hash key k : ℕ) {r : Counted} → counted (forwarded (tables_of s - k) s k hash key) ≡ r → tables_of s ≤ k
+    → with_looks 0 (refused 9) ≡ r
+at_end s hash key k i h = ap counted (sym (past_last s hash key k h)) ∙ i
 
 -- The gate of the loop alone.
 module _ (s : Set) (t hash key : ℕ) where
   pub many_tables : 8 < tables_of s → with_looks 0 (refused 9) ≡ counted (lookups_fit s t hash key)
   unfolding lookups_fit
   many_tables l = simp (lt-leb (tables_of s) 8 l)
-
-  pub no_table : tables_of s ≤ 8 → tables_of s ≤ t → with_looks 0 (refused 9) ≡ counted (lookups_fit s t hash key)
-  unfolding lookups_fit
-  no_table l m = simp (le-leb (tables_of s) 8 l, past_last s hash key t m)
 
   pub looped : tables_of s ≤ 8 → {a : Counted} → a ≡ counted (forwarded (tables_of s - t) s t hash key)
       → a ≡ counted (lookups_fit s t hash key)

@@ -1,10 +1,10 @@
 -- What each way out of a loop over the tables' lengths says, where the bins of tables that double begin, and which numbers the thirteen
 -- powers are.
-use mathlib.Core.Path.{◌≡◌, refl, ap}
+use mathlib.Core.Path.{◌≡◌, refl, sym, ap}
 use mathlib.Core.Logic.{◌≢◌, ◌⊎◌, inl, inr}
 use mathlib.Core.Bool.{Bool, true, false, false≢true}
 use mathlib.Core.List.{List}
-use Prim.Native.Nat.{ℕ, zero, suc, ◌+◌, ◌-◌, ◌*◌, ◌<◌, ◌≤◌}
+use Prim.Native.Nat.{ℕ, zero, suc, ◌+◌, ◌-◌, ◌*◌, ◌<◌, ◌≤◌, min}
 use native.Mathlib.Numerals.{add-one, sub-one}
 use native.Mathlib.Decide.{ℕ_discrete, dec_lt}
 use native.Mathlib.Nat.{mul-suc}
@@ -36,6 +36,14 @@ begins_past l j h (suc k) g = go (ℕ_discrete (suc k) j) (λ n. begins_past l j
     go : Dec (suc k ≡ j) → (suc k ≢ j → bins_before l k ≡ bins_before l j) → bins_before l (suc k) ≡ bins_before l j
     go (yes e) rest = ap (bins_before l) e
     go (no n) rest = omega (arith, rest n, get_or-eq_default l 0 {n = k} (omega arith))
+
+-- So the first k tables have as many as those of them that are there.
+pub begins_within : (l : List ℕ) (k m : ℕ) → m ≡ min (length l) k → bins_before l m ≡ bins_before l k
+begins_within l k m e = go (dec_lt (length l) k)
+  where
+    go : Dec (length l < k) → bins_before l m ≡ bins_before l k
+    go (yes h) = let z : m ≡ length l = omega arith in rw z (sym (begins_past l (length l) (omega arith) k (omega arith)))
+    go (no h) = let z : m ≡ k = omega arith in ap (bins_before l) z
 
 -- Where each table is twice as long as the one before, it has as many bins as those before it and the first again.
 pub begins_at : (l : List ℕ) (k : ℕ) → ((j : ℕ) → j < k → get_or l (suc j) 0 ≡ 2 * get_or l j 0)

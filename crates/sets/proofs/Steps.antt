@@ -1,5 +1,5 @@
 -- What one step of each walk comes to: at null or at the end, with no visits left, and at a slot, a header or a bin.
--- Parts: the numbers of the recursion over tables; a list, a chain and the homes of a tree; the two tests of a list's slot, and which lists
+-- Parts: the numbers of the recursion over tables; a list and a chain; the two tests of a list's slot, and which lists
 -- are long; what is counted; a bin, the two below it and table 0.
 use mathlib.Core.Path.{◌≡◌, refl, sym, ◌∙◌}
 use mathlib.Core.Logic.{◌≢◌}
@@ -11,14 +11,15 @@ use native.Mathlib.Omega.{arith}
 use lib.ListN.{get_or}
 use lib.Dec.{ltb}
 use borrow.Author.Tests.{eq-eqb, ne_eqb, ltb-true}
-use Rattle.slots.specs.Words.{null, pick, left, right, next, cell, most_slots, ◌and◌}
+use Rattle.slots.specs.Words.{null, pick, left, next, cell, most_slots, ◌and◌}
 use Rattle.slots.specs.Answers.{Value, none, some}
 use Rattle.tree_rules.specs.Rules.{then}
 use Rattle.tree_rules.specs.Find.{slots_of}
+use Rattle.tree_rules.specs.Chain.{tally}
 use Rattle.index_rules.proofs.Fit.{both}
 use Rattle.set_rules.specs.Words.{Set, fits, tables_of, length_at, headers_in, bins_before, Bin, empty, moved, bad, list, tree, bin_of}
 use Rattle.set_rules.specs.Words.{bin_at}
-use Rattle.set_rules.specs.Accepting.{is_home, is_list_slot, same_pair, unlike, list_slot_fine, list_fine, is_own, chain_own, tree_home}
+use Rattle.set_rules.specs.Accepting.{is_home, is_list_slot, same_pair, unlike, list_slot_fine, list_fine, is_own, chain_own}
 use Rattle.set_rules.specs.Accepting.{is_blank}
 use Rattle.set_rules.specs.Accepting.{filled, names_header}
 use Rattle.set_rules.specs.Accepting.{tree_fine, may_stand, own_fine, is_moved, bin_asks, bin_fine, below_fine, table_fine}
@@ -120,26 +121,6 @@ module _ (names cells : List ℕ) (len i x : ℕ) where
   own_on zero d n e f h = absurd (n refl)
   own_on (suc v) d n e f h = rw (sub-one, ne_eqb x null d, ← e, f, h)
 
-  pub home_null : (depth : ℕ) → x ≡ null → true ≡ tree_home depth names cells len i x
-  unfolding tree_home
-  home_null zero e = simp (eq-eqb x null e)
-  home_null (suc depth) e = simp (eq-eqb x null e)
-
-  pub home_zero : (depth : ℕ) → x ≢ null → depth ≡ 0 → false ≡ tree_home depth names cells len i x
-  unfolding tree_home
-  home_zero zero d e = simp (ne_eqb x null d)
-  home_zero (suc depth) d e = absurd (omega arith)
-
-  pub home_on : (depth : ℕ) → x ≢ null → depth ≢ 0
-      → tree_home depth names cells len i x
-      ≡ pick (is_home names len i x)
-      (pick (tree_home (depth - 1) names cells len i (cell cells x left))
-      (tree_home (depth - 1) names cells len i (cell cells x right)) false)
-      false
-  unfolding tree_home
-  home_on zero d n = absurd (n refl)
-  home_on (suc depth) d n = rw (ne_eqb x null d, sub-one)
-
 -- The test of a slot is that of its words, and that of its pair.
 module _ (names cells : List ℕ) (len i x : ℕ) where
   pub slot_parts : (v : ℕ)
@@ -186,6 +167,11 @@ module _ (cells : List ℕ) (x : ℕ) where
   long_on zero d n e = absurd (n refl)
   long_on (suc k) d n e = rw (sub-one, ne_eqb x null d, e)
 
+-- One thing more is counted.
+pub tally_next : (f : ℕ → ℕ) (k : ℕ) → tally (k + 1) f ≡ f k + tally k f
+unfolding tally
+tally_next f k = rw add-one
+
 -- Each thing counted is counted once at most.
 pub filled_one : (heads : List ℕ) (h : ℕ) → filled heads h ≤ 1
 filled_one heads h = go (is_blank (get_or heads (3 * h) null) (get_or heads (3 * h + 1) null) (get_or heads (3 * h + 2) null))
@@ -200,17 +186,6 @@ names_one moved = omega arith
 names_one bad = omega arith
 names_one (list a) = omega arith
 names_one (tree h) = omega arith
-
--- A header is blank or not by the three words that were read.
-pub filled-read : (heads : List ℕ) (h : ℕ) {root first count : ℕ}
-    → root ≡ get_or heads (3 * h + 0) null
-    → first ≡ get_or heads (3 * h + 1) null
-    → count ≡ get_or heads (3 * h + 2) null
-    → {b : Bool} → b ≡ is_blank root first count → {r : ℕ} → r ≡ pick b 0 1 → r ≡ filled heads h
-filled-read heads h e f g k l =
-    let z : 3 * h + 0 ≡ 3 * h = omega arith in
-    let y = rw z at e in
-    rw (← y, ← f, ← g, ← k) l
 
 module _ (s : Set) where
   -- A tree bin reads the three words of its header.

@@ -8,6 +8,7 @@ use native.Mathlib.Nat.{add-zero}
 use native.Mathlib.Numerals.{add-one}
 use native.Mathlib.Omega.{arith}
 use lib.ListN.{get_or, set}
+use Rattle.std.specs.Prelude.{Option, Result, Ok, Err, IsErr, IsErrAnd}
 use borrow.Author.Tests.{eq-eqb, ne_eqb, lt-ltb, le-ltb}
 use Rattle.slots.specs.Words.{null, next, cell}
 use Rattle.slots.specs.Answers.{given, refused}
@@ -24,6 +25,10 @@ use Rattle.set_rules.proofs.Seeking.{bare, no_cells, left_at, seeks, at_end, at-
 use Rattle.set_rules.proofs.Seeking.{at_stray}
 use Rattle.set_rules.proofs.Seeking.{falls-onward, falls_below, good_onward, good_below}
 use Rattle.tree_rules.specs.Find.{slots_of}
+use Rattle.sets.specs.Cursors.{walked_of}
+use Rattle.sets.specs.declared.walk.Cursor.{Cursor as CursorCode}
+use Rattle.sets.specs.declared.walk.NextRefusal.{NextRefusal}
+use Rattle.sets.specs.declared.walk.NextRefusal.TheVariants.{Lost}
 
 -- The loop from here comes to what it comes to from the start.
 pub record Going (s : Set) (base : ℕ) (from here : WalkPoint) : Type 0 where
@@ -107,6 +112,12 @@ module _ (s : Set) (c : Cursor) {link : ℕ} (g : link ≡ cell s.cells c.last n
     pub from_bins : link ≡ null → {o : Sought} → o ≡ seeks (bare s) c.base (walk_point c.depth x) → stepped s c o ≡ steps_on s c
     unfolding steps_on
     from_bins n k = rw (← g, eq-eqb _ _ n, k, t) (ap (stepped s c) (no_cells s c.base (turns_in s c.base) (standing c)))
+
+-- Where the loop over the bins is lost, so is the step.
+pub lost_told : (s : Set) (c : Cursor) (r : Result (Option ℕ × CursorCode) NextRefusal) → IsErr r → IsErrAnd r (λ e. e ≡ Lost)
+    → walked_of c r ≡ stepped s c lost
+lost_told s c (Ok v) h g = absurd g
+lost_told s c (Err e) h g = rw g
 
 -- The gates of start and next.
 module _ (s : Set) (t : ℕ) {b : Bool} (e : b ≡ fits s) where

@@ -1,12 +1,12 @@
 -- Of the words' code beside its contracts: its answers are told apart, `bini` refuses exactly length 0,
 -- and each public routine has one outcome.
-use Rattle.std.specs.Prelude.{◌≡◌, ◌≢◌, ◌↔◌, List, ℕ, ◌+◌, get_or}
+use Rattle.std.specs.Prelude.{◌≡◌, ◌≢◌, ◌↔◌, Result, List, ℕ, ◌+◌, get_or}
 use Rattle.slots.specs.Answers.{OneAnswer, given, refused}
+use Rattle.slots.specs.declared.answer.Unfit.{Unfit}
 use Rattle.set_rules.specs.Words.{Set, bins_before, fits, bin_of, bini}
 use Rattle.set_rules.specs.Accepting.{is_home}
 use Rattle.sets.specs.Bins.{bin_as, home_of, binis}
 use Rattle.sets.specs.declared.bin.Bin.{Bin}
-use Rattle.sets.specs.declared.bin.Home.{Home}
 
 pub record Binning : Type 0 where
   -- "`bini` on length 0 underflows .. We refuse length 0 with 1."
@@ -16,7 +16,7 @@ pub record Binning : Type 0 where
   -- where `bini` refuses, the index is 0
   pub index-zero : (hash : ℕ) → bini 0 hash ≡ 0
   pub bin_one_to_one : (a b : Bin) → bin_as a ≡ bin_as b → a ≡ b
-  pub home_one_to_one : (a b : Home) → home_of a ≡ home_of b → a ≡ b
+  pub home_one_to_one : (a b : Result ℕ Unfit) → home_of a ≡ home_of b → a ≡ b
   pub bin_of_one : (n h w : ℕ) → OneAnswer (λ r. bin_as r ≡ bin_of n h w)
   pub bini_one : (len hash : ℕ) → OneAnswer (λ r. home_of r ≡ binis len hash)
   pub index_one : (len hash : ℕ) → OneAnswer (λ r. r ≡ bini len hash)

@@ -1,13 +1,13 @@
 -- What the values of this crate's enums mean, and what its entry points answer.
-use Rattle.std.specs.Prelude.{Bool, false, ℕ, ◌*◌, ◌/◌, eqb, leb}
+use Rattle.std.specs.Prelude.{Bool, false, Result, ℕ, ◌*◌, ◌/◌, eqb, leb}
 use Rattle.slots.specs.Words.{pick, most_slots}
 use Rattle.slots.specs.Answers.{Answer, given, refused}
+use Rattle.slots.specs.Coded.{told_by, unfit_told}
+use Rattle.slots.specs.declared.answer.Unfit.{Unfit}
 use Rattle.set_rules.specs.Words.{empty, moved, list, tree, bad, bini}
 use Rattle.set_rules.specs.Words.{Bin as SetBin}
 use Rattle.sets.specs.declared.bin.Bin.{Bin}
 use Rattle.sets.specs.declared.bin.Bin.TheVariants.{Empty, Moved, List, Tree, Bad}
-use Rattle.sets.specs.declared.bin.Home.{Home}
-use Rattle.sets.specs.declared.bin.Home.TheVariants.{Bin as InBin, Unfit}
 
 abbrev pub bin_as : Bin → SetBin
 bin_as Empty = empty
@@ -16,9 +16,9 @@ bin_as (List slot) = list slot
 bin_as (Tree header) = tree header
 bin_as Bad = bad
 
-abbrev pub home_of : Home → Answer
-home_of (InBin i) = given i
-home_of Unfit = refused 1
+-- The index of the bin for a hash.
+abbrev pub home_of : Result ℕ Unfit → Answer
+home_of = told_by given unfit_told
 
 -- "We refuse length 0 with 1."
 unfoldable pub binis : ℕ → ℕ → Answer

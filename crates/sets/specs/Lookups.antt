@@ -1,12 +1,16 @@
--- The number and value of each answer of lookup, and its looks.
-use Rattle.slots.specs.Answers.{given, nothing, refused}
-use Rattle.tree_rules.specs.Find.{Counted, with_looks}
-use Rattle.sets.specs.declared.lookup.Looked.{Looked}
-use Rattle.sets.specs.declared.lookup.Looked.TheVariants.{At, Nothing, Unfit, Unknown, Lost}
+-- The number and value of what lookup answers, and its looks.
+use Rattle.std.specs.Prelude.{Result, ℕ}
+use Rattle.slots.specs.Answers.{Answer, refused}
+use Rattle.tree_rules.specs.Find.{Counted}
+use Rattle.tree.specs.Find.{searched_by}
+use Rattle.tree.specs.declared.find.Found.{Found}
+use Rattle.sets.specs.declared.lookup.NoTable.{NoTable}
+use Rattle.sets.specs.declared.lookup.NoTable.TheVariants.{Unfit, Unknown}
 
-abbrev pub looked_of : Looked → Counted
-looked_of (At slot looks) = with_looks looks (given slot)
-looked_of (Nothing looks) = with_looks looks nothing
-looked_of Unfit = with_looks 0 (refused 1)
-looked_of Unknown = with_looks 0 (refused 10)
-looked_of (Lost looks) = with_looks looks (refused 9)
+abbrev pub no_table_of : NoTable → Answer
+no_table_of Unfit = refused 1
+no_table_of Unknown = refused 10
+
+-- A refused call looks at no slot.
+abbrev pub looked_of : Result (Found ℕ) NoTable → Counted
+looked_of = searched_by no_table_of

@@ -1,10 +1,9 @@
--- The number and value of each answer of accept.
-use Rattle.slots.specs.Answers.{Answer, given, refused}
-use Rattle.sets.specs.declared.accept.Acceptance.{Acceptance}
-use Rattle.sets.specs.declared.accept.Acceptance.TheVariants.{Yes, No, Unfit}
+-- The number and value of what accept answers.
+use Rattle.std.specs.Prelude.{Bool, Result}
+use Rattle.slots.specs.Answers.{Answer}
+use Rattle.slots.specs.Coded.{told_by, verdict, unfit_told}
+use Rattle.slots.specs.declared.answer.Unfit.{Unfit}
 
 -- Yes is 1, no is 0.
-abbrev pub accept_of : Acceptance → Answer
-accept_of Yes = given 1
-accept_of No = given 0
-accept_of Unfit = refused 1
+abbrev pub accept_of : Result Bool Unfit → Answer
+accept_of = told_by verdict unfit_told

@@ -1,6 +1,5 @@
 // Whether a frozen set is accepted: the table's check asks its bins.
 ghost use Rattle.std.specs.Prelude.{◌≡◌, true, get_or};
-ghost use Rattle.slots.specs.Coded.{answer_of};
 ghost use Rattle.set_rules.specs.Words.{fits, lent_set};
 ghost use Rattle.set_rules.specs.Accepting.{table_fine, all_held, accepts};
 ghost use Rattle.set_rules.specs.Accepting.{accepted as isAccepted};
@@ -11,8 +10,7 @@ use crate::below::bin_fine;
 use crate::fit::{fit_set, length_at};
 use crate::headers::headers_fine;
 use index::sound::{slots_fine, used_slots};
-use slots::answer::{Answer, given, refused};
-use tree::rules::Rest;
+use slots::answer::Unfit;
 
 // The check of table 0: the visits left after all its bins and what is below them, or that one goes wrong.
 fn table_fine(
@@ -22,26 +20,20 @@ fn table_fine(
     names: &[u64],
     cells: &[u32],
     visits: usize,
-) -> Rest
+) -> Option<usize>
     requires { fits (lent_set lengths.now bins.now heads.now names.now cells.now) ≡ true }
     ensures { rest_of result
         ≡ table_fine (get_or lengths.now 0 0)
         (lent_set lengths.now bins.now heads.now names.now cells.now) visits }
 {
     let left = lengths.len() as u32 - 1;
-    let mut i = length_at(lengths, 0);
     let mut rest = visits;
-    while 0 < i {
-        i -= 1;
-        let walk = bin_fine(
+    for i in (0..length_at(lengths, 0)).rev() {
+        rest = bin_fine(
             lengths, bins, heads, names, cells, left, 0, 0, i, true, rest,
-        );
-        let Rest::Left(next) = walk else {
-            return Rest::Wrong;
-        };
-        rest = next;
+        )?;
     }
-    Rest::Left(rest)
+    Some(rest)
 }
 
 // The bins hold as many slots as are not free.
@@ -52,7 +44,7 @@ fn all_held(lengths: &[u32], bins: &[u32], heads: &[u32], names: &[u64], cells: 
 {
     let n = names.len() / 2;
     let walk = table_fine(lengths, bins, heads, names, cells, n);
-    let Rest::Left(rest) = walk else {
+    let Some(rest) = walk else {
         return false;
     };
     let used = used_slots(cells, n as u32);
@@ -72,27 +64,6 @@ fn is_accepted(lengths: &[u32], bins: &[u32], heads: &[u32], names: &[u64], cell
         && all_held(lengths, bins, heads, names, cells)
 }
 
-// What acceptance answers.
-#[derive(Clone, Copy)]
-pub enum Acceptance {
-    Yes,
-    No,
-    Unfit, // 1
-}
-
-impl Acceptance {
-    // The number and the value.
-    pub fn answer(self) -> Answer
-        ensures { answer_of result ≡ (accept_of self) }
-    {
-        match self {
-            Acceptance::Yes => given(1),
-            Acceptance::No => given(0),
-            Acceptance::Unfit => refused(1),
-        }
-    }
-}
-
 // Whether the set is accepted. Unfit where the slices are not a frozen set's.
 pub fn accept(
     lengths: &[u32],
@@ -100,17 +71,13 @@ pub fn accept(
     heads: &[u32],
     names: &[u64],
     cells: &[u32],
-) -> Acceptance
+) -> Result<bool, Unfit>
     ensures { accept_of result
         ≡ accepts (lent_set lengths.now bins.now heads.now names.now cells.now) }
 {
     let fit = fit_set(lengths, bins, heads, names, cells);
     if !fit {
-        return Acceptance::Unfit;
+        return Err(Unfit);
     }
-    let yes = is_accepted(lengths, bins, heads, names, cells);
-    if !yes {
-        return Acceptance::No;
-    }
-    Acceptance::Yes
+    Ok(is_accepted(lengths, bins, heads, names, cells))
 }

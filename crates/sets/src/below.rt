@@ -12,17 +12,16 @@ use crate::fit::length_at;
 use crate::long::list_fine;
 use crate::trees::tree_fine;
 use slots::{COUNT, FIRST, ROOT};
-use tree::rules::Rest;
 
 // A bin may stand where it does: it is not bad, it is empty unless it may hold something, and a Moved one has tables after its own.
+#[tactic(auto, unfolding(set_rules::specs::Accepting::may_stand))]
 fn may_stand(bin: Bin, may: bool, left: u32) -> bool
     ensures { result ≡ may_stand (bin_as bin) may left }
 {
     match bin {
         Bin::Empty => true,
-        Bin::Moved => { if left == 0 { false } else { may } }
-        Bin::List(_) => may,
-        Bin::Tree(_) => may,
+        Bin::Moved => left != 0 && may,
+        Bin::List(_) | Bin::Tree(_) => may,
         Bin::Bad => false,
     }
 }
@@ -30,13 +29,7 @@ fn may_stand(bin: Bin, may: bool, left: u32) -> bool
 fn is_moved(bin: Bin) -> bool
     ensures { result ≡ opens (bin_as bin) }
 {
-    match bin {
-        Bin::Moved => true,
-        Bin::Empty => false,
-        Bin::List(_) => false,
-        Bin::Tree(_) => false,
-        Bin::Bad => false,
-    }
+    matches!(bin, Bin::Moved)
 }
 
 // The visits left after the list or tree of bin i of a table of so many bins, or that it goes wrong.
@@ -48,7 +41,7 @@ fn own_fine(
     i: u32,
     bin: Bin,
     visits: usize,
-) -> Rest
+) -> Option<usize>
     ensures { rest_of result
         ≡ own_fine (lent_set [] [] heads.now names.now cells.now) length i (bin_as bin) visits }
 {
@@ -60,9 +53,7 @@ fn own_fine(
             let count = header(heads, h, COUNT);
             tree_fine(names, cells, length, i, root, first, count, visits)
         }
-        Bin::Empty => Rest::Left(visits),
-        Bin::Moved => Rest::Left(visits),
-        Bin::Bad => Rest::Left(visits),
+        Bin::Empty | Bin::Moved | Bin::Bad => Some(visits),
     }
 }
 
@@ -81,7 +72,7 @@ pub(crate) fn bin_fine(
     i: u32,
     may: bool,
     visits: usize,
-) -> Rest
+) -> Option<usize>
     requires { Room lengths.now left k from i }
     ensures { rest_of result
         ≡ bin_fine left (lent_set lengths.now bins.now heads.now names.now
@@ -90,13 +81,10 @@ pub(crate) fn bin_fine(
     let bin = bin_from(bins, names.len() / 2, heads.len() / 3, from, i);
     let stands = may_stand(bin, may, left);
     if !stands {
-        return Rest::Wrong;
+        return None;
     }
     let length = length_at(lengths, k);
-    let own = own_fine(heads, names, cells, length, i, bin, visits);
-    let Rest::Left(rest) = own else {
-        return Rest::Wrong;
-    };
+    let rest = own_fine(heads, names, cells, length, i, bin, visits)?;
     let opened = is_moved(bin);
     two_below(
         lengths, bins, heads, names, cells, left, k, from, i, opened, rest,
@@ -117,18 +105,18 @@ fn two_below(
     i: u32,
     may: bool,
     visits: usize,
-) -> Rest
+) -> Option<usize>
     requires { Room lengths.now left k from i }
     ensures { rest_of result
         ≡ below_fine left (lent_set lengths.now bins.now heads.now names.now
         cells.now) k i may visits }
 {
     if left == 0 {
-        return Rest::Left(visits);
+        return Some(visits);
     }
     let length = length_at(lengths, k);
     let next = from + length as usize;
-    let near = bin_fine(
+    let rest = bin_fine(
         lengths,
         bins,
         heads,
@@ -140,10 +128,7 @@ fn two_below(
         i,
         may,
         visits,
-    );
-    let Rest::Left(rest) = near else {
-        return Rest::Wrong;
-    };
+    )?;
     bin_fine(
         lengths,
         bins,

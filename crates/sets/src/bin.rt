@@ -6,6 +6,7 @@ ghost use Rattle.set_rules.specs.Words.{bini as home};
 ghost use Rattle.sets.specs.Bins.{bin_as, home_of, binis};
 
 use crate::fit::bins_before;
+use slots::answer::Unfit;
 use slots::{NULL, word};
 
 // The word f of the header h; null where there is no such word.
@@ -57,6 +58,7 @@ pub enum Bin {
 }
 
 // The bin that the word w is in a set of n slots and h headers.
+#[tactic(auto, unfolding(set_rules::specs::Words::bin_of))]
 pub fn bin_of(n: usize, h: usize, w: u32) -> Bin
     ensures { bin_as result ≡ bin_of n h w }
 {
@@ -89,31 +91,22 @@ pub(crate) fn bin_from(bins: &[u32], n: usize, h: usize, from: usize, i: u32) ->
     bin_of(n, h, word)
 }
 
-// The index of the bin for a hash.
-#[derive(Clone, Copy)]
-pub enum Home {
-    Bin(u32),
-    Unfit, // 1
-}
-
 // The bin for a hash in a table of so many bins. Unfit where there are none.
-pub fn bini(length: u32, hash: u64) -> Home
+#[tactic(auto, unfolding(crate::specs::Bins::binis, set_rules::specs::Words::bini))]
+pub fn bini(length: u32, hash: u64) -> Result<u32, Unfit>
     ensures { home_of result ≡ binis length hash }
 {
     if length == 0 {
-        return Home::Unfit;
+        return Err(Unfit);
     }
     let mask = length as u64 - 1;
-    Home::Bin((hash & mask) as u32)
+    Ok((hash & mask) as u32)
 }
 
 // The index of the bin for a hash in a table of so many bins: a fit set has no table of none, and there the index is 0.
+#[tactic(auto, using(crate::proofs::Binned::index_is))]
 pub fn index(length: u32, hash: u64) -> u32
     ensures { result ≡ home length hash }
 {
-    let home = bini(length, hash);
-    let Home::Bin(i) = home else {
-        return 0;
-    };
-    i
+    bini(length, hash).unwrap_or(0)
 }

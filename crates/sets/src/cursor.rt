@@ -26,6 +26,7 @@ pub(crate) fn set_index(indexes: &mut [u32; 8], j: u32, i: u32)
 }
 
 // An index k below one at i: in range, and the same or that plus the upper length.
+#[tactic(auto, unfolding(set_rules::specs::Cursor::level_fine))]
 fn level_fine(upper: u32, lower: u32, i: u32, k: u32) -> bool
     ensures { result ≡ level_fine upper lower i k }
 {
@@ -33,15 +34,14 @@ fn level_fine(upper: u32, lower: u32, i: u32, k: u32) -> bool
 }
 
 // Each of the levels 1 to depth is fine under the one above.
+#[tactic(auto, unfolding(set_rules::specs::Cursor::levels_fine))]
 fn levels_fine(lengths: &[u32], base: u32, depth: u32, indexes: &[u32; 8]) -> bool
     requires { (depth < 8) × (base + depth < 2 ^ 32) }
     ensures { result ≡ levels_fine depth lengths.now base indexes.now }
 {
-    let mut d = depth;
-    while 0 < d {
-        let lower = length_at(lengths, base + d);
-        let k = index_at(indexes, d);
-        d -= 1;
+    for d in (0..depth).rev() {
+        let lower = length_at(lengths, base + (d + 1));
+        let k = index_at(indexes, d + 1);
         let upper = length_at(lengths, base + d);
         let i = index_at(indexes, d);
         let fine = level_fine(upper, lower, i, k);
@@ -53,6 +53,7 @@ fn levels_fine(lengths: &[u32], base: u32, depth: u32, indexes: &[u32; 8]) -> bo
 }
 
 // The base index is below the base length, or at depth 0 the end.
+#[tactic(auto, unfolding(set_rules::specs::Cursor::base_fine))]
 fn base_fine(length: u32, depth: u32, i: u32) -> bool
     ensures { result ≡ base_fine length depth i }
 {
@@ -60,6 +61,7 @@ fn base_fine(length: u32, depth: u32, i: u32) -> bool
 }
 
 // A cursor's numbers, over tables of these lengths, at most eight, and n slots.
+#[tactic(auto, unfolding(set_rules::specs::Cursor::fine))]
 pub(crate) fn fine(
     lengths: &[u32],
     n: usize,
@@ -79,6 +81,7 @@ pub(crate) fn fine(
 }
 
 // The index at level j, 0 past the depth.
+#[tactic(auto, unfolding(set_rules::specs::Walk::kept))]
 fn keep(indexes: &[u32; 8], depth: u32, j: u32) -> u32
     requires { j < 8 }
     ensures { result ≡ kept depth indexes.now j }
@@ -93,15 +96,11 @@ fn keep(indexes: &[u32; 8], depth: u32, j: u32) -> u32
 pub(crate) fn trim(indexes: &[u32; 8], depth: u32) -> [u32; 8]
     ensures { result ≡ trimmed depth indexes.now }
 {
-    let a = keep(indexes, depth, 0);
-    let b = keep(indexes, depth, 1);
-    let c = keep(indexes, depth, 2);
-    let d = keep(indexes, depth, 3);
-    let e = keep(indexes, depth, 4);
-    let f = keep(indexes, depth, 5);
-    let g = keep(indexes, depth, 6);
-    let h = keep(indexes, depth, 7);
-    [a, b, c, d, e, f, g, h]
+    let mut trimmed = [0; 8];
+    for j in 0..8 {
+        set_index(&mut trimmed, j, keep(indexes, depth, j));
+    }
+    trimmed
 }
 
 // The source's recover_state: that index plus the upper length, while below the lower length; then up. It gives the depth.
@@ -109,17 +108,15 @@ pub(crate) fn advance(lengths: &[u32], base: u32, depth: u32, indexes: &mut [u32
     requires { (depth < 8) × (base + depth < 2 ^ 32) × (get_or indexes.old 0 0 + 1 < 2 ^ 32) }
     ensures { walk_point result indexes.new ≡ advanced depth lengths.now base indexes.old }
 {
-    let mut d = depth;
-    while 0 < d {
-        let lower = length_at(lengths, base + d) as u64;
-        let upper = length_at(lengths, base + (d - 1)) as u64;
-        let on = index_at(indexes, d) as u64 + upper;
+    for d in (0..depth).rev() {
+        let lower = length_at(lengths, base + (d + 1)) as u64;
+        let upper = length_at(lengths, base + d) as u64;
+        let on = index_at(indexes, d + 1) as u64 + upper;
         if on < lower {
-            set_index(indexes, d, on as u32);
-            return d;
+            set_index(indexes, d + 1, on as u32);
+            return d + 1;
         }
-        set_index(indexes, d, 0);
-        d -= 1;
+        set_index(indexes, d + 1, 0);
     }
     let first = index_at(indexes, 0);
     set_index(indexes, 0, first + 1);

@@ -15,6 +15,7 @@ pub fn length_at(lengths: &[u32], k: u32) -> u32
 }
 
 // Whether a number of bins is one of the thirteen powers of two up to 4,096.
+#[tactic(auto, using(crate::proofs::Sized::powers, crate::proofs::Sized::low_powers, crate::proofs::Sized::no_power))]
 fn is_power(x: u32) -> bool
     ensures { result ≡ doubling 13 x 1 }
 {
@@ -29,14 +30,12 @@ fn doubled(lengths: &[u32]) -> bool
     ensures { result ≡ allDoubled (length lengths.now - 1) lengths.now }
 {
     let mut short = word(lengths, 0, 0) as u64;
-    let mut k = 1;
-    while k < lengths.len() {
-        let long = word(lengths, k, 0) as u64;
+    for k in 1..lengths.len() {
+        let long = lengths[k] as u64;
         if long != 2 * short {
             return false;
         }
         short = long;
-        k += 1;
     }
     true
 }
@@ -56,15 +55,10 @@ fn fit_tables(lengths: &[u32]) -> bool
 pub fn bins_before(lengths: &[u32], k: u32) -> usize
     ensures { result ≡ bins_before lengths.now k }
 {
-    let mut sum: usize = 0;
-    let mut j: u32 = 0;
-    while j < k {
-        if lengths.len() <= j as usize {
-            return sum;
-        }
-        let length = length_at(lengths, j);
-        sum += length as usize;
-        j += 1;
+    let tables = lengths.len().min(k as usize);
+    let mut sum = 0;
+    for length in &lengths[..tables] {
+        sum += *length as usize;
     }
     sum
 }
@@ -80,6 +74,7 @@ fn bins_in(lengths: &[u32]) -> usize
 }
 
 // Whether the slices of slots and headers have the lengths of n slots and h headers.
+#[tactic(auto, unfolding(crate::specs::Bins::fit_slots))]
 fn fit_slots(heads: usize, names: usize, cells: usize) -> bool
     ensures { result ≡ fit_slots heads names cells }
 {

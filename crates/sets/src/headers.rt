@@ -9,6 +9,7 @@ use crate::bin::{Bin, bin_of, header};
 use slots::{COUNT, FIRST, NULL, ROOT};
 
 // A header is null with count 0.
+#[tactic(auto, unfolding(set_rules::specs::Accepting::is_blank))]
 fn is_blank(root: u32, first: u32, count: u32) -> bool
     ensures { result ≡ is_blank root first count }
 {
@@ -16,6 +17,7 @@ fn is_blank(root: u32, first: u32, count: u32) -> bool
 }
 
 // 1 for a header that is not null with count 0, 0 for one that is.
+#[tactic(auto, unfolding(set_rules::specs::Accepting::filled))]
 fn filled_header(heads: &[u32], h: u32) -> u32
     ensures { result ≡ filled heads.now h }
 {
@@ -27,15 +29,13 @@ fn filled_header(heads: &[u32], h: u32) -> u32
 }
 
 // The number of the n headers that are not null with count 0.
+#[tactic(auto, unfolding(tree_rules::specs::Chain::tally), using(crate::proofs::Steps::filled_one, crate::proofs::Steps::tally_next))]
 fn filled_headers(heads: &[u32], n: u32) -> u32
     ensures { result ≡ tally n (filled heads.now) }
 {
-    let mut count: u32 = 0;
-    let mut h = n;
-    while 0 < h {
-        h -= 1;
-        let one = filled_header(heads, h);
-        count += one;
+    let mut count = 0;
+    for h in 0..n {
+        count += filled_header(heads, h);
     }
     count
 }
@@ -46,29 +46,24 @@ fn names_header(bin: Bin) -> usize
 {
     match bin {
         Bin::Tree(_) => 1,
-        Bin::Empty => 0,
-        Bin::Moved => 0,
-        Bin::List(_) => 0,
-        Bin::Bad => 0,
+        Bin::Empty | Bin::Moved | Bin::List(_) | Bin::Bad => 0,
     }
 }
 
 // The number of bins that name a header, in a set of n slots and h headers.
+#[tactic(auto, unfolding(tree_rules::specs::Chain::tally), using(crate::proofs::Steps::names_one, crate::proofs::Steps::tally_next))]
 fn naming_bins(bins: &[u32], n: usize, h: usize) -> usize
     ensures { result ≡ tally (length bins.now) (naming n h bins.now) }
 {
-    let mut count: usize = 0;
-    let mut p = bins.len();
-    while 0 < p {
-        p -= 1;
-        let bin = bin_of(n, h, bins[p]);
-        let one = names_header(bin);
-        count += one;
+    let mut count = 0;
+    for word in bins {
+        count += names_header(bin_of(n, h, *word));
     }
     count
 }
 
 // As many headers are not null with count 0 as bins name one, in a set of n slots and h headers.
+#[tactic(auto, unfolding(set_rules::specs::Accepting::headers_fine))]
 pub(crate) fn headers_fine(heads: &[u32], bins: &[u32], n: usize, h: u32) -> bool
     ensures { result ≡ headers_fine n h heads.now bins.now }
 {

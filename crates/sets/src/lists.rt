@@ -8,9 +8,9 @@ ghost use Rattle.sets.specs.Lists.{slot_home};
 
 use crate::bin::index;
 use slots::{BLACK, HASH, KEY, LEFT, NEXT, NULL, PARENT, PREV, RIGHT, STATE, get, name};
-use tree::rules::Rest;
 
 // The hash of slot x names bin i of a table of so many bins.
+#[tactic(auto, unfolding(set_rules::specs::Accepting::is_home))]
 pub fn is_home(names: &[u64], length: u32, i: u32, x: u32) -> bool
     ensures { result ≡ is_home names.now length i x }
 {
@@ -19,6 +19,7 @@ pub fn is_home(names: &[u64], length: u32, i: u32, x: u32) -> bool
 }
 
 // Slot x has state 1 and only its next link set.
+#[tactic(auto, unfolding(set_rules::specs::Accepting::is_list_slot))]
 fn is_list_slot(cells: &[u32], x: u32) -> bool
     ensures { result ≡ is_list_slot cells.now x }
 {
@@ -31,6 +32,7 @@ fn is_list_slot(cells: &[u32], x: u32) -> bool
 }
 
 // Slots x and y have one pair.
+#[tactic(auto, unfolding(set_rules::specs::Accepting::same_pair))]
 fn same_pair(names: &[u64], x: u32, y: u32) -> bool
     ensures { result ≡ same_pair names.now x y }
 {
@@ -59,6 +61,7 @@ fn unlike(names: &[u64], cells: &[u32], x: u32, first: u32, most: usize) -> bool
 }
 
 // Slot x is one of the set's, a list's, and in the bin that its hash names.
+#[tactic(auto, unfolding(crate::specs::Lists::slot_home))]
 pub(crate) fn slot_home(names: &[u64], cells: &[u32], length: u32, i: u32, x: u32) -> bool
     ensures { result ≡ slot_home names.now cells.now length i x }
 {
@@ -80,22 +83,22 @@ pub(crate) fn by_pairs(
     i: u32,
     first: u32,
     visits: usize,
-) -> Rest
+) -> Option<usize>
     ensures { rest_of result ≡ list_fine visits names.now cells.now length i first }
 {
     let mut x = first;
     let mut left = visits;
     while x != NULL {
         if left == 0 {
-            return Rest::Wrong;
+            return None;
         }
         left -= 1;
         let fine = list_slot_fine(names, cells, length, i, x, left);
         if !fine {
-            return Rest::Wrong;
+            return None;
         }
         let next = get(cells, x, NEXT);
         x = next;
     }
-    Rest::Left(left)
+    Some(left)
 }

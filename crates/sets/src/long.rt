@@ -9,7 +9,6 @@ use crate::lists::{by_pairs, slot_home};
 use links::hang::hang_slot;
 use slots::{HASH, KEY, MOST_CELLS, MOST_NAMES, MOST_SLOTS, NEXT, NULL, get, name};
 use tree::find::{Found, find_tree_node};
-use tree::rules::Rest;
 
 // A list of so many slots is short: its pairs are compared in about the time in which the words of a tree are cleared and its slots hung.
 const SHORT: u32 = 64;
@@ -33,7 +32,14 @@ fn is_long(cells: &[u32], first: u32) -> bool
 
 // The visits left after the list from first, or that it goes wrong. The pair of each slot is looked for in a tree of the slots before
 // it, and the slot is hung there. The tree's words take 131,072 bytes of stack, whatever the list.
-fn by_tree(names: &[u64], cells: &[u32], bins: u32, i: u32, first: u32, visits: usize) -> Rest
+fn by_tree(
+    names: &[u64],
+    cells: &[u32],
+    bins: u32,
+    i: u32,
+    first: u32,
+    visits: usize,
+) -> Option<usize>
     requires { length names.now ≤ most_names }
     ensures { rest_of result ≡ list_fine visits names.now cells.now bins i first }
 {
@@ -44,19 +50,19 @@ fn by_tree(names: &[u64], cells: &[u32], bins: u32, i: u32, first: u32, visits: 
     let mut left = visits;
     while x != NULL {
         if left == 0 {
-            return Rest::Wrong;
+            return None;
         }
         left -= 1;
         let home = slot_home(names, cells, bins, i, x);
         if !home {
-            return Rest::Wrong;
+            return None;
         }
         let hash = name(names, x, HASH);
         let key = name(names, x, KEY);
-        let found = find_tree_node(names, &links, root, hash, key);
-        let Found::Nothing(_) = found else {
-            return Rest::Wrong;
-        };
+        match find_tree_node(names, &links, root, hash, key) {
+            Found::Nothing(_) => {}
+            Found::At(_, _) | Found::Lost(_) => return None,
+        }
         let top = hang_slot(
             names,
             &mut links,
@@ -71,7 +77,7 @@ fn by_tree(names: &[u64], cells: &[u32], bins: u32, i: u32, first: u32, visits: 
         let next = get(cells, x, NEXT);
         x = next;
     }
-    Rest::Left(left)
+    Some(left)
 }
 
 // The visits left after the list from first, or that it goes wrong. No list has more slots than there are, so that visits beyond their
@@ -84,7 +90,7 @@ pub(crate) fn list_fine(
     i: u32,
     first: u32,
     visits: usize,
-) -> Rest
+) -> Option<usize>
     ensures { rest_of result ≡ list_fine visits names.now cells.now bins i first }
 {
     let long = is_long(cells, first);
@@ -93,11 +99,8 @@ pub(crate) fn list_fine(
     }
     let n = names.len() / 2;
     if n < visits {
-        let rest = list_fine(names, cells, bins, i, first, n);
-        let Rest::Left(left) = rest else {
-            return Rest::Wrong;
-        };
-        return Rest::Left(left + (visits - n));
+        let left = list_fine(names, cells, bins, i, first, n)?;
+        return Some(left + (visits - n));
     }
     by_tree(names, cells, bins, i, first, visits)
 }

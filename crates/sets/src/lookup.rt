@@ -4,17 +4,18 @@ ghost use Rattle.tree_rules.specs.Find.{slots_of, counted as countedLooks};
 ghost use Rattle.set_rules.specs.Words.{bin_of, lent_set};
 ghost use Rattle.set_rules.specs.Words.{bini as home};
 ghost use Rattle.sets.specs.Bins.{bin_as};
-ghost use Rattle.tree.specs.Find.{searched_of, counted_of};
+ghost use Rattle.tree.specs.Find.{searched_of};
 ghost use Rattle.set_rules.specs.Lookup.{has_pair, sought_in_list, forwarded, lookups, lookups_fit};
-ghost use Rattle.sets.specs.Lookups.{looked_of};
+ghost use Rattle.sets.specs.Lookups.{looked_of, no_table_of};
 
 use crate::bin::{Bin, bin_from, header, index};
 use crate::fit::{bins_before, fit_set, length_at};
-use slots::answer::{given, nothing, refused};
+use slots::answer::{Answer, Answers, refused};
 use slots::{HASH, KEY, NEXT, NULL, ROOT, get, name};
-use tree::find::{Counted, Found, find_tree_node, with_looks};
+use tree::find::{Found, find_tree_node};
 
 // Slot p has the pair (hash, key).
+#[tactic(auto, unfolding(set_rules::specs::Lookup::has_pair))]
 fn has_pair(names: &[u64], p: u32, hash: u64, key: u64) -> bool
     ensures { result ≡ has_pair names.now p hash key }
 {
@@ -23,34 +24,33 @@ fn has_pair(names: &[u64], p: u32, hash: u64, key: u64) -> bool
 
 // The slot of the list from first that has the pair. Lost where a link followed is neither null nor a slot, and where one slot
 // more than there are would be visited.
-fn find_in_list(names: &[u64], cells: &[u32], first: u32, hash: u64, key: u64) -> Found
+fn find_in_list(names: &[u64], cells: &[u32], first: u32, hash: u64, key: u64) -> Found<usize>
     ensures { searched_of result
         ≡ countedLooks (sought_in_list names.now cells.now (slots_of names.now) first hash key) }
 {
     let slots = names.len() / 2;
     let mut p = first;
-    let mut visits = slots;
-    while p != NULL {
+    for looks in 0..slots {
+        if p == NULL {
+            return Found::Nothing(looks);
+        }
         if slots <= p as usize {
-            let looks = slots - visits;
             return Found::Lost(looks);
         }
-        if visits == 0 {
-            return Found::Lost(slots);
-        }
-        visits -= 1;
         let has = has_pair(names, p, hash, key);
         if has {
-            let looks = slots - visits;
-            return Found::At(p, looks);
+            return Found::At(p, looks + 1);
         }
         p = get(cells, p, NEXT);
     }
-    let looks = slots - visits;
-    Found::Nothing(looks)
+    if p == NULL {
+        return Found::Nothing(slots);
+    }
+    Found::Lost(slots)
 }
 
 // The bin for a hash of a table of so many bins that begin at `from`, in a set of n slots and h headers.
+#[tactic(auto, unfolding(set_rules::specs::Words::bini))]
 fn home_bin(bins: &[u32], n: usize, h: usize, from: usize, length: u32, hash: u64) -> Bin
     ensures { bin_as result ≡ bin_of n h (get_or bins.now (from + home length hash) 0) }
 {
@@ -58,7 +58,7 @@ fn home_bin(bins: &[u32], n: usize, h: usize, from: usize, length: u32, hash: u6
     bin_from(bins, n, h, from, i)
 }
 
-// The loop over forwarded tables: it leaves with the answer at the first bin that is not Moved.
+// The loop over forwarded tables: it leaves with the answer at the first bin that is not Moved. Moved in the last table leads nowhere.
 fn search(
     lengths: &[u32],
     bins: &[u32],
@@ -68,8 +68,8 @@ fn search(
     table: u32,
     hash: u64,
     key: u64,
-) -> Found
-    requires { (length lengths.now ≤ 8) × (table < length lengths.now) }
+) -> Found<usize>
+    requires { length lengths.now ≤ 8 }
     ensures { searched_of result
         ≡ countedLooks (forwarded (length lengths.now - table)
         (lent_set lengths.now bins.now heads.now names.now
@@ -77,32 +77,25 @@ fn search(
 {
     let n = names.len() / 2;
     let h = heads.len() / 3;
-    let mut k = table;
     let mut from = bins_before(lengths, table);
-    loop {
+    for k in table..lengths.len() as u32 {
         let length = length_at(lengths, k);
         let bin = home_bin(bins, n, h, from, length, hash);
         match bin {
-            Bin::Empty => break Found::Nothing(0),
-            Bin::Moved => {
-                if lengths.len() <= k as usize + 1 {
-                    break Found::Lost(0);
-                }
-                k += 1;
-                from += length as usize;
-            }
-            Bin::List(first) => break find_in_list(names, cells, first, hash, key),
+            Bin::Empty => return Found::Nothing(0),
+            Bin::Moved => from += length as usize,
+            Bin::List(first) => return find_in_list(names, cells, first, hash, key),
             Bin::Tree(at) => {
                 let root = header(heads, at, ROOT);
-                break find_tree_node(names, cells, root, hash, key);
+                return find_tree_node(names, cells, root, hash, key);
             }
-            Bin::Bad => break Found::Lost(0),
+            Bin::Bad => return Found::Lost(0),
         }
     }
+    Found::Lost(0)
 }
 
-// The loop alone, for slices that are known to fit: nothing is asked of their lengths but that there are at most eight tables, and
-// the one to begin with.
+// The loop alone, for slices that are known to fit: nothing is asked of their lengths but that there are at most eight tables.
 pub fn lookup_fit(
     lengths: &[u32],
     bins: &[u32],
@@ -112,7 +105,7 @@ pub fn lookup_fit(
     table: u32,
     hash: u64,
     key: u64,
-) -> Found
+) -> Found<usize>
     ensures { searched_of result
         ≡ countedLooks (lookups_fit (lent_set lengths.now bins.now heads.now names.now
         cells.now) table hash key) }
@@ -120,33 +113,23 @@ pub fn lookup_fit(
     if 8 < lengths.len() {
         return Found::Lost(0);
     }
-    if lengths.len() <= table as usize {
-        return Found::Lost(0);
-    }
     search(lengths, bins, heads, names, cells, table, hash, key)
 }
 
-// What lookup answers, with the number of each refusal, and last how many slots it looked at.
+// Why a lookup or a walk does not begin.
 #[derive(Clone, Copy)]
-pub enum Looked {
-    At(u32, u32),
-    Nothing(u32),
+pub enum NoTable {
     Unfit, // 1
     Unknown, // 10
-    Lost(u32), // 9
 }
 
-impl Looked {
-    // The number, the value, and how many slots were looked at.
-    pub fn counted(self) -> Counted
-        ensures { counted_of result ≡ (looked_of self) }
-    {
+impl Answers for NoTable {
+    ghost told = { no_table_of };
+
+    fn answer(self) -> Answer {
         match self {
-            Looked::At(slot, looks) => with_looks(looks, given(slot)),
-            Looked::Nothing(looks) => with_looks(looks, nothing()),
-            Looked::Unfit => with_looks(0, refused(1)),
-            Looked::Unknown => with_looks(0, refused(10)),
-            Looked::Lost(looks) => with_looks(looks, refused(9)),
+            NoTable::Unfit => refused(1),
+            NoTable::Unknown => refused(10),
         }
     }
 }
@@ -161,31 +144,18 @@ pub fn lookup(
     table: u32,
     hash: u64,
     key: u64,
-) -> Looked
+) -> Result<Found<u32>, NoTable>
     ensures { looked_of result
         ≡ countedLooks (lookups (lent_set lengths.now bins.now heads.now names.now
         cells.now) table hash key) }
 {
     let fits = fit_set(lengths, bins, heads, names, cells);
     if !fits {
-        return Looked::Unfit;
+        return Err(NoTable::Unfit);
     }
     if lengths.len() <= table as usize {
-        return Looked::Unknown;
+        return Err(NoTable::Unknown);
     }
     let found = search(lengths, bins, heads, names, cells, table, hash, key);
-    match found {
-        Found::At(slot, looks) => {
-            let count = looks as u32;
-            Looked::At(slot, count)
-        }
-        Found::Nothing(looks) => {
-            let count = looks as u32;
-            Looked::Nothing(count)
-        }
-        Found::Lost(looks) => {
-            let count = looks as u32;
-            Looked::Lost(count)
-        }
-    }
+    Ok(found.in_a_word())
 }

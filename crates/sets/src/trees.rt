@@ -9,9 +9,10 @@ ghost use Rattle.set_rules.specs.Accepting.{is_own, chain_own, tree_home, tree_g
 use crate::lists::is_home;
 use slots::{FREE, LEFT, NEXT, NULL, RIGHT, STATE, get};
 use tree::chain::chain;
-use tree::rules::{Rest, survey};
+use tree::rules::survey;
 
 // Each slot from the link x down, at most so deep, is in the bin that its hash names.
+#[tactic(auto, unfolding(set_rules::specs::Accepting::tree_home))]
 fn tree_home(names: &[u64], cells: &[u32], length: u32, i: u32, x: u32, depth: usize) -> bool
     ensures { result ≡ tree_home depth names.now cells.now length i x }
 {
@@ -31,13 +32,14 @@ fn chain_fine(n: usize, cells: &[u32], first: u32, count: u32) -> bool
     ensures { result ≡ leaves n count (chained n n cells.now null first) }
 {
     let walk = chain(n, cells, first);
-    let Rest::Left(rest) = walk else {
+    let Some(rest) = walk else {
         return false;
     };
     n - rest == count as usize
 }
 
 // Slot x is not free and its hash names bin i of a table of so many bins.
+#[tactic(auto, unfolding(set_rules::specs::Accepting::is_own))]
 fn is_own(names: &[u64], cells: &[u32], length: u32, i: u32, x: u32) -> bool
     ensures { result ≡ is_own names.now cells.now length i x }
 {
@@ -98,16 +100,13 @@ pub(crate) fn tree_fine(
     first: u32,
     count: u32,
     visits: usize,
-) -> Rest
+) -> Option<usize>
     ensures { rest_of result ≡ tree_fine names.now cells.now length i root first count visits }
 {
-    let walk = survey(names, cells, root, visits);
-    let Rest::Left(rest) = walk else {
-        return Rest::Wrong;
-    };
+    let rest = survey(names, cells, root, visits)?;
     let good = tree_good(names, cells, length, i, root, first, count, visits - rest);
     if !good {
-        return Rest::Wrong;
+        return None;
     }
-    Rest::Left(rest)
+    Some(rest)
 }

@@ -1,27 +1,25 @@
 // The walk: a cursor goes in by value and the new one comes back.
 ghost use Rattle.std.specs.Prelude.{◌≡◌, []};
-ghost use Rattle.slots.specs.Coded.{answer_of};
+ghost use Rattle.slots.specs.Coded.{done};
 ghost use Rattle.set_rules.specs.Words.{Set, lent_set};
-ghost use Rattle.set_rules.specs.Cursor.{starts};
+ghost use Rattle.set_rules.specs.Cursor.{blank_cursor, starts};
 ghost use Rattle.set_rules.specs.Walk.{walk_point, InTables, turns_in, sought, standing, steps_on, nexts};
-ghost use Rattle.sets.specs.Cursors.{sought_of, started_of, given_of, step_of, start_of};
-ghost use Rattle.sets.specs.Cursors.{cursor_of};
+ghost use Rattle.sets.specs.declared.walk.NextRefusal.TheVariants.{Lost as LostOnTheWay};
+ghost use Rattle.sets.specs.Cursors.{sought_of, cursor_of, start_of, next_refusal_of, walked_of, step_of};
 
 use crate::bin::{Bin, bin_from, header};
 use crate::cursor::{advance, fine, index_at, set_index, trim};
 use crate::fit::{fit_set, length_at};
-use slots::answer::{Answer, given, nothing, refused};
+use crate::lookup::NoTable;
+use slots::answer::{Answer, Answers, given, refused};
 use slots::{FIRST, NEXT, NULL, get};
 
-// What the loop over the bins comes to: an entry, and the depth of the point after it; the end; or it is lost.
+// A word that was read leads nowhere.
 #[derive(Clone, Copy)]
-enum Sought {
-    At(u32, u32),
-    Ended,
-    Lost,
-}
+struct Lost;
 
-// The source's loop over the bins, from the point at this depth with these indexes, which become those of the point after the entry.
+// The source's loop over the bins, from the point at this depth with these indexes: an entry, with the depth of the point after it, whose
+// indexes they become; or none, at the end.
 fn seek(
     lengths: &[u32],
     bins: &[u32],
@@ -30,7 +28,7 @@ fn seek(
     base: u32,
     depth: u32,
     indexes: &mut [u32; 8],
-) -> Sought
+) -> Result<Option<(u32, u32)>, Lost>
     requires { InTables lengths.now base (walk_point depth indexes.old) }
     ensures { sought_of result indexes.new
         ≡ (let s : Set = lent_set lengths.now bins.now heads.now names.now [] in sought
@@ -44,7 +42,7 @@ fn seek(
         let i = index_at(indexes, d);
         let length = length_at(lengths, base + d);
         if length <= i {
-            break Sought::Ended;
+            break Ok(None);
         }
         // A table has as many bins as those before it and the first again, so its own begin at the difference.
         let from = (length - first) as usize;
@@ -55,24 +53,24 @@ fn seek(
             }
             Bin::Moved => {
                 if lengths.len() <= (base + d) as usize + 1 {
-                    break Sought::Lost;
+                    break Err(Lost);
                 }
                 d += 1;
                 set_index(indexes, d, i);
             }
             Bin::List(slot) => {
                 let after = advance(lengths, base, d, indexes);
-                break Sought::At(slot, after);
+                break Ok(Some((slot, after)));
             }
             Bin::Tree(at) => {
                 let first = header(heads, at, FIRST);
                 if n <= first as usize {
-                    break Sought::Lost;
+                    break Err(Lost);
                 }
                 let after = advance(lengths, base, d, indexes);
-                break Sought::At(first, after);
+                break Ok(Some((first, after)));
             }
-            Bin::Bad => break Sought::Lost,
+            Bin::Bad => break Err(Lost),
         }
     }
 }
@@ -86,63 +84,47 @@ pub struct Cursor {
     pub last: u32,
 }
 
-// What start answers, with the number of each refusal.
-#[derive(Clone, Copy)]
-pub enum Started {
-    Made,
-    Unfit, // 1
-    Unknown, // 10
-}
+// A walk that begins: 1.
+impl Answers for Cursor {
+    ghost told = { done };
 
-impl Started {
-    // The number and the value.
-    pub fn answer(self) -> Answer
-        ensures { answer_of result ≡ (started_of self) }
-    {
-        match self {
-            Started::Made => given(1),
-            Started::Unfit => refused(1),
-            Started::Unknown => refused(10),
-        }
+    fn answer(self) -> Answer {
+        given(1)
     }
 }
 
-// What start answers, and the cursor made; all zero where it is refused.
+// Why next gives no step.
 #[derive(Clone, Copy)]
-pub struct Start {
-    pub answer: Started,
-    pub cursor: Cursor,
-}
-
-// What next answers, with the number of each refusal.
-#[derive(Clone, Copy)]
-pub enum Given {
-    Entry(u32),
-    Done,
+pub enum NextRefusal {
     Unfit, // 1
     BadCursor, // 11
     Lost, // 9
 }
 
-impl Given {
-    // The number and the value.
-    pub fn answer(self) -> Answer
-        ensures { answer_of result ≡ (given_of self) }
-    {
+impl Answers for NextRefusal {
+    ghost told = { next_refusal_of };
+
+    fn answer(self) -> Answer {
         match self {
-            Given::Entry(slot) => given(slot),
-            Given::Done => nothing(),
-            Given::Unfit => refused(1),
-            Given::BadCursor => refused(11),
-            Given::Lost => refused(9),
+            NextRefusal::Unfit => refused(1),
+            NextRefusal::BadCursor => refused(11),
+            NextRefusal::Lost => refused(9),
         }
     }
 }
 
-// What next answers, and the cursor after; the same where it is refused.
+impl From<Lost> for NextRefusal {
+    ghost from_gives = { λ _ r. r ≡ LostOnTheWay };
+
+    fn from(_lost: Lost) -> NextRefusal {
+        NextRefusal::Lost
+    }
+}
+
+// The entry that next gives, none at the end, and the cursor after; the same where it is refused.
 #[derive(Clone, Copy)]
 pub struct Step {
-    pub answer: Given,
+    pub answer: Result<Option<u32>, NextRefusal>,
     pub cursor: Cursor,
 }
 
@@ -154,9 +136,9 @@ fn walk(
     heads: &[u32],
     names: &[u64],
     cells: &[u32],
-) -> Step
+) -> Result<(Option<u32>, Cursor), NextRefusal>
     requires { InTables lengths.now cursor.base (standing (cursor_of cursor)) }
-    ensures { step_of result
+    ensures { walked_of (cursor_of cursor) result
         ≡ steps_on (lent_set lengths.now bins.now heads.now names.now cells.now)
         (cursor_of cursor) }
 {
@@ -166,10 +148,7 @@ fn walk(
     let link = get(cells, cursor.last, NEXT);
     if link != NULL {
         if names.len() / 2 <= link as usize {
-            return Step {
-                answer: Given::Lost,
-                cursor,
-            };
+            return Err(NextRefusal::Lost);
         }
         let kept = trim(&whole, depth);
         let on = Cursor {
@@ -178,27 +157,21 @@ fn walk(
             indexes: kept,
             last: link,
         };
-        return Step {
-            answer: Given::Entry(link),
-            cursor: on,
-        };
+        return Ok((Some(link), on));
     }
     let mut indexes = trim(&whole, depth);
-    let sought = seek(lengths, bins, heads, names, base, depth, &mut indexes);
+    let sought = seek(lengths, bins, heads, names, base, depth, &mut indexes)?;
     match sought {
-        Sought::At(slot, after) => {
+        Some((slot, after)) => {
             let on = Cursor {
                 base,
                 depth: after,
                 indexes,
                 last: slot,
             };
-            Step {
-                answer: Given::Entry(slot),
-                cursor: on,
-            }
+            Ok((Some(slot), on))
         }
-        Sought::Ended => {
+        None => {
             let length = length_at(lengths, base);
             let end = [length, 0, 0, 0, 0, 0, 0, 0];
             let done = Cursor {
@@ -207,19 +180,23 @@ fn walk(
                 indexes: end,
                 last: NULL,
             };
-            Step {
-                answer: Given::Done,
-                cursor: done,
-            }
+            Ok((None, done))
         }
-        Sought::Lost => Step {
-            answer: Given::Lost,
-            cursor,
-        },
     }
 }
 
 impl Cursor {
+    // All zero: what comes with a walk that does not begin.
+    pub fn blank() -> Cursor
+        ensures { cursor_of result ≡ blank_cursor }
+    {
+        Cursor {
+            base: 0,
+            depth: 0,
+            indexes: [0, 0, 0, 0, 0, 0, 0, 0],
+            last: 0,
+        }
+    }
     // A walk from the first bin of a table.
     pub fn start(
         lengths: &[u32],
@@ -228,43 +205,57 @@ impl Cursor {
         names: &[u64],
         cells: &[u32],
         table: u32,
-    ) -> Start
+    ) -> Result<Cursor, NoTable>
         ensures { start_of result
             ≡ starts (lent_set lengths.now bins.now heads.now names.now
             cells.now) table }
     {
-        let indexes = [0u32, 0, 0, 0, 0, 0, 0, 0];
-        let blank = Cursor {
-            base: 0,
-            depth: 0,
-            indexes,
-            last: 0,
-        };
         let fits = fit_set(lengths, bins, heads, names, cells);
         if !fits {
-            return Start {
-                answer: Started::Unfit,
-                cursor: blank,
-            };
+            return Err(NoTable::Unfit);
         }
         if lengths.len() <= table as usize {
-            return Start {
-                answer: Started::Unknown,
-                cursor: blank,
-            };
+            return Err(NoTable::Unknown);
         }
-        let made = Cursor {
+        Ok(Cursor {
             base: table,
             depth: 0,
-            indexes,
+            indexes: [0, 0, 0, 0, 0, 0, 0, 0],
             last: NULL,
-        };
-        Start {
-            answer: Started::Made,
-            cursor: made,
-        }
+        })
     }
-    // The next entry, or Done where there is none.
+    // A step of the walk: the next entry, or none, and the cursor after.
+    fn step(
+        self,
+        lengths: &[u32],
+        bins: &[u32],
+        heads: &[u32],
+        names: &[u64],
+        cells: &[u32],
+    ) -> Result<(Option<u32>, Cursor), NextRefusal>
+        ensures { walked_of (cursor_of self) result
+            ≡ nexts (lent_set lengths.now bins.now heads.now names.now cells.now)
+            (cursor_of self) }
+    {
+        let fits = fit_set(lengths, bins, heads, names, cells);
+        if !fits {
+            return Err(NextRefusal::Unfit);
+        }
+        let indexes = self.indexes;
+        let right = fine(
+            lengths,
+            names.len() / 2,
+            self.base,
+            self.depth,
+            &indexes,
+            self.last,
+        );
+        if !right {
+            return Err(NextRefusal::BadCursor);
+        }
+        walk(self, lengths, bins, heads, names, cells)
+    }
+    // The next entry, or none at the end.
     pub fn next(
         self,
         lengths: &[u32],
@@ -277,28 +268,16 @@ impl Cursor {
             ≡ nexts (lent_set lengths.now bins.now heads.now names.now cells.now)
             (cursor_of self) }
     {
-        let fits = fit_set(lengths, bins, heads, names, cells);
-        if !fits {
-            return Step {
-                answer: Given::Unfit,
+        let step = self.step(lengths, bins, heads, names, cells);
+        match step {
+            Ok((entry, cursor)) => Step {
+                answer: Ok(entry),
+                cursor,
+            },
+            Err(refusal) => Step {
+                answer: Err(refusal),
                 cursor: self,
-            };
+            },
         }
-        let indexes = self.indexes;
-        let right = fine(
-            lengths,
-            names.len() / 2,
-            self.base,
-            self.depth,
-            &indexes,
-            self.last,
-        );
-        if !right {
-            return Step {
-                answer: Given::BadCursor,
-                cursor: self,
-            };
-        }
-        walk(self, lengths, bins, heads, names, cells)
     }
 }

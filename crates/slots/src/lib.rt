@@ -21,6 +21,8 @@ pub const MOST_NAMES: usize = 8192;
 pub const MOST_CELLS: usize = 28672;
 
 // The fields of a slot, by their place in its seven words.
+// Form kept: numbers here, and for the states, the parts and the header below, since C and Rust read these words by place, and `cell` and
+// `name_of`, which the contracts equal, take any number for a field.
 pub const PLACE: u32 = 0;
 
 pub const STATE: u32 = 1;
@@ -54,31 +56,18 @@ pub const FIRST: usize = 1;
 
 pub const COUNT: usize = 2;
 
-// Word k of 32 bits; none where there is no such word.
-pub fn word(words: &[u32], k: usize, none: u32) -> u32
+// Word k; none where there is no such word.
+pub fn word<T: Copy>(words: &[T], k: usize, none: T) -> T
     ensures { result ≡ get_or words.now k none }
 {
-    if k < words.len() { words[k] } else { none }
-}
-
-// Writes word k of 32 bits; nothing where there is no such word.
-pub fn put_word(words: &mut [u32], k: usize, v: u32)
-    ensures { words.new ≡ set words.old k v }
-{
-    if k < words.len() {
-        words[k] = v;
+    match words.get(k) {
+        Some(word) => *word,
+        None => none,
     }
 }
 
-// Word k of 64 bits; 0 where there is no such word.
-pub fn wide(words: &[u64], k: usize) -> u64
-    ensures { result ≡ get_or words.now k 0 }
-{
-    if k < words.len() { words[k] } else { 0 }
-}
-
-// Writes word k of 64 bits; nothing where there is no such word.
-pub fn put_wide(words: &mut [u64], k: usize, v: u64)
+// Writes word k; nothing where there is no such word.
+pub fn put_word<T: Copy>(words: &mut [T], k: usize, v: T)
     ensures { words.new ≡ set words.old k v }
 {
     if k < words.len() {
@@ -104,14 +93,14 @@ pub fn put(cells: &mut [u32], i: u32, f: u32, v: u32)
 pub fn name(names: &[u64], i: u32, f: u32) -> u64
     ensures { result ≡ name_of names.now i f }
 {
-    wide(names, 2 * (i as usize) + (f as usize))
+    word(names, 2 * (i as usize) + (f as usize), 0)
 }
 
 // Writes the part f of slot i's name; nothing where there is no such word.
 pub fn put_name(names: &mut [u64], i: u32, f: u32, v: u64)
     ensures { names.new ≡ rename names.old i f v }
 {
-    put_wide(names, 2 * (i as usize) + (f as usize), v);
+    put_word(names, 2 * (i as usize) + (f as usize), v);
 }
 
 // Whether slot i is red: a state other than red is not.
@@ -122,6 +111,7 @@ pub fn is_red(cells: &[u32], i: u32) -> bool
 }
 
 // The colour of slot i, as it is written: red or black, and never a copy of the word.
+// Form kept: a number, since it is the word that `put` writes; its contract equals `code` of a colour.
 pub fn colour(cells: &[u32], i: u32) -> u32
     ensures { result ≡ code (pick (eqb (cell cells.now i state) 2) red black) }
 {
@@ -129,6 +119,7 @@ pub fn colour(cells: &[u32], i: u32) -> u32
 }
 
 // Whether the pair (hash, key) comes before (at, own): by hash, then key.
+// Form kept: (hash, key) < (at, own) is proved too, but 200 million took 0.46 s against 0.39 s, and the full check makes one a slot.
 pub fn comes_before(hash: u64, key: u64, at: u64, own: u64) -> bool
     ensures { result ≡ before hash key at own }
 {

@@ -1,6 +1,8 @@
 -- Every claim of the crate holds: what a call returns and leaves is read back off its outcome.
 use mathlib.Core.Path.{◌≡◌, refl, ap, sym, ◌∙◌}
 use mathlib.Core.List.{List, []}
+use mathlib.Core.Bool.{Bool, true, false}
+use Rattle.std.specs.Prelude.{Result, Ok, Err}
 use Prim.Native.Nat.{ℕ}
 use native.Mathlib.Omega.{arith}
 use lib.Dec.{eqb}
@@ -19,25 +21,24 @@ use Rattle.figure_rules.specs.Printed.{figures_text}
 use Rattle.figure_rules.proofs.Claims as figure-rules
 use Rattle.tally.specs.Replies.{tally_of}
 use Rattle.tally.specs.Meanings.{stream_reply_of, stream_of, figured_of}
-use Rattle.tally.specs.declared.tally.TallyReply.{TallyReply}
-use Rattle.tally.specs.declared.tally.TallyReply.TheVariants.{Accepted, Refused, Unfit, TooMany}
+use Rattle.slots.specs.declared.answer.Unfit.{Unfit}
+use Rattle.tally.specs.declared.tally.TallyRefusal.{TallyRefusal}
+use Rattle.tally.specs.declared.tally.TallyRefusal.TheVariants.{Unfit as NotFit, TooMany}
 use Rattle.tally.specs.declared.stream.Stream.{Stream}
-use Rattle.tally.specs.declared.stream.StreamReply.{StreamReply}
-use Rattle.tally.specs.declared.stream.StreamReply.TheVariants.{Counted, Unfit as Unfitting}
 use Rattle.tally.specs.declared.figure.Figured.{Figured}
 use Rattle.tally.specs.Claims.{TallyReturned, FiguredReturned, returned_by, EndReturned, Claims}
 
-abbrev tally_back : ℕ → Value → TallyReply
-tally_back number (some value) = pick (eqb value 1) Accepted Refused
-tally_back number none = pick (eqb number 1) Unfit TooMany
+abbrev tally_back : ℕ → Value → Result Bool TallyRefusal
+tally_back number (some value) = Ok (eqb value 1)
+tally_back number none = Err (pick (eqb number 1) NotFit TooMany)
 
-tally_back_lem : (r : TallyReply) → tally_back (tally_of r).number (tally_of r).value ≡ r
-tally_back_lem Accepted = refl
-tally_back_lem Refused = refl
-tally_back_lem Unfit = refl
-tally_back_lem TooMany = refl
+tally_back_lem : (r : Result Bool TallyRefusal) → tally_back (tally_of r).number (tally_of r).value ≡ r
+tally_back_lem (Ok true) = refl
+tally_back_lem (Ok false) = refl
+tally_back_lem (Err NotFit) = refl
+tally_back_lem (Err TooMany) = refl
 
-one_to_one : (a b : TallyReply) → tally_of a ≡ tally_of b → a ≡ b
+one_to_one : (a b : Result Bool TallyRefusal) → tally_of a ≡ tally_of b → a ≡ b
 one_to_one = told_apart tally_of (λ a. tally_back a.number a.value) tally_back_lem
 
 returned_one : (a b : TallyReturned) → tally_outcome (tally_of a.reply) a.totals ≡ tally_outcome (tally_of b.reply) b.totals → a ≡ b
@@ -52,16 +53,15 @@ stream_apart a b s u t v e =
     let l = (file-claims.claims).loader_one_to_one a.loader b.loader (ap (λ (d : Model). d.loads.loader) e) in
     λ i. record { got = (e i).got; left = (e i).left; loader = l i; over = (e i).figured.over }
 
-reply_back : ℕ → Value → StreamReply
-reply_back number (some value) = Counted value
-reply_back number none = Unfitting
+abbrev reply_back : ℕ → Value → Result ℕ Unfit
+reply_back number (some value) = Ok value
+reply_back number none = Err (record {})
 
-reply_back_lem : (r : StreamReply) → reply_back (stream_reply_of r).number (stream_reply_of r).value ≡ r
-unfolding reply_back
-reply_back_lem (Counted sets) = refl
-reply_back_lem Unfitting = refl
+reply_back_lem : (r : Result ℕ Unfit) → reply_back (stream_reply_of r).number (stream_reply_of r).value ≡ r
+reply_back_lem (Ok sets) = refl
+reply_back_lem (Err unfit) = refl
 
-reply_one : (a b : StreamReply) → stream_reply_of a ≡ stream_reply_of b → a ≡ b
+reply_one : (a b : Result ℕ Unfit) → stream_reply_of a ≡ stream_reply_of b → a ≡ b
 reply_one = told_apart stream_reply_of (λ a. reply_back a.number a.value) reply_back_lem
 
 figured_one : (a b : Figured) (s u : Set) (t v : List ℕ) → figured_of a s t ≡ figured_of b u v → a ≡ b

@@ -5,15 +5,19 @@ use mathlib.Core.Bool.{Bool, true, false}
 use mathlib.Core.List.{List, [], ◌∷◌}
 use Prim.Native.Nat.{ℕ, zero, suc, ◌+◌, ◌-◌, ◌*◌, ◌^◌, ◌<◌, ◌≤◌, min}
 use native.Mathlib.Omega.{arith}
-use lib.ListN.{length, get_or, take, drop, length-drop, take-append-drop}
-use lib.Seq.{drop-drop, drop-length, length-take-le}
+use lib.ListN.{length, get_or, take, drop, take-append-drop}
+use lib.Seq.{length-take-le}
 use lib.Dec.{eqb, ltb, leb}
 use borrow.Author.Tests.{eq-eqb, ne_eqb, le-leb, lt-leb, le-ltb, lt-ltb}
+use Rattle.std.specs.Prelude.{Result, Ok, Err, is_err}
+use Rattle.file.specs.Meanings.{load_refusal_of, load_reply_of}
+use Rattle.file.specs.declared.reply.LoadRefusal.{LoadRefusal}
+use Rattle.file.specs.declared.reply.LoadRefusal.TheVariants.{Unfit, Damaged, Short, Long, OverLimit}
 use Rattle.slots.specs.Words.{pick}
 use Rattle.slots.specs.Answers.{Answer, given, refused}
 use Rattle.endian.specs.Bytes.{Bytes}
 use Rattle.endian.proofs.Endian.{bytes_split}
-use Rattle.upload_rules.proofs.Ranges.{pick_by}
+use Rattle.upload_rules.proofs.Ranges.{no_test, pick_by}
 use Rattle.set_rules.specs.Words.{Set}
 use Rattle.file_rules.specs.Loader.{Loader, new_loader}
 use Rattle.file_rules.specs.Loading.{Loading, loading, LoadOutcome, cut_out, GoesOn, may_go_on, load_start, load_chunk}
@@ -99,6 +103,22 @@ one_more_lem f s e g =
     let o = g ∙ ap (λ (r : TallyOutcome). pick (eqb r.answer.number 17) true f.over) e in
     let t = ap (λ (r : TallyOutcome). r.totals) e in
     λ i. figures (t i) (o i)
+
+-- A load is given exactly if its answer's number is 0.
+pub given_number : (r : Result ℕ LoadRefusal) {b : Bool} → b ≡ is_err r → b ≡ false → (load_reply_of r).number ≡ 0
+given_number (Ok v) e f = refl
+given_number (Err x) e f = absurd (no_test f e)
+
+refusal_number : (x : LoadRefusal) → (load_refusal_of x).number ≢ 0
+refusal_number Unfit = λ z. omega arith
+refusal_number Damaged = λ z. omega arith
+refusal_number Short = λ z. omega arith
+refusal_number Long = λ z. omega arith
+refusal_number OverLimit = λ z. omega arith
+
+pub refused_number : (r : Result ℕ LoadRefusal) {b : Bool} → b ≡ is_err r → b ≡ true → (load_reply_of r).number ≢ 0
+refused_number (Ok v) e f = absurd (no_test e f)
+refused_number (Err x) e f = refusal_number x
 
 -- The set that is tallied.
 module _ (o : LoadOutcome) {a : Answer} (e : a ≡ o.answer) where
@@ -190,38 +210,32 @@ module _ (d : Stream) (rest : List ℕ) (h : FitStream d) (four : d.got ≡ 4) {
         ∙ sym f)
 
 -- The bytes left of a piece come to what all of them come to.
-pub record Going (d : Stream) (piece : List ℕ) (e : Stream) (at : ℕ) : Type 0 where
-  pub within : at ≤ length piece
-  pub same : bytes_figured e (drop at piece) ≡ bytes_figured d piece
+pub record Going (d : Stream) (piece : List ℕ) (e : Stream) (rest : List ℕ) : Type 0 where
+  pub same : bytes_figured e rest ≡ bytes_figured d piece
   pub fit : FitStream e
 
-pub going_start : (d : Stream) (piece : List ℕ) → FitStream d → Going d piece d 0
-going_start d piece h = record { within = omega arith; same = refl; fit = h }
+pub going_start : (d : Stream) (piece : List ℕ) → FitStream d → Going d piece d piece
+going_start d piece h = record { same = refl; fit = h }
 
-pub going_on : {d e q : Stream} {piece rest : List ℕ} {at used : ℕ} → Going d piece e at → rest ≡ drop at piece → StreamStep e rest used q
-    → Going d piece q (at + used)
-going_on {d} {e} {q} {piece} {rest} {at} {used} g er s =
-    let long = length-drop at piece in
-    let most : used ≤ length (drop at piece) = rw er at s.most in
-    let l = g.within in
+pub going_on : {d e q : Stream} {piece rest left : List ℕ} {used : ℕ} → Going d piece e rest → StreamStep e rest used q
+    → left ≡ drop used rest
+    → Going d piece q left
+going_on {d} {e} {q} {piece} {rest} {left} {used} g s f =
     record {
-      within = omega arith;
       same =
-          ap (bytes_figured q) (sym (drop-drop used at piece) ∙ ap (drop used) (sym er))
+          ap (bytes_figured q) f
           ∙ ap (λ (x : Stream). bytes_figured x (drop used rest)) (sym s.same)
           ∙ sym (figured_append e (take used rest) (drop used rest))
-          ∙ ap (bytes_figured e) (take-append-drop used rest ∙ er)
+          ∙ ap (bytes_figured e) (take-append-drop used rest)
           ∙ g.same;
       fit = s.fit;
     }
 
-pub going_end : {d e : Stream} {piece : List ℕ} {at : ℕ} → Going d piece e at → length piece ≤ at
+pub going_end : {d e : Stream} {piece rest : List ℕ} → Going d piece e rest → length rest ≡ 0
     → (e ≡ bytes_figured d piece) × FitTotals e.figured.totals
 unfolding bytes_figured
-going_end {d} {e} {piece} {at} g l =
-    let w = g.within in
-    let z : at ≡ length piece = omega arith in
-    (ap (bytes_figured e) (sym (ap (λ (n : ℕ). drop n piece) z ∙ drop-length piece)) ∙ g.same, g.fit.totals)
+going_end {rest = []} g l = (g.same, g.fit.totals)
+going_end {rest = x ∷ rest} g l = absurd (omega arith)
 
 -- The calls.
 module _ (d : Stream) {b : Bool} (e : b ≡ stream_fits d) where

@@ -1,15 +1,15 @@
 -- What tally comes to on each of its ways is what the model says.
 use mathlib.Core.Path.{◌≡◌, ap, sym, ◌∙◌}
-use mathlib.Core.Logic.{inl, inr}
 use mathlib.Core.Bool.{Bool, true, false}
-use mathlib.Core.List.{List, [], ◌∷◌}
+use mathlib.Core.List.{List, []}
 use Prim.Native.Nat.{ℕ, ◌+◌, ◌/◌, ◌<◌, ◌≤◌}
 use native.Mathlib.Omega.{arith}
 use lib.ListN.{length}
-use types.Run.{OneOf}
-use denote.Enum.Declared.{tag_of}
 use borrow.Author.Tests.{lt-ltb, le-ltb}
+use Rattle.std.specs.Prelude.{Result, Ok, Err}
+use Rattle.std.specs.Result.{result_unwrap_or}
 use Rattle.slots.specs.Answers.{given, refused}
+use Rattle.upload_rules.proofs.Ranges.{no_test}
 use Rattle.slots.proofs.Laws.{number, given_is}
 use Rattle.set_rules.specs.Words.{Set, lent_set, Fit}
 use Rattle.set_rules.specs.Accepted.{Accepted}
@@ -22,9 +22,7 @@ use Rattle.figure_rules.proofs.Adding.{more_long, slots_long}
 use Rattle.figure_rules.proofs.Tallying.{fit_totals, is-taken, not_taken, word_most}
 use Rattle.figure_rules.proofs.Within.{slots_within}
 use Rattle.sets.specs.Verdicts.{accept_of}
-use Rattle.sets.specs.declared.accept.Acceptance.{Acceptance}
-use Rattle.sets.specs.declared.accept.Acceptance.TheVariants.{Yes, No, Unfit}
-use Rattle.sets.specs.contracts.accept.Acceptance.{the_type}
+use Rattle.slots.specs.declared.answer.Unfit.{Unfit}
 use Rattle.tally.specs.Room.{RoomIn}
 use Rattle.tally.proofs.Counting.{room_more}
 use Rattle.tally.proofs.Looping.{bins_alone}
@@ -84,14 +82,15 @@ module _ (s : Set) (t : List ℕ) {b : Bool} (e : b ≡ fits_totals t) where
         taken-tallies fit a w = simp (← e, f, lt-ltb (counted_in t) most_sets room, is-taken s fit a, w)
 
 -- Acceptance that says yes, and one that does not.
-pub yes_fits : (s : Set) (a : Acceptance) → accept_of a ≡ accepts s → a ≡ Yes → Fit s × Accepted s
-yes_fits s a e f = (judged.accepting s).yes.0 (sym e ∙ ap accept_of f)
+pub yes_fits : (s : Set) (a : Result Bool Unfit) {b : Bool} → accept_of a ≡ accepts s → b ≡ result_unwrap_or a false → b ≡ true
+    → Fit s × Accepted s
+yes_fits s (Ok true) e f g = (judged.accepting s).yes.0 (sym e)
+yes_fits s (Ok false) e f g = absurd (no_test f g)
+yes_fits s (Err u) e f g = absurd (no_test f g)
 
-no_yes : (a : Acceptance) → OneOf (1 ∷ 2 ∷ []) (tag_of the_type a) → accept_of a ≡ given 1 → ⊥
-no_yes Yes (inl z) e = omega arith
-no_yes Yes (inr z) e = omega arith
-no_yes No k e = omega (arith, given_is e)
-no_yes Unfit k e = omega (arith, number e)
-
-pub not-fits : (s : Set) (a : Acceptance) → accept_of a ≡ accepts s → OneOf (1 ∷ 2 ∷ []) (tag_of the_type a) → Fit s → Accepted s → ⊥
-not-fits s a e k fit acc = no_yes a k (e ∙ (judged.accepting s).yes.1 (fit, acc))
+pub not-fits : (s : Set) (a : Result Bool Unfit) {b : Bool} → accept_of a ≡ accepts s → b ≡ result_unwrap_or a false → b ≡ false → Fit s
+    → Accepted s
+    → ⊥
+not-fits s (Ok true) e f g fit acc = no_test g f
+not-fits s (Ok false) e f g fit acc = omega (arith, given_is (e ∙ (judged.accepting s).yes.1 (fit, acc)))
+not-fits s (Err u) e f g fit acc = omega (arith, number (e ∙ (judged.accepting s).yes.1 (fit, acc)))

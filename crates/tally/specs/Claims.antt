@@ -1,6 +1,6 @@
 -- What crate `tally` proves beside its contracts: answers are told apart by their numbers and values, streams by their words, each public
 -- routine has one outcome, what it returns with all that is left in what was lent, and all of the text has room.
-use Rattle.std.specs.Prelude.{◌≡◌, List, [], ℕ, ◌≤◌, length, take}
+use Rattle.std.specs.Prelude.{◌≡◌, Bool, Result, List, [], ℕ, ◌≤◌, length, take}
 use Rattle.slots.specs.Answers.{Answer, OneAnswer}
 use Rattle.slots.specs.Coded.{answer_of}
 use Rattle.script_rules.specs.Feeding.{typed, lent_paper}
@@ -11,14 +11,14 @@ use Rattle.figure_rules.specs.Pieces.{StreamOutcome, stream_start, piece_taken, 
 use Rattle.figure_rules.specs.Printed.{figures_text}
 use Rattle.tally.specs.Replies.{tally_of}
 use Rattle.tally.specs.Meanings.{stream_reply_of, stream_of, figured_of}
-use Rattle.tally.specs.declared.tally.TallyReply.{TallyReply}
+use Rattle.slots.specs.declared.answer.Unfit.{Unfit}
+use Rattle.tally.specs.declared.tally.TallyRefusal.{TallyRefusal}
 use Rattle.tally.specs.declared.stream.Stream.{Stream}
-use Rattle.tally.specs.declared.stream.StreamReply.{StreamReply}
 use Rattle.tally.specs.declared.figure.Figured.{Figured}
 
 -- What tally returns, and the totals after it.
 pub record TallyReturned : Type 0 where
-  pub reply : TallyReply
+  pub reply : Result Bool TallyRefusal
   pub totals : List ℕ
 
 -- What a call on a stream returns, the words of the five slices and the totals after it.
@@ -40,11 +40,11 @@ pub record EndReturned : Type 0 where
   pub totals : List ℕ
 
 pub record Claims : Type 0 where
-  pub tally_reply_one_to_one : (a b : TallyReply) → tally_of a ≡ tally_of b → a ≡ b
+  pub tally_reply_one_to_one : (a b : Result Bool TallyRefusal) → tally_of a ≡ tally_of b → a ≡ b
   pub answer_one : (a : Answer) → OneAnswer (λ r. answer_of r ≡ a)
   pub tally_one : (s : Set) (totals : List ℕ)
       → OneAnswer (λ (r : TallyReturned). tally_outcome (tally_of r.reply) r.totals ≡ tallies s totals)
-  pub stream_reply_one_to_one : (a b : StreamReply) → stream_reply_of a ≡ stream_reply_of b → a ≡ b
+  pub stream_reply_one_to_one : (a b : Result ℕ Unfit) → stream_reply_of a ≡ stream_reply_of b → a ≡ b
   pub stream_one_to_one : (a b : Stream) (s : Set) (t : List ℕ) → stream_of a s t ≡ stream_of b s t → a ≡ b
   -- start is lent nothing: what it returns is one
   pub start_one : OneAnswer (λ r. stream_of r (lent_set [] [] [] [] []) [] ≡ stream_start (lent_set [] [] [] [] []) [])

@@ -1,19 +1,18 @@
 -- The number and value of each answer of a stream, a stream with what it is lent, and what a call comes to.
-use Rattle.std.specs.Prelude.{List, ℕ}
-use Rattle.slots.specs.Answers.{Answer, given, refused}
+use Rattle.std.specs.Prelude.{List, ℕ, Result}
+use Rattle.slots.specs.Answers.{Answer, given}
+use Rattle.slots.specs.Coded.{told_by, unfit_told}
+use Rattle.slots.specs.declared.answer.Unfit.{Unfit}
 use Rattle.set_rules.specs.Words.{Set}
 use Rattle.file_rules.specs.Loading.{loading}
 use Rattle.figure_rules.specs.Stream.{Stream as Model, figures, stream}
 use Rattle.figure_rules.specs.Pieces.{StreamOutcome, stream_outcome}
 use Rattle.file.specs.Meanings.{loader_words}
 use Rattle.tally.specs.declared.stream.Stream.{Stream}
-use Rattle.tally.specs.declared.stream.StreamReply.{StreamReply}
-use Rattle.tally.specs.declared.stream.StreamReply.TheVariants.{Counted, Unfit}
 use Rattle.tally.specs.declared.figure.Figured.{Figured}
 
-abbrev pub stream_reply_of : StreamReply → Answer
-stream_reply_of (Counted sets) = given sets
-stream_reply_of Unfit = refused 1
+abbrev pub stream_reply_of : Result ℕ Unfit → Answer
+stream_reply_of = told_by given unfit_told
 
 abbrev pub stream_of : Stream → Set → List ℕ → Model
 stream_of r s t = stream r.got r.left (loading (loader_words r.loader) s) (figures t r.over)

@@ -1,10 +1,13 @@
 -- The number and value of each answer of tally.
-use Rattle.slots.specs.Answers.{Answer, given, refused}
-use Rattle.tally.specs.declared.tally.TallyReply.{TallyReply}
-use Rattle.tally.specs.declared.tally.TallyReply.TheVariants.{Accepted, Refused, Unfit, TooMany}
+use Rattle.std.specs.Prelude.{Bool, Result}
+use Rattle.slots.specs.Answers.{Answer, refused}
+use Rattle.slots.specs.Coded.{verdict, told_by}
+use Rattle.tally.specs.declared.tally.TallyRefusal.{TallyRefusal}
+use Rattle.tally.specs.declared.tally.TallyRefusal.TheVariants.{Unfit, TooMany}
 
-abbrev pub tally_of : TallyReply → Answer
-tally_of Accepted = given 1
-tally_of Refused = given 0
-tally_of Unfit = refused 1
-tally_of TooMany = refused 17
+abbrev pub tally_refusal_of : TallyRefusal → Answer
+tally_refusal_of Unfit = refused 1
+tally_refusal_of TooMany = refused 17
+
+abbrev pub tally_of : Result Bool TallyRefusal → Answer
+tally_of = told_by verdict tally_refusal_of

@@ -9,17 +9,15 @@ ghost use Rattle.tally.specs.Room.{RoomIn};
 use crate::totals::{ENTRIES, LISTS, LOOKS, SETS, TREES, add_to, row_word};
 use sets::bin::{Bin, bin_of};
 use sets::lookup::lookup_fit;
-use slots::{FREE, HASH, KEY, STATE, get, name, word};
+use slots::{FREE, HASH, KEY, STATE, get, name};
 use tree::find::Found;
 
 // How many slots a search looked at.
-fn looks_of(found: Found) -> usize
+fn looks_of(found: Found<usize>) -> usize
     ensures { result ≡ (searched_of found).looks }
 {
     match found {
-        Found::At(slot, looks) => looks,
-        Found::Nothing(looks) => looks,
-        Found::Lost(looks) => looks,
+        Found::At(_, looks) | Found::Nothing(looks) | Found::Lost(looks) => looks,
     }
 }
 
@@ -90,11 +88,8 @@ fn add_slots(
         ≡ slots_tallied (lent_set lengths.now bins.now heads.now names.now cells.now)
         (length names.now / 2) totals.old }
 {
-    let n = names.len() / 2;
-    let mut x = 0;
-    while x < n {
+    for x in 0..names.len() / 2 {
         add_slot(lengths, bins, heads, names, cells, totals, x as u32);
-        x += 1;
     }
 }
 
@@ -121,11 +116,8 @@ fn add_bins(bins: &[u32], heads: &[u32], names: &[u64], totals: &mut [u64])
 {
     let n = names.len() / 2;
     let h = heads.len() / 3;
-    let mut p = 0;
-    while p < bins.len() {
-        let bin = bin_of(n, h, word(bins, p, 0));
-        add_bin(totals, bin);
-        p += 1;
+    for word in bins {
+        add_bin(totals, bin_of(n, h, *word));
     }
 }
 

@@ -7,15 +7,16 @@ ghost use Rattle.figure_rules.specs.Pieces.{FitStream, stream_start, piece_taken
 ghost use Rattle.tally.specs.Meanings.{stream_of, figured_of};
 
 use crate::input::{step, tally_none};
-use crate::stream::{Stream, StreamReply, end_fits, stream_fits};
+use crate::stream::{Stream, end_fits, stream_fits};
 use crate::totals::{REFUSED, SETS};
 use file::loader::Loader;
-use slots::wide;
+use slots::answer::Unfit;
+use slots::word;
 
 // What a call answers, and the stream after it.
 #[derive(Clone, Copy)]
 pub struct Figured {
-    pub reply: StreamReply,
+    pub reply: Result<u32, Unfit>, // the sets that are counted so far
     pub stream: Stream,
 }
 
@@ -24,7 +25,7 @@ fn counted(totals: &[u64]) -> u32
     requires { FitTotals totals.now }
     ensures { result ≡ counted_in totals.now }
 {
-    let sets = wide(totals, SETS) + wide(totals, REFUSED);
+    let sets = word(totals, SETS, 0) + word(totals, REFUSED, 0);
     sets as u32
 }
 
@@ -49,20 +50,11 @@ fn take_all(
         × FitTotals totals.new }
 {
     let mut stream = r;
-    let mut at: usize = 0;
-    while at < piece.len() {
-        let next = step(
-            stream,
-            lengths,
-            bins,
-            heads,
-            names,
-            cells,
-            totals,
-            &piece[at..],
-        );
+    let mut rest = piece;
+    while !rest.is_empty() {
+        let next = step(stream, lengths, bins, heads, names, cells, totals, rest);
         stream = next.stream;
-        at += next.used;
+        rest = &rest[next.used..];
     }
     stream
 }
@@ -113,14 +105,14 @@ impl Stream {
         let fits = stream_fits(self, lengths, bins, heads, names, cells, totals);
         if !fits {
             return Figured {
-                reply: StreamReply::Unfit,
+                reply: Err(Unfit),
                 stream: self,
             };
         }
         let stream = take_all(self, lengths, bins, heads, names, cells, totals, piece);
         let sets = counted(totals);
         Figured {
-            reply: StreamReply::Counted(sets),
+            reply: Ok(sets),
             stream,
         }
     }
@@ -133,7 +125,7 @@ impl Stream {
         let fits = end_fits(self, totals);
         if !fits {
             return Figured {
-                reply: StreamReply::Unfit,
+                reply: Err(Unfit),
                 stream: self,
             };
         }
@@ -147,7 +139,7 @@ impl Stream {
         };
         let sets = counted(totals);
         Figured {
-            reply: StreamReply::Counted(sets),
+            reply: Ok(sets),
             stream,
         }
     }

@@ -11,20 +11,18 @@ ghost use Rattle.tally.specs.Meanings.{stream_of};
 ghost use Rattle.tally.specs.Steps.{StreamStep};
 
 use crate::stream::{Stream, with_byte};
-use crate::tally::{TallyReply, tally};
+use crate::tally::{TallyRefusal, tally};
 use file::cut::{front_cells, front_heads, front_names, front_words};
 use file::load::Load;
 use file::loader::Loader;
 
 // Whether a set came after a million: it did before, or the tally says so.
-fn over_after(reply: TallyReply, over: bool) -> bool
+fn over_after(reply: Result<bool, TallyRefusal>, over: bool) -> bool
     ensures { result ≡ pick (eqb (tally_of reply).number 17) true over }
 {
     match reply {
-        TallyReply::Accepted => over,
-        TallyReply::Refused => over,
-        TallyReply::Unfit => over,
-        TallyReply::TooMany => true,
+        Err(TallyRefusal::TooMany) => true,
+        Err(TallyRefusal::Unfit) | Ok(_) => over,
     }
 }
 
@@ -79,9 +77,7 @@ fn tally_load(
         (set_to_tally (loaded_of load
         (lent_set lengths.now bins.now heads.now names.now cells.now))) }
 {
-    let reply = load.reply;
-    let answer = reply.answer();
-    if answer.number != 0 {
+    if load.reply.is_err() {
         return tally_none(totals, over);
     }
     tally_cut(
@@ -206,10 +202,7 @@ fn length_byte(
 fn own_bytes(left: u64, rest: &[u8]) -> usize
     ensures { result ≡ min left (length rest.now) }
 {
-    if left < rest.len() as u64 {
-        return left as usize;
-    }
-    rest.len()
+    left.min(rest.len() as u64) as usize
 }
 
 // The stream after some bytes, and how many they are.

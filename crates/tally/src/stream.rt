@@ -1,14 +1,12 @@
 // Where an input of many sets stands: a stream goes in by value and comes back.
 ghost use Rattle.std.specs.Prelude.{◌≡◌, [], ◌+◌, ◌*◌, ◌^◌, ◌<◌};
-ghost use Rattle.slots.specs.Coded.{answer_of};
 ghost use Rattle.set_rules.specs.Words.{lent_set};
 ghost use Rattle.figure_rules.specs.Pieces.{length_fits, end_fits, stream_fits};
-ghost use Rattle.tally.specs.Meanings.{stream_of, stream_reply_of};
+ghost use Rattle.tally.specs.Meanings.{stream_of};
 
 use crate::totals::fit_totals;
 use file::load::may_go_on;
 use file::loader::Loader;
-use slots::answer::{Answer, given, refused};
 
 #[derive(Clone, Copy)]
 pub struct Stream {
@@ -16,25 +14,6 @@ pub struct Stream {
     pub left: u64, // the number of those bytes; then the set's bytes that are to come
     pub loader: Loader,
     pub over: bool, // whether a set came after a million
-}
-
-// What a call on a stream answers.
-#[derive(Clone, Copy)]
-pub enum StreamReply {
-    Counted(u32), // the sets that are counted so far
-    Unfit, // 1
-}
-
-impl StreamReply {
-    // The number and the value.
-    pub fn answer(self) -> Answer
-        ensures { answer_of result ≡ (stream_reply_of self) }
-    {
-        match self {
-            StreamReply::Counted(sets) => given(sets),
-            StreamReply::Unfit => refused(1),
-        }
-    }
 }
 
 // 256 to the power of fewer than four.

@@ -1,35 +1,29 @@
 // Tally: a set counted into the totals, as accepted or as refused.
 ghost use Rattle.std.specs.Prelude.{◌≡◌};
-ghost use Rattle.slots.specs.Coded.{answer_of};
 ghost use Rattle.set_rules.specs.Words.{lent_set};
 ghost use Rattle.figure_rules.specs.Tally.{tally_outcome, tallies};
-ghost use Rattle.tally.specs.Replies.{tally_of};
+ghost use Rattle.tally.specs.Replies.{tally_refusal_of, tally_of};
 
 use crate::add::add_set;
 use crate::totals::{MOST_SETS, REFUSED, SETS, add_to, fit_totals};
-use sets::accept::{Acceptance, accept};
-use slots::answer::{Answer, given, refused};
-use slots::wide;
+use sets::accept::accept;
+use slots::answer::{Answer, Answers, refused};
+use slots::word;
 
-// What tally answers.
+// Why a tally is refused.
 #[derive(Clone, Copy)]
-pub enum TallyReply {
-    Accepted, // counted as accepted
-    Refused, // counted as refused
+pub enum TallyRefusal {
     Unfit, // 1
     TooMany, // 17
 }
 
-impl TallyReply {
-    // The number and the value.
-    pub fn answer(self) -> Answer
-        ensures { answer_of result ≡ (tally_of self) }
-    {
+impl Answers for TallyRefusal {
+    ghost told = { tally_refusal_of };
+
+    fn answer(self) -> Answer {
         match self {
-            TallyReply::Accepted => given(1),
-            TallyReply::Refused => given(0),
-            TallyReply::Unfit => refused(1),
-            TallyReply::TooMany => refused(17),
+            TallyRefusal::Unfit => refused(1),
+            TallyRefusal::TooMany => refused(17),
         }
     }
 }
@@ -42,25 +36,25 @@ pub fn tally(
     names: &[u64],
     cells: &[u32],
     totals: &mut [u64],
-) -> TallyReply
+) -> Result<bool, TallyRefusal>
     ensures { tally_outcome (tally_of result) totals.new
         ≡ tallies (lent_set lengths.now bins.now heads.now names.now cells.now)
         totals.old }
 {
     let fit = fit_totals(totals);
     if !fit {
-        return TallyReply::Unfit;
+        return Err(TallyRefusal::Unfit);
     }
-    let sets = wide(totals, SETS);
-    let refused = wide(totals, REFUSED);
+    let sets = word(totals, SETS, 0);
+    let refused = word(totals, REFUSED, 0);
     if MOST_SETS <= sets + refused {
-        return TallyReply::TooMany;
+        return Err(TallyRefusal::TooMany);
     }
-    let judged = accept(lengths, bins, heads, names, cells);
-    let Acceptance::Yes = judged else {
+    let accepted = accept(lengths, bins, heads, names, cells).unwrap_or(false);
+    if !accepted {
         add_to(totals, REFUSED, 1);
-        return TallyReply::Refused;
-    };
+        return Ok(false);
+    }
     add_set(lengths, bins, heads, names, cells, totals);
-    TallyReply::Accepted
+    Ok(true)
 }

@@ -9,14 +9,14 @@ ghost use Rattle.tally.specs.Parts.{counts_text, last_text};
 
 use crate::totals::{ENTRIES, LAST_ROW, LISTS, LOOKS, REFUSED, SETS, TREES};
 use console::fill::fill;
-use slots::wide;
+use slots::word;
 
 // A line of one number.
 fn tell_word(out: &mut [u8], at: usize, sentence: &[u8], totals: &[u64], j: usize) -> usize
     ensures { lent_paper out.new result
         ≡ typed (lent_paper out.old at) (blanks_filled sentence.now (total_at totals.now j ∷ [])) }
 {
-    let numbers = [wide(totals, j)];
+    let numbers = [word(totals, j, 0)];
     fill(out, at, sentence, &numbers)
 }
 
@@ -38,11 +38,9 @@ fn tell_rows(out: &mut [u8], at: usize, totals: &[u64]) -> usize
         ≡ typed (lent_paper out.old at) (rows_text 32 totals.now 1) }
 {
     let mut end = at;
-    let mut i: usize = 1;
-    while i <= 32 {
-        let numbers = [i as u64, wide(totals, 5 + i)];
+    for i in 1..33usize {
+        let numbers = [i as u64, word(totals, 5 + i, 0)];
         end = fill(out, end, b"looks # #\n", &numbers);
-        i += 1;
     }
     end
 }
@@ -53,7 +51,7 @@ fn tell_last(out: &mut [u8], at: usize, totals: &[u64]) -> usize
         ≡ typed (lent_paper out.old at) (last_text totals.now) }
 {
     let more = tell_word(out, at, b"more #\n", totals, LAST_ROW);
-    let numbers = [wide(totals, LOOKS), wide(totals, ENTRIES)];
+    let numbers = [word(totals, LOOKS, 0), word(totals, ENTRIES, 0)];
     fill(out, more, b"mean # #\n", &numbers)
 }
 

@@ -3,7 +3,7 @@ ghost use Rattle.std.specs.Prelude.{◌≡◌, ◌+◌, ◌<◌, ◌≤◌};
 ghost use Rattle.figure_rules.specs.Totals.{total_at, sets_in, most_sets, most_added, words_fit, fits_totals};
 ghost use Rattle.figure_rules.specs.Tally.{with_more, row_word};
 
-use slots::{put_wide, wide};
+use slots::{put_word, word};
 
 // "sets, refused, entries, lists, trees, looks, then the rows 1 to 32 and the last row"
 pub(crate) const SETS: usize = 0;
@@ -36,11 +36,9 @@ fn words_fit(totals: &[u64], sets: u64) -> bool
     requires { (sets ≡ sets_in totals.now) × (sets ≤ most_sets) }
     ensures { result ≡ words_fit 37 totals.now }
 {
-    let mut j: usize = 37;
-    while 0 < j {
-        j -= 1;
+    for j in (0..37usize).rev() {
         let most = most_added(2 + j);
-        let total = wide(totals, 2 + j);
+        let total = word(totals, 2 + j, 0);
         if most * sets < total {
             return false;
         }
@@ -55,11 +53,11 @@ pub(crate) fn fit_totals(totals: &[u64]) -> bool
     if totals.len() != WORDS {
         return false;
     }
-    let sets = wide(totals, SETS);
+    let sets = word(totals, SETS, 0);
     if MOST_SETS < sets {
         return false;
     }
-    let refused = wide(totals, REFUSED);
+    let refused = word(totals, REFUSED, 0);
     if MOST_SETS - sets < refused {
         return false;
     }
@@ -78,6 +76,6 @@ pub(crate) fn add_to(totals: &mut [u64], j: usize, v: u64)
     requires { total_at totals.old j + v < 18446744073709551616 }
     ensures { totals.new ≡ with_more totals.old j v }
 {
-    let total = wide(totals, j);
-    put_wide(totals, j, total + v)
+    let total = word(totals, j, 0);
+    put_word(totals, j, total + v)
 }

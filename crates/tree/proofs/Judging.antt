@@ -1,6 +1,6 @@
 -- T3 to T6 and T8 asked together of what hangs from a link: what each way out of one visit comes to.
 -- Parts: the parts on the left and on the right of a slot, joined; the ways out of a visit by the tests of the slot itself; what obeys the
--- rules hands back no more visits; the ways out by the two parts; what comes of both; the whole tree; the visits left.
+-- rules hands back no more visits; the ways out by the two parts; both of them joined; the whole tree; the visits left.
 use mathlib.Core.Path.{◌≡◌, refl, sym, ◌∙◌}
 use mathlib.Core.Logic.{◌≢◌}
 use mathlib.Core.Bool.{Bool, true, false}
@@ -8,7 +8,6 @@ use mathlib.Core.List.{List}
 use Prim.Native.Nat.{ℕ, ◌+◌, ◌-◌, ◌<◌, ◌≤◌}
 use native.Mathlib.Omega.{arith}
 use lib.Dec.{eqb}
-use borrow.Author.Tests.{eq-eqb, ne_eqb}
 use Rattle.slots.specs.Words.{null, pick, state, left, right, cell}
 use Rattle.slots.specs.Answers.{Value, none, some}
 use Rattle.tree_rules.specs.Find.{slots_of}
@@ -18,7 +17,7 @@ use Rattle.tree_rules.specs.Rules.{obeyed, obeyed_sized, is_calm}
 use Rattle.tree_rules.specs.Sizes.{has_size}
 use Rattle.tree_rules.proofs.Sizing.{obeyed_each, sized_both}
 use Rattle.tree_rules.proofs.Visits.{reached_within, reached_fuel, reach_null, reach_outside, reach_spent, reach_wrong, reach_on}
-use Rattle.tree.specs.Rules.{Verdict, obeys, breaks, together, judged, deepest_of}
+use Rattle.tree.specs.Rules.{Verdict, obeys, breaks, together, joined, judged, deepest_of}
 use Rattle.tree.proofs.Depth.{no_rise, no_calm, no_level, no_weight, deepest_enough}
 use Rattle.tree.proofs.Weights.{weight_spent}
 use Rattle.tree.proofs.Ruling.{rise_null, rise_zero, rise_on, calm_null, calm_on, level-null, level_on, level_bound, weigh_null}
@@ -32,8 +31,8 @@ onward breaks f = breaks
 -- The parts on the left and on the right of a slot, whose own rules hold: follow tells whether it rises from what was read last, has
 -- whether its size is a number. The visits that the two parts took tell what they weigh.
 module _ (follow : ℕ → Bool) (red : Bool) (has : ℕ → Bool) (visits : ℕ) where
-  abbrev pub joined : ℕ → ℕ → ℕ → ℕ → Verdict
-  joined a unspent end b = pick (eqb a b) (pick (has (visits - unspent)) (obeys unspent end (pick red a (a + 1))) breaks) breaks
+  abbrev met : ℕ → ℕ → ℕ → ℕ → Verdict
+  met a unspent end b = pick (eqb a b) (pick (has (visits - unspent)) (obeys unspent end (pick red a (a + 1))) breaks) breaks
 
   abbrev evened : ℕ → Value → Value
   evened a level = then level (λ b. pick (eqb a b) (some (pick red a (a + 1))) none)
@@ -44,7 +43,7 @@ module _ (follow : ℕ → Bool) (red : Bool) (has : ℕ → Bool) (visits : ℕ
   join_right : (f : Bool) (reach rise : Value) (calm : Bool) (level weight : Value) (a x : ℕ)
       → ((u y : ℕ) → reach ≡ some u → weight ≡ some y → with_parts x y ≡ visits - u)
       → together reach (pick f rise none) calm (evened a level) (weighing x weight)
-      ≡ pick f (onward (together reach rise calm level weight) (joined a)) breaks
+      ≡ pick f (onward (together reach rise calm level weight) (met a)) breaks
   join_right false reach rise calm level weight a x h = sym (no_rise reach calm (evened a level) (weighing x weight))
   join_right true none rise calm level weight a x h = refl
   join_right true (some u) none calm level weight a x h = refl
@@ -67,7 +66,7 @@ module _ (follow : ℕ → Bool) (red : Bool) (has : ℕ → Bool) (visits : ℕ
       (then level (λ a. evened a level2))
       (then weight (λ x. weighing x weight2))
       ≡ onward (together reach rise calm level weight)
-      (λ rest m a. pick (follow m) (onward (together (within rest) rise2 calm2 level2 weight2) (joined a)) breaks)
+      (λ rest m a. pick (follow m) (onward (together (within rest) rise2 calm2 level2 weight2) (met a)) breaks)
   join none rights within h rise rise2 calm calm2 level level2 weight weight2 g = refl
   join (some k) rights within h none rise2 calm calm2 level level2 weight weight2 g =
       sym (no_rise (rights k) (pick calm calm2 false) (then level (λ a. evened a level2)) (then weight (λ x. weighing x weight2)))
@@ -150,7 +149,7 @@ pub record BothParts (names cells sizes : List ℕ) (q last i depth visits : ℕ
   pub lefts : ℕ
   pub rights : ℕ
   pub on : judged names cells sizes q last i depth visits
-      ≡ joined (λ k. follows names k i) (eqb (cell cells i state) 2) (has_size sizes i) visits lefts unspent end rights
+      ≡ joined cells sizes i visits lefts unspent end rights
   pub first : rest ≤ visits - 1
   pub second : unspent ≤ rest
   pub shallow : lefts ≤ depth - 1
@@ -172,7 +171,7 @@ module _ (names cells sizes : List ℕ) (q last i depth visits : ℕ) (v : Visit
       ≡ onward (judged names cells sizes i last (cell cells i left) (depth - 1) (visits - 1))
       (λ rest m a. pick (follows names m i)
       (onward (judged names cells sizes i i (cell cells i right) (depth - 1) rest)
-      (joined (λ k. follows names k i) (eqb (cell cells i state) 2) (has_size sizes i) visits a))
+      (joined cells sizes i visits a))
       breaks)
   unfolding with_parts
   walk_on =
@@ -235,24 +234,10 @@ module _ (names cells sizes : List ℕ) (q last i depth visits : ℕ) (v : Visit
               shallow = walk_blacks names cells sizes i last t (depth - 1) (visits - 1) h;
             }
 
--- What comes of it.
-module _ {names cells sizes : List ℕ} {q last i depth visits : ℕ} (w : BothParts names cells sizes q last i depth visits) where
-  abbrev pub found : Verdict
-  found = judged names cells sizes q last i depth visits
-
-  pub walk_uneven : w.lefts ≢ w.rights → breaks ≡ found
-  walk_uneven u = sym (w.on ∙ rw (ne_eqb w.lefts w.rights u))
-
-  module _ (u : w.lefts ≡ w.rights) {sized : Bool} (z : sized ≡ has_size sizes i (visits - w.unspent)) where
-    pub walk_missized : sized ≡ false → breaks ≡ found
-    walk_missized v = sym (w.on ∙ rw (eq-eqb w.lefts w.rights u, ← z, v))
-
-    module _ (j : sized ≡ true) {red : Bool} (x : red ≡ eqb (cell cells i state) 2) where
-      pub walk_red : red ≡ true → obeys w.unspent w.end w.lefts ≡ found
-      walk_red v = sym (w.on ∙ rw (eq-eqb w.lefts w.rights u, ← z, j, ← x, v))
-
-      pub walk_black : red ≡ false → obeys w.unspent w.end (w.lefts + 1) ≡ found
-      walk_black v = sym (w.on ∙ rw (eq-eqb w.lefts w.rights u, ← z, j, ← x, v))
+-- What they come to joined is what hangs from the link.
+pub walk_joined : {names cells sizes : List ℕ} {q last i depth visits : ℕ} (w : BothParts names cells sizes q last i depth visits)
+    → {o : Verdict} → o ≡ joined cells sizes i visits w.lefts w.unspent w.end w.rights → o ≡ judged names cells sizes q last i depth visits
+walk_joined w e = e ∙ sym w.on
 
 -- The whole tree.
 abbrev pub rest_left : Verdict → Value

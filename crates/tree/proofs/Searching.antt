@@ -1,9 +1,8 @@
 -- What each way out of the search's loop says of the answer, from the law of one turn.
-use mathlib.Core.Path.{◌≡◌, refl, ap, sym, ◌∙◌}
+use mathlib.Core.Path.{◌≡◌, refl, ap, sym, subst, ◌∙◌}
 use mathlib.Core.Logic.{◌≢◌}
 use mathlib.Core.List.{List}
-use Prim.Native.Nat.{ℕ, zero, suc, ◌+◌, ◌-◌, ◌<◌, ◌≤◌}
-use native.Mathlib.Numerals.{sub-one}
+use Prim.Native.Nat.{ℕ, suc, ◌+◌, ◌-◌, ◌<◌, ◌≤◌}
 use native.Mathlib.Omega.{arith}
 use mathlib.Core.Bool.{Bool, true, false}
 use lib.Dec.{eqb, ltb}
@@ -33,9 +32,6 @@ module _ (names cells : List ℕ) (p hash key : ℕ) where
   unfolding looked decided
   alike e = rw (le-ltb hash (name_of names p hash_part) (omega (arith, e)), le-ltb (name_of names p hash_part) hash (omega (arith, e)))
 
-pub one_less_lem : {v n : ℕ} → v ≤ n → v - 1 ≤ n
-one_less_lem h = omega arith
-
 -- The search from here, with so many looks before it.
 abbrev pub later : ℕ → Search → Counted
 later k s = with_looks (k + length s.looks) s.answer
@@ -43,51 +39,47 @@ later k s = with_looks (k + length s.looks) s.answer
 same_looks : {j k : ℕ} (a : Answer) → j ≡ k → with_looks j a ≡ with_looks k a
 same_looks a e = ap (λ (k : ℕ). with_looks k a) e
 
-pub begun : (n : ℕ) (s : Search) → later (n - n) s ≡ counted s
-begun n s = same_looks s.answer (omega arith)
+pub begun : (n : ℕ) (run : ℕ → Search) → later 0 (run (n - 0)) ≡ counted (run n)
+begun n run = let z : n - 0 ≡ n = omega arith in rw z (same_looks (run n).answer (omega arith))
 
--- A search over n slots that has come to the link p with so many visits left: each visit spent is a look.
-module _ {n : ℕ} {look : ℕ → Look} {run : ℕ → ℕ → Search} (r : Runs n look run) (p : ℕ) where
-  stopped : (visits : ℕ) {c : Counted} → later (n - visits) (run visits p) ≡ c → {a : Answer} → run visits p ≡ ends a
-      → with_looks (n - visits) a ≡ c
-  stopped visits i {a} e = same_looks a (omega arith) ∙ ap (later (n - visits)) (sym e) ∙ i
+-- A search over n slots that has come to the link p after k looks: each look spends a visit.
+module _ {n : ℕ} {look : ℕ → Look} {run : ℕ → ℕ → Search} (r : Runs n look run) (p k : ℕ) {c : Counted}
+    (i : later k (run (n - k) p) ≡ c) where
+  stopped : {a : Answer} → run (n - k) p ≡ ends a → with_looks k a ≡ c
+  stopped {a} e = same_looks a (omega arith) ∙ ap (later k) (sym e) ∙ i
 
-  turn : (v k : ℕ) {c : Counted} → later k (run (suc v) p) ≡ c → p ≢ null → p < n → (o : Look) → o ≡ look p
-      → later k (looked_then o p (λ q. run v q)) ≡ c
-  turn v k i d l o e = rw e (ap (later k) (sym (r.at_slot v p d l)) ∙ i)
+  pub ended : p ≡ null → with_looks k nothing ≡ c
+  ended e = stopped (r.at_null (n - k) p e)
 
-  module _ (visits : ℕ) {c : Counted} (i : later (n - visits) (run visits p) ≡ c) where
-    pub ended : p ≡ null → with_looks (n - visits) nothing ≡ c
-    ended e = stopped visits i (r.at_null visits p e)
+  strayed : p ≢ null → n ≤ p → with_looks k (refused 9) ≡ c
+  strayed d h = stopped (r.out_of_range (n - k) p d h)
 
-    pub strayed : p ≢ null → n ≤ p → with_looks (n - visits) (refused 9) ≡ c
-    strayed d h = stopped visits i (r.out_of_range visits p d h)
+  wanting : p ≢ null → n - k ≡ 0 → with_looks k (refused 9) ≡ c
+  wanting d v = stopped (ap (λ (k : ℕ). run k p) v ∙ r.visits_spent p d)
 
-    pub wanting : p ≢ null → visits ≡ 0 → with_looks n (refused 9) ≡ c
-    wanting d v = same_looks (refused 9) (omega arith) ∙ stopped visits i (ap (λ (k : ℕ). run k p) v ∙ r.visits_spent p d)
+  -- A link that leads off: past the slots, or with no visit left.
+  pub outside : n ≤ p → {a : Counted} → a ≡ with_looks k (pick (eqb p null) nothing (refused 9)) → a ≡ c
+  outside h e = go (eqb p null) refl e
+    where
+      go : (b : Bool) → eqb p null ≡ b → {a : Counted} → a ≡ with_looks k (pick b nothing (refused 9)) → a ≡ c
+      go true x e = e ∙ ended (eqb-true p null x)
+      go false x e = e ∙ strayed (eqb-false p null x) h
 
-    -- A link that leads off: past the slots, or with no visit left.
-    pub outside : n ≤ p → {a : Counted} → a ≡ with_looks (n - visits) (pick (eqb p null) nothing (refused 9)) → a ≡ c
-    outside h e = go (eqb p null) refl e
-      where
-        go : (b : Bool) → eqb p null ≡ b → {a : Counted} → a ≡ with_looks (n - visits) (pick b nothing (refused 9)) → a ≡ c
-        go true x e = e ∙ ended (eqb-true p null x)
-        go false x e = e ∙ strayed (eqb-false p null x) h
+  pub spent : k ≡ n → {a : Counted} → a ≡ with_looks n (pick (eqb p null) nothing (refused 9)) → a ≡ c
+  spent v e = go (eqb p null) refl e
+    where
+      go : (b : Bool) → eqb p null ≡ b → {a : Counted} → a ≡ with_looks n (pick b nothing (refused 9)) → a ≡ c
+      go true x e = e ∙ same_looks nothing (sym v) ∙ ended (eqb-true p null x)
+      go false x e = e ∙ same_looks (refused 9) (sym v) ∙ wanting (eqb-false p null x) (omega arith)
 
-    pub spent : visits ≡ 0 → {a : Counted} → a ≡ with_looks n (pick (eqb p null) nothing (refused 9)) → a ≡ c
-    spent v e = go (eqb p null) refl e
-      where
-        go : (b : Bool) → eqb p null ≡ b → {a : Counted} → a ≡ with_looks n (pick b nothing (refused 9)) → a ≡ c
-        go true x e = e ∙ same_looks nothing (omega arith) ∙ ended (eqb-true p null x)
-        go false x e = e ∙ wanting (eqb-false p null x) v
+  module _ (d : p ≢ null) (l : p < n) (h : k < n) where
+    turn : (o : Look) → o ≡ look p → later k (looked_then o p (λ q. run (n - (k + 1)) q)) ≡ c
+    turn o e =
+        let s : n - k ≡ suc (n - (k + 1)) = omega arith in
+        rw e (ap (later k) (sym (r.at_slot (n - (k + 1)) p d l)) ∙ subst (λ (v : ℕ). later k (run v p) ≡ c) s i)
 
-  module _ (d : p ≢ null) (l : p < n) where
-    pub met : (visits : ℕ) {c : Counted} → later (n - visits) (run visits p) ≡ c → visits ≢ 0 → visits ≤ n → here ≡ look p
-        → with_looks (n - (visits - 1)) (given p) ≡ c
-    met zero i v m e = absurd (v refl)
-    met (suc k) i v m e = same_looks (given p) (omega arith) ∙ turn k (n - suc k) i d l here e
+    pub met : here ≡ look p → with_looks (k + 1) (given p) ≡ c
+    met e = turn here e
 
-    pub onward : (visits : ℕ) {c : Counted} → later (n - visits) (run visits p) ≡ c → visits ≢ 0 → visits ≤ n
-        → {q : ℕ} → on q ≡ look p → later (n - (visits - 1)) (run (visits - 1) q) ≡ c
-    onward zero i v m e = absurd (v refl)
-    onward (suc k) i v m {q} e = rw sub-one (same_looks (run k q).answer (omega arith) ∙ turn k (n - suc k) i d l (on q) e)
+    pub onward : {q : ℕ} → on q ≡ look p → later (k + 1) (run (n - (k + 1)) q) ≡ c
+    onward {q} e = same_looks (run (n - (k + 1)) q).answer (omega arith) ∙ turn (on q) e

@@ -6,9 +6,15 @@ use mathlib.Core.List.{List}
 use Prim.Native.Nat.{ℕ, zero, suc, ◌<◌, ◌≤◌, ◌-◌}
 use native.Mathlib.Numerals.{sub-one}
 use native.Mathlib.Omega.{arith}
+use Rattle.std.specs.Prelude.{Option, None, Some, Result, Ok, Err}
+use Rattle.std.specs.Result.{result_err}
 use Rattle.slots.specs.Words.{null, left, right, cell}
 use Rattle.tree_rules.specs.Find.{slots_of}
-use Rattle.tree_rules.specs.Check.{links_in, first_failing, Walk, passed, failed, strayed, onward, walked}
+use Rattle.tree_rules.specs.Check.{links_in, first_failing, Walk, passed, failed, strayed, onward, walk_answer, walked}
+use Rattle.tree.specs.Check.{failing_of, walk_of, checked_of}
+use Rattle.tree.specs.declared.check.Fault.{Fault}
+use Rattle.tree.specs.declared.check.Fault.TheVariants.{Fails, Lost}
+use Rattle.tree.proofs.Testing.{failing_none, failing_some}
 use Rattle.tree_rules.proofs.Walking.{walk_null, walk_outside, walk_spent, walk_loose, walk_fails, walk_on, walked_fuel, walked_within}
 
 -- A visit whose tests pass goes on with the left subtree.
@@ -33,30 +39,36 @@ module _ (names cells : List ℕ) (i v : ℕ) where
     pub loose : named ≡ false → strayed ≡ walked v names cells i v
     loose e = sym (walk_loose names cells n l w v (sym q ∙ e))
 
-    module _ (y : named ≡ true) {test : ℕ} (f : test ≡ first_failing names cells i) where
-      pub fails : test ≢ 0 → failed test i ≡ walked v names cells i v
-      fails d = go v w
+    module _ (y : named ≡ true) {failing : Option ℕ} (f : failing ≡ failing_of (first_failing names cells i)) where
+      pub fails : {t : ℕ} → failing ≡ Some t → failed t i ≡ walked v names cells i v
+      fails {t} e = go v w
         where
-          go : (k : ℕ) → k ≢ 0 → failed test i ≡ walked k names cells i k
+          s : (t ≡ first_failing names cells i) × (first_failing names cells i ≢ 0)
+          s = failing_some (first_failing names cells i) t (sym e ∙ f)
+
+          go : (k : ℕ) → k ≢ 0 → failed t i ≡ walked k names cells i k
           go zero z = absurd (z refl)
-          go (suc k) z = ap (λ (t : ℕ). failed t i) f ∙ sym (walk_fails names cells n l z k (sym q ∙ y) (λ e. d (f ∙ e)))
+          go (suc k) z = ap (λ (t : ℕ). failed t i) s.0 ∙ sym (walk_fails names cells n l z k (sym q ∙ y) s.1)
 
-      lefts : test ≡ 0 → {t : ℕ} → t ≡ cell cells i left → {o : Walk} → o ≡ walked (v - 1) names cells t (v - 1)
+      lefts : failing ≡ None → {t : ℕ} → t ≡ cell cells i left → {o : Walk} → o ≡ walked (v - 1) names cells t (v - 1)
           → walked v names cells i v ≡ onward o (λ rest. walked (v - 1) names cells (cell cells i right) rest)
-      lefts z p a = left_first names cells i v n l w (sym q ∙ y) (sym f ∙ z) p a
+      lefts z p a = left_first names cells i v n l w (sym q ∙ y) (failing_none (first_failing names cells i) (sym z ∙ f)) p a
 
-      pub left_fails : test ≡ 0 → {t u j : ℕ} → t ≡ cell cells i left → failed u j ≡ walked (v - 1) names cells t (v - 1)
-          → failed u j ≡ walked v names cells i v
-      left_fails z p a = sym (lefts z p a)
+      pub left_stops : failing ≡ None → {t : ℕ} → t ≡ cell cells i left → (r : Fault)
+          → walk_of (Err r) ≡ walked (v - 1) names cells t (v - 1) → walk_of (Err r) ≡ walked v names cells i v
+      left_stops z p (Fails u j) a = sym (lefts z p a)
+      left_stops z p Lost a = sym (lefts z p a)
 
-      pub left_strays : test ≡ 0 → {t : ℕ} → t ≡ cell cells i left → strayed ≡ walked (v - 1) names cells t (v - 1)
-          → strayed ≡ walked v names cells i v
-      left_strays z p a = sym (lefts z p a)
-
-      pub both : test ≡ 0 → {t r rest : ℕ} {o : Walk} → t ≡ cell cells i left → passed rest ≡ walked (v - 1) names cells t (v - 1)
+      pub both : failing ≡ None → {t r rest : ℕ} {o : Walk} → t ≡ cell cells i left → passed rest ≡ walked (v - 1) names cells t (v - 1)
           → r ≡ cell cells i right → o ≡ walked rest names cells r rest → o ≡ walked v names cells i v
       both z {t} {r} {rest} p a b c =
           c ∙ ap (λ (j : ℕ). walked rest names cells j rest) b
           ∙ walked_fuel names cells rest (v - 1) (cell cells i right) rest (omega arith)
           (walked_within names cells (v - 1) t (v - 1) rest (omega arith) (sym a))
           ∙ sym (lefts z p a)
+
+-- What the walk comes to is what the check answers.
+pub told : (r : Result ℕ Fault) → checked_of (result_err r) ≡ walk_answer (walk_of r)
+told (Ok v) = refl
+told (Err (Fails t i)) = refl
+told (Err Lost) = refl

@@ -1,23 +1,18 @@
--- What the values of the shape check's enums mean.
-use Rattle.std.specs.Prelude.{Bool, List, ℕ, ltb}
-use Rattle.slots.specs.Words.{pick}
+-- What the results of the shape check mean.
+use Rattle.std.specs.Prelude.{Bool, Option, None, Some, List, ℕ, ◌+◌, ◌-◌, eqb, ltb}
+use Rattle.slots.specs.Words.{pick, state, cell}
 use Rattle.slots.specs.Answers.{Value, none, some}
+use Rattle.slots.specs.Coded.{value_of}
 use Rattle.tree_rules.specs.Find.{slots_of}
+use Rattle.tree_rules.specs.Sizes.{has_size}
 use Rattle.tree_rules.specs.Rules.{reached, risen, all_calm, levelled, slots_below}
-use Rattle.tree.specs.declared.rules.Rest.{Rest}
-use Rattle.tree.specs.declared.rules.Rest.TheVariants.{Left, Wrong}
-use Rattle.tree.specs.declared.rules.Size.{Size}
-use Rattle.tree.specs.declared.rules.Size.TheVariants.{Slots, Broken}
 use Rattle.tree.specs.declared.rules.Part.{Part}
-use Rattle.tree.specs.declared.rules.Part.TheVariants.{Obeys, Breaks}
 
-abbrev pub rest_of : Rest → Value
-rest_of (Left v) = some v
-rest_of Wrong = none
+abbrev pub rest_of : Option ℕ → Value
+rest_of = value_of
 
-abbrev pub size_of : Size → Value
-size_of (Slots m) = some m
-size_of Broken = none
+abbrev pub size_of : Option ℕ → Value
+size_of = value_of
 
 -- T3 to T6 and T8 of what hangs from a link: the visits left, the slot read last and the black slots of every way down;
 -- or that one is broken.
@@ -25,9 +20,16 @@ pub data Verdict : Type 0 where
   obeys : ℕ → ℕ → ℕ → Verdict
   breaks : Verdict
 
-abbrev pub part_of : Part → Verdict
-part_of (Obeys rest last blacks) = obeys rest last blacks
-part_of Breaks = breaks
+abbrev pub part_of : Option Part → Verdict
+part_of (Some p) = obeys p.rest p.last p.blacks
+part_of None = breaks
+
+-- The two parts below the slot i, joined, where so many visits were left at it: the black slots of the left part, then what the right
+-- part comes to. They meet as many black slots, and the size of i is the number of visits spent.
+abbrev pub joined : List ℕ → List ℕ → ℕ → ℕ → ℕ → ℕ → ℕ → ℕ → Verdict
+joined cells sizes i visits a unspent end b =
+    pick (eqb a b)
+    (pick (has_size sizes i (visits - unspent)) (obeys unspent end (pick (eqb (cell cells i state) 2) a (a + 1))) breaks) breaks
 
 abbrev pub measured_by : Value → (ℕ → Verdict) → Verdict
 measured_by (some v) f = f v

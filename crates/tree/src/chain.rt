@@ -4,11 +4,11 @@ ghost use Rattle.slots.specs.Words.{null};
 ghost use Rattle.tree_rules.specs.Chain.{chained};
 ghost use Rattle.tree.specs.Rules.{rest_of};
 
-use crate::rules::Rest;
 use slots::{NEXT, NULL, PREV, get};
 
-// The visits left of n, one a slot, after the chain from first; or that prev does not lead back, or the chain does not end.
-pub fn chain(n: usize, cells: &[u32], first: u32) -> Rest
+// The visits left of n, one a slot, after the chain from first; or none where prev does not
+// lead back, or the chain does not end.
+pub fn chain(n: usize, cells: &[u32], first: u32) -> Option<usize>
     ensures { rest_of result ≡ chained n n cells.now null first }
 {
     let mut q = NULL;
@@ -16,19 +16,19 @@ pub fn chain(n: usize, cells: &[u32], first: u32) -> Rest
     let mut visits = n;
     while i != NULL {
         if n <= i as usize {
-            return Rest::Wrong;
+            return None;
         }
         if visits == 0 {
-            return Rest::Wrong;
+            return None;
         }
         let back = get(cells, i, PREV);
         if back != q {
-            return Rest::Wrong;
+            return None;
         }
         let next = get(cells, i, NEXT);
         q = i;
         i = next;
         visits -= 1;
     }
-    Rest::Left(visits)
+    Some(visits)
 }

@@ -1,14 +1,16 @@
 // The source's check_invariants, on any words and from any root.
 ghost use Rattle.std.specs.Prelude.{◌≡◌, ◌+◌, ◌*◌, ◌<◌, length};
 ghost use Rattle.slots.specs.Words.{cell};
-ghost use Rattle.tree.specs.Check.{walk_of, checked_of};
+ghost use Rattle.tree.specs.Check.{failing_of, walk_of, fault_of, checked_of};
 ghost use Rattle.tree_rules.specs.Check.{points_back, is_child, left_hash, right_hash, not_all_red, first_failing};
 ghost use Rattle.tree_rules.specs.Check.{test as holds};
 ghost use Rattle.tree_rules.specs.Check.{in_range, links_in, walked, checked};
 
+use slots::answer::{Answer, Answers, refused};
 use slots::{HASH, LEFT, NEXT, NULL, PARENT, PREV, RIGHT, get, is_red, name};
 
 // The neighbour of i along the field f, if any, points back to i along the field g.
+#[tactic(auto, unfolding(tree_rules::specs::Check::points_back))]
 fn points_back(cells: &[u32], i: u32, f: u32, g: u32) -> bool
     ensures { result ≡ points_back cells.now i f g }
 {
@@ -17,6 +19,7 @@ fn points_back(cells: &[u32], i: u32, f: u32, g: u32) -> bool
 }
 
 // The parent of i, if any, has it as its left or its right child.
+#[tactic(auto, unfolding(tree_rules::specs::Check::is_child))]
 fn is_child(cells: &[u32], i: u32) -> bool
     ensures { result ≡ is_child cells.now i }
 {
@@ -25,6 +28,7 @@ fn is_child(cells: &[u32], i: u32) -> bool
 }
 
 // The hash of i's left child, if any, is at most i's.
+#[tactic(auto, unfolding(tree_rules::specs::Check::left_hash))]
 fn left_hash(names: &[u64], cells: &[u32], i: u32) -> bool
     ensures { result ≡ left_hash names.now cells.now i }
 {
@@ -33,6 +37,7 @@ fn left_hash(names: &[u64], cells: &[u32], i: u32) -> bool
 }
 
 // The hash of i's right child, if any, is at least i's.
+#[tactic(auto, unfolding(tree_rules::specs::Check::right_hash))]
 fn right_hash(names: &[u64], cells: &[u32], i: u32) -> bool
     ensures { result ≡ right_hash names.now cells.now i }
 {
@@ -41,6 +46,7 @@ fn right_hash(names: &[u64], cells: &[u32], i: u32) -> bool
 }
 
 // i is not red, or lacks a child, or one of its two children is not red.
+#[tactic(auto, unfolding(tree_rules::specs::Check::not_all_red))]
 fn not_all_red(cells: &[u32], i: u32) -> bool
     ensures { result ≡ not_all_red cells.now i }
 {
@@ -50,6 +56,7 @@ fn not_all_red(cells: &[u32], i: u32) -> bool
 }
 
 // Whether test t of the eight holds at slot i, in source order.
+// Form kept: the rules tell a failing test by its number, 100 + t, so that an enum of the eight would be turned back into it.
 fn test(names: &[u64], cells: &[u32], t: u8, i: u32) -> bool
     ensures { result ≡ holds names.now cells.now t i }
 {
@@ -65,19 +72,17 @@ fn test(names: &[u64], cells: &[u32], t: u8, i: u32) -> bool
     }
 }
 
-// The number of the first of the eight tests that fails at slot i; 0 where none does.
-fn first_failing(names: &[u64], cells: &[u32], i: u32) -> u8
-    ensures { result ≡ first_failing names.now cells.now i }
+// The number of the first of the eight tests that fails at slot i, if one does.
+fn first_failing(names: &[u64], cells: &[u32], i: u32) -> Option<u8>
+    ensures { result ≡ failing_of (first_failing names.now cells.now i) }
 {
-    let mut t: u8 = 1;
-    while t <= 8 {
+    for t in 1..9 {
         let fine = test(names, cells, t, i);
         if !fine {
-            return t;
+            return Some(t);
         }
-        t += 1;
     }
-    0
+    None
 }
 
 // A link is null or names one of n slots.
@@ -88,6 +93,7 @@ pub fn in_range(n: usize, link: u32) -> bool
 }
 
 // The field f of slot i, whose word is there.
+#[tactic(auto, unfolding(slots::specs::Words::cell), using(slots::proofs::Laws::get_d_any))]
 fn held(cells: &[u32], i: u32, f: u32) -> u32
     requires { 7 * i + f < length cells.now }
     ensures { result ≡ cell cells.now i f }
@@ -96,6 +102,7 @@ fn held(cells: &[u32], i: u32, f: u32) -> u32
 }
 
 // So is each of slot i's own five links, whose words are there.
+#[tactic(auto, unfolding(tree_rules::specs::Check::links_in))]
 fn links_held(n: usize, cells: &[u32], i: u32) -> bool
     requires { 7 * i + 6 < length cells.now }
     ensures { result ≡ links_in n cells.now i }
@@ -109,6 +116,7 @@ fn links_held(n: usize, cells: &[u32], i: u32) -> bool
 }
 
 // So is each of slot i's own five links, where some of its words may not be there.
+#[tactic(auto, unfolding(tree_rules::specs::Check::links_in))]
 fn links_read(n: usize, cells: &[u32], i: u32) -> bool
     ensures { result ≡ links_in n cells.now i }
 {
@@ -130,66 +138,61 @@ pub fn links_in(n: usize, cells: &[u32], i: u32) -> bool
     links_read(n, cells, i)
 }
 
-// What a visit comes to: all passes, with so many visits left; a test fails at a slot; or the walk is lost.
+// Why a tree does not pass: a test fails at a slot, or the walk is lost.
 #[derive(Clone, Copy)]
-enum Walk {
-    Passed(usize),
-    Failed(u8, u32),
-    Strayed,
-}
-
-// Visits the slot i, then its left subtree whole, then the right.
-fn visit(names: &[u64], cells: &[u32], i: u32, visits: usize) -> Walk
-    ensures { walk_of result ≡ walked visits names.now cells.now i visits }
-{
-    if i == NULL {
-        return Walk::Passed(visits);
-    }
-    let slots = names.len() / 2;
-    if slots <= i as usize {
-        return Walk::Strayed;
-    }
-    if visits == 0 {
-        return Walk::Strayed;
-    }
-    let named = links_read(slots, cells, i);
-    if !named {
-        return Walk::Strayed;
-    }
-    let test = first_failing(names, cells, i);
-    if test != 0 {
-        return Walk::Failed(test, i);
-    }
-    let l = get(cells, i, LEFT);
-    let left = visit(names, cells, l, visits - 1);
-    match left {
-        Walk::Passed(rest) => {
-            let r = get(cells, i, RIGHT);
-            visit(names, cells, r, rest)
-        }
-        Walk::Failed(t, at) => Walk::Failed(t, at),
-        Walk::Strayed => Walk::Strayed,
-    }
-}
-
-// What the source's check of one tree answers.
-#[derive(Clone, Copy)]
-pub enum Checked {
-    Passes,
+pub enum Fault {
     Fails(u8, u32),
     Lost, // 9
 }
 
-// The first failing test with its slot, or that all pass. Lost where the root or one of a visited slot's five links is out of
+impl Answers for Fault {
+    ghost told = { fault_of };
+
+    // The number of a failing test stands above 100.
+    fn answer(self) -> Answer {
+        match self {
+            Fault::Fails(test, slot) => Answer {
+                number: 100 + test as u32,
+                value: Some(slot),
+            },
+            Fault::Lost => refused(9),
+        }
+    }
+}
+
+// Visits the slot i, then its left subtree whole, then the right; the visits left where all passes.
+fn visit(names: &[u64], cells: &[u32], i: u32, visits: usize) -> Result<usize, Fault>
+    ensures { walk_of result ≡ walked visits names.now cells.now i visits }
+{
+    if i == NULL {
+        return Ok(visits);
+    }
+    let slots = names.len() / 2;
+    if slots <= i as usize {
+        return Err(Fault::Lost);
+    }
+    if visits == 0 {
+        return Err(Fault::Lost);
+    }
+    let named = links_read(slots, cells, i);
+    if !named {
+        return Err(Fault::Lost);
+    }
+    let failing = first_failing(names, cells, i);
+    if let Some(test) = failing {
+        return Err(Fault::Fails(test, i));
+    }
+    let l = get(cells, i, LEFT);
+    let rest = visit(names, cells, l, visits - 1)?;
+    let r = get(cells, i, RIGHT);
+    visit(names, cells, r, rest)
+}
+
+// The first failing test with its slot; none where all pass. Lost where the root or one of a visited slot's five links is out of
 // range, and where one slot more than there are would be visited.
-pub fn check_invariants(names: &[u64], cells: &[u32], root: u32) -> Checked
+pub fn check_invariants(names: &[u64], cells: &[u32], root: u32) -> Option<Fault>
     ensures { checked_of result ≡ checked names.now cells.now root }
 {
     let slots = names.len() / 2;
-    let walk = visit(names, cells, root, slots);
-    match walk {
-        Walk::Passed(_) => Checked::Passes,
-        Walk::Failed(test, slot) => Checked::Fails(test, slot),
-        Walk::Strayed => Checked::Lost,
-    }
+    visit(names, cells, root, slots).err()
 }

@@ -12,7 +12,7 @@ use lib.Dec.{eqb, ltb}
 use borrow.Author.Tests.{lt-ltb, le-ltb, eq-eqb, ne_eqb}
 use Rattle.slots.specs.Words.{◌and◌}
 use Rattle.script_rules.proofs.Reading.{past}
-use Rattle.trials.specs.Playing.{agreed}
+use Rattle.trials.specs.Playing.{all_same, how_far, agreed}
 use Rattle.trials.specs.Claims.{Parts, Agrees}
 
 -- A byte that stands at a place, and one that does not.
@@ -20,7 +20,7 @@ record Stands (expected : List ℕ) (from b : ℕ) : Type 0 where
   within : from < length expected
   byte : get_or expected from 0 ≡ b
 
-abbrev Other : List ℕ → ℕ → ℕ → Type 0
+abbrev pub Other : List ℕ → ℕ → ℕ → Type 0
 Other expected from b = (length expected ≤ from) ⊎ (get_or expected from 0 ≢ b)
 
 stands : (expected : List ℕ) (from b : ℕ) → Stands expected from b ⊎ Other expected from b
@@ -31,14 +31,14 @@ stands expected from b = go (dec_lt from (length expected)) (ℕ_discrete (get_o
     go (yes l) (no n) = inr (inr n)
     go (no n) e = inr (inl (omega arith))
 
-abbrev test : List ℕ → ℕ → ℕ → Bool
+abbrev pub test : List ℕ → ℕ → ℕ → Bool
 test expected from b = ltb from (length expected) and eqb (get_or expected from 0) b
 
 module _ (expected : List ℕ) (from b : ℕ) where
   yes_test : Stands expected from b → test expected from b ≡ true
   yes_test s = rw (lt-ltb _ _ s.within, eq-eqb _ _ s.byte)
 
-  no_test : Other expected from b → test expected from b ≡ false
+  pub no_test : Other expected from b → test expected from b ≡ false
   no_test (inl h) = rw (le-ltb _ _ h)
   no_test (inr n) = go (ltb from (length expected))
     where
@@ -49,14 +49,15 @@ module _ (expected : List ℕ) (from b : ℕ) where
 -- Yes: the part stands there, and all of it has come.
 record Came (expected : List ℕ) (from : ℕ) (part : List ℕ) : Type 0 where
   stood : drop from expected ≡ part ++ drop (from + length part) expected
-  came : (agreed expected from part).at ≡ from + length part
+  came : how_far (agreed expected from part) ≡ from + length part
 
-yes_came : (expected : List ℕ) (from : ℕ) (part : List ℕ) → (agreed expected from part).same ≡ true → Came expected from part
+yes_came : (expected : List ℕ) (from : ℕ) (part : List ℕ) → all_same (agreed expected from part) ≡ true → Came expected from part
 unfolding agreed
 yes_came expected from [] e = let z : from + 0 ≡ from = omega arith in record { stood = rw z; came = sym z }
 yes_came expected from (b ∷ part) e = go (stands expected from b) (yes_came expected (suc from) part)
   where
-    go : Stands expected from b ⊎ Other expected from b → ((agreed expected (suc from) part).same ≡ true → Came expected (suc from) part)
+    go : Stands expected from b ⊎ Other expected from b
+        → (all_same (agreed expected (suc from) part) ≡ true → Came expected (suc from) part)
         → Came expected from (b ∷ part)
     go (inl s) again =
         let rest = again (rw (yes_test expected from b s) at e) in
@@ -68,13 +69,13 @@ yes_came expected from (b ∷ part) e = go (stands expected from b) (yes_came ex
     go (inr o) again = absurd (false≢true (rw (no_test expected from b o) at e))
 
 stood_yes : (expected : List ℕ) (from : ℕ) (part rest : List ℕ) → drop from expected ≡ part ++ rest
-    → (agreed expected from part).same ≡ true
+    → all_same (agreed expected from part) ≡ true
 unfolding agreed
 stood_yes expected from [] rest e = refl
 stood_yes expected from (b ∷ part) rest e = go (dec_lt from (length expected)) (stood_yes expected (suc from) part rest)
   where
-    go : Dec (from < length expected) → (drop (suc from) expected ≡ part ++ rest → (agreed expected (suc from) part).same ≡ true)
-        → (agreed expected from (b ∷ part)).same ≡ true
+    go : Dec (from < length expected) → (drop (suc from) expected ≡ part ++ rest → all_same (agreed expected (suc from) part) ≡ true)
+        → all_same (agreed expected from (b ∷ part)) ≡ true
     go (yes l) again =
         let both : get_or expected from 0 ∷ drop (suc from) expected ≡ b ∷ (part ++ rest) = sym (drop-cons expected from 0 l) ∙ e in
         let byte : get_or expected from 0 ≡ b = cc in
@@ -86,15 +87,15 @@ stood_yes expected from (b ∷ part) rest e = go (dec_lt from (length expected))
         absurd (omega arith)
 
 -- No: up to the first byte that does not stand there.
-no_parts : (expected : List ℕ) (from : ℕ) (part : List ℕ) → (agreed expected from part).same ≡ false
-    → Parts expected from part (agreed expected from part).at
+no_parts : (expected : List ℕ) (from : ℕ) (part : List ℕ) → all_same (agreed expected from part) ≡ false
+    → Parts expected from part (how_far (agreed expected from part))
 unfolding agreed
 no_parts expected from [] e = absurd (false≢true (sym e))
 no_parts expected from (b ∷ part) e = go (stands expected from b) (no_parts expected (suc from) part)
   where
     go : Stands expected from b ⊎ Other expected from b
-        → ((agreed expected (suc from) part).same ≡ false → Parts expected (suc from) part (agreed expected (suc from) part).at)
-        → Parts expected from (b ∷ part) (agreed expected from (b ∷ part)).at
+        → (all_same (agreed expected (suc from) part) ≡ false → Parts expected (suc from) part (how_far (agreed expected (suc from) part)))
+        → Parts expected from (b ∷ part) (how_far (agreed expected from (b ∷ part)))
     go (inl s) again =
         let rest = again (rw (yes_test expected from b s) at e) in
         let p = rest.place in
@@ -122,27 +123,27 @@ agrees expected from part = record {
 }
 
 -- A part in two pieces: the second goes on where the first ended, or the first says no.
-pub agreed-more : (expected : List ℕ) (from : ℕ) (a b : List ℕ) → (agreed expected from a).same ≡ true
-    → agreed expected from (a ++ b) ≡ agreed expected (agreed expected from a).at b
+pub agreed-more : (expected : List ℕ) (from : ℕ) (a b : List ℕ) → all_same (agreed expected from a) ≡ true
+    → agreed expected from (a ++ b) ≡ agreed expected (how_far (agreed expected from a)) b
 unfolding agreed
 agreed-more expected from [] b e = refl
 agreed-more expected from (x ∷ a) b e = go (stands expected from x) (agreed-more expected (suc from) a b)
   where
     go : Stands expected from x ⊎ Other expected from x
-        → ((agreed expected (suc from) a).same ≡ true
-        → agreed expected (suc from) (a ++ b) ≡ agreed expected (agreed expected (suc from) a).at b)
-        → agreed expected from (x ∷ (a ++ b)) ≡ agreed expected (agreed expected from (x ∷ a)).at b
+        → (all_same (agreed expected (suc from) a) ≡ true
+        → agreed expected (suc from) (a ++ b) ≡ agreed expected (how_far (agreed expected (suc from) a)) b)
+        → agreed expected from (x ∷ (a ++ b)) ≡ agreed expected (how_far (agreed expected from (x ∷ a))) b
     go (inl s) again = rw (yes_test expected from x s) (again (rw (yes_test expected from x s) at e))
     go (inr o) again = absurd (false≢true (rw (no_test expected from x o) at e))
 
-pub agreed_stop : (expected : List ℕ) (from : ℕ) (a b : List ℕ) → (agreed expected from a).same ≡ false
+pub agreed_stop : (expected : List ℕ) (from : ℕ) (a b : List ℕ) → all_same (agreed expected from a) ≡ false
     → agreed expected from (a ++ b) ≡ agreed expected from a
 unfolding agreed
 agreed_stop expected from [] b e = absurd (false≢true (sym e))
 agreed_stop expected from (x ∷ a) b e = go (stands expected from x) (agreed_stop expected (suc from) a b)
   where
     go : Stands expected from x ⊎ Other expected from x
-        → ((agreed expected (suc from) a).same ≡ false → agreed expected (suc from) (a ++ b) ≡ agreed expected (suc from) a)
+        → (all_same (agreed expected (suc from) a) ≡ false → agreed expected (suc from) (a ++ b) ≡ agreed expected (suc from) a)
         → agreed expected from (x ∷ (a ++ b)) ≡ agreed expected from (x ∷ a)
     go (inl s) again = rw (yes_test expected from x s) (again (rw (yes_test expected from x s) at e))
     go (inr o) again = rw (no_test expected from x o)

@@ -15,4 +15,5 @@ claims = record {
   same_names_one = λ x y a b e f. e ∙ sym f;
   same_index_lem = same_indexes;
   same_index_one = λ x y a b e f. e ∙ sym f;
+  first_one = λ n words a b e f. e ∙ sym f;
 }

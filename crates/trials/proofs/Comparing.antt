@@ -1,16 +1,15 @@
 -- Words that are compared one by one are the same exactly if each is.
 use mathlib.Core.Path.{◌≡◌, refl, ap, sym, ◌∙◌}
-use mathlib.Core.Logic.{◌≢◌, ◌↔◌}
-use mathlib.Core.Bool.{Bool, true, false, false≢true}
+use mathlib.Core.Logic.{◌↔◌}
+use mathlib.Core.Bool.{Bool, true, false, ◌&&◌, false≢true}
 use mathlib.Core.List.{List, [], ◌∷◌}
-use Prim.Native.Nat.{ℕ, ◌+◌, ◌<◌, ◌≤◌}
-use native.Mathlib.Omega.{arith}
-use lib.ListN.{length, drop, get_or}
+use Prim.Native.Nat.{ℕ}
 use lib.Dec.{eqb}
-use borrow.Author.Tests.{eqb-true, eq-eqb, ne_eqb}
+use Rattle.std.specs.Cmp.Lexicographic.{pointwise}
+use Rattle.slots.specs.Words.{◌and◌}
+use borrow.Author.Tests.{eqb-true, eq-eqb}
 use Rattle.index_rules.specs.Index.{Index, lent}
 use Rattle.index_rules.proofs.Fit.{both}
-use Rattle.script_rules.proofs.Reading.{from, past}
 use Rattle.trials.specs.Comparing.{same_words, same_index}
 
 yes_same : (a b : List ℕ) → same_words a b ≡ true → a ≡ b
@@ -31,28 +30,6 @@ same_self (x ∷ a) = rw (eq-eqb x x refl) (same_self a)
 
 pub same_words_lem : (a b : List ℕ) → (same_words a b ≡ true) ↔ (a ≡ b)
 same_words_lem a b = (yes_same a b, λ e. ap (same_words a) (sym e) ∙ same_self a)
-
-not_yes : (t : Bool) → (t ≡ true → ⊥) → false ≡ t
-not_yes true n = absurd (n refl)
-not_yes false n = refl
-
--- From place k on, where both have the same length.
-module _ (a b : List ℕ) where
-  pub same_unequal : length a ≢ length b → false ≡ same_words a b
-  same_unequal n = not_yes (same_words a b) (λ e. n (ap length (yes_same a b e)))
-
-  module _ (k : ℕ) (l : length a ≡ length b) where
-    pub same_over : length a ≤ k → true ≡ same_words (drop k a) (drop k b)
-    same_over h = rw (past a k h, past b k (omega arith)) (sym (same_self []))
-
-    module _ (h : k < length a) where
-      pub same_other : get_or a k 0 ≢ get_or b k 0 → false ≡ same_words (drop k a) (drop k b)
-      unfolding same_words
-      same_other n = rw (from a k h, from b k (omega arith), ne_eqb _ _ n)
-
-      pub same_on : get_or a k 0 ≡ get_or b k 0 → same_words (drop (k + 1) a) (drop (k + 1) b) ≡ same_words (drop k a) (drop k b)
-      unfolding same_words
-      same_on e = rw (from a k h, from b k (omega arith), eq-eqb _ _ e)
 
 -- The five slices one after another.
 module _ (a b : Index) where
@@ -81,3 +58,15 @@ index_self a =
 
 pub same_indexes : (a b : Index) → (same_index a b ≡ true) ↔ (a ≡ b)
 same_indexes a b = (yes_index a b, λ e. ap (same_index a) (sym e) ∙ index_self a)
+
+-- What `==` says of two slices.
+pub same_pointwise : (a b : List ℕ) → pointwise eqb a b ≡ same_words a b
+unfolding same_words
+same_pointwise [] [] = refl
+same_pointwise [] (y ∷ b) = refl
+same_pointwise (x ∷ a) [] = refl
+same_pointwise (x ∷ a) (y ∷ b) = rw (same_pointwise a b) (go (eqb x y))
+  where
+    go : (t : Bool) → (t && same_words a b) ≡ (t and same_words a b)
+    go true = refl
+    go false = refl

@@ -20,9 +20,9 @@ use Rattle.script_rules.specs.Feeding.{room_left, feeding, feeds, finishes, Hear
 use Rattle.script_rules.proofs.Ending.{ends_none, ends_line}
 use Rattle.script_rules.proofs.Room.{answer_short, typed_whole}
 use Rattle.script_rules.proofs.Cutting.{call_heard, taken_most, taken_some}
-use Rattle.trials.specs.declared.play.Met.{Met}
-use Rattle.trials.specs.Playing.{agreed, Played, cleared, closing, plays, playing}
+use Rattle.trials.specs.Playing.{all_same, how_far, agreed, Played, cleared, closing, plays, playing}
 use Rattle.trials.specs.Claims.{all_printed, Agrees, Plays}
+use Rattle.trials.proofs.Steps.{unlike}
 use Rattle.trials.proofs.Agreeing.{agreed-more, agreed_stop, agrees}
 
 -- No call changes how long the buffer is.
@@ -98,7 +98,7 @@ printing line ix rest buffer = (heard line ix rest).text ++ printed (ending line
 
 record Whole (expected : List ℕ) (said : ℕ) (line : Line) (ix : Index) (rest last : List ℕ) (p : Played) : Type 0 where
   met : p.met ≡ agreed expected said (printing line ix rest last)
-  left : p.met.same ≡ true → p.index ≡ (ending line ix rest last).desk.index
+  left : all_same p.met ≡ true → p.index ≡ (ending line ix rest last).desk.index
 
 module _ (expected last : List ℕ) (room : longest ≤ length last) where
   closed : (said : ℕ) (line : Line) (ix : Index) (buffer : List ℕ) → longest ≤ length buffer
@@ -128,13 +128,13 @@ module _ (expected last : List ℕ) (room : longest ≤ length last) where
         sym (append_assoc (printed f) (heard f.desk.line f.desk.index (drop f.taken rest)).text _)
         ∙ ap (λ (x : Heard). x.text ++ printed (finishes (desk_of x.line x.index last))) after
 
-    step : Whole expected (agreed expected said (printed f)).at f.desk.line f.desk.index (drop f.taken rest) last
-        (plays n cut expected (drop f.taken rest) (agreed expected said (printed f)).at (cleared f))
+    step : Whole expected (how_far (agreed expected said (printed f))) f.desk.line f.desk.index (drop f.taken rest) last
+        (plays n cut expected (drop f.taken rest) (how_far (agreed expected said (printed f))) (cleared f))
         → Whole expected said line ix rest last (plays (suc n) cut expected rest said (desk_of line ix buffer))
     unfolding plays
-    step again = go (agreed expected said (printed f)).same refl
+    step again = go (all_same (agreed expected said (printed f))) refl
       where
-        go : (t : Bool) → (agreed expected said (printed f)).same ≡ t
+        go : (t : Bool) → (all_same (agreed expected said (printed f))) ≡ t
             → Whole expected said line ix rest last (plays (suc n) cut expected rest said (desk_of line ix buffer))
         go true s =
             rw (← e, ne_eqb (length rest) 0 (omega arith), s, lt-ltb 0 f.taken taken) (record {
@@ -143,7 +143,7 @@ module _ (expected last : List ℕ) (room : longest ≤ length last) where
             })
         go false s =
             rw (← e, ne_eqb (length rest) 0 (omega arith), s) (record {
-              met = rw (← s) (sym (agreed_stop expected said (printed f) _ s) ∙ ap (agreed expected said) printed_first);
+              met = sym (unlike _ s) ∙ sym (agreed_stop expected said (printed f) _ s) ∙ ap (agreed expected said) printed_first;
               left = λ u. absurd (false≢true u);
             })
 
@@ -160,12 +160,12 @@ module _ (expected last : List ℕ) (room : longest ≤ length last) where
   whole (suc n) cut said line ix rest buffer some r h =
       let f = feeds (take cut rest) (desk_of line ix buffer) in
       go (dec_lt 0 (length rest))
-      (whole n cut (agreed expected said (printed f)).at f.desk.line f.desk.index (drop f.taken rest)
+      (whole n cut (how_far (agreed expected said (printed f))) f.desk.line f.desk.index (drop f.taken rest)
       f.desk.paper.bytes some
       (omega (arith, fed_long (take cut rest) (desk_of line ix buffer))))
     where
       go : let f = feeds (take cut rest) (desk_of line ix buffer) in
-          let said' = (agreed expected said (printed f)).at in Dec (0 < length rest)
+          let said' = (how_far (agreed expected said (printed f))) in Dec (0 < length rest)
           → (length (drop f.taken rest) ≤ n → Whole expected said' f.desk.line f.desk.index (drop f.taken rest) last
           (plays n cut expected (drop f.taken rest) said' (cleared f)))
           → Whole expected said line ix rest last (plays (suc n) cut expected rest said (desk_of line ix buffer))
@@ -185,7 +185,7 @@ played_whole cut expected input ix out some r =
     record {
       same = (λ h. to h.0 h.1, from);
       left = all.left;
-      parts = λ s. rw all.met (known.parts (sym (ap (λ (m : Met). m.same) all.met) ∙ s));
+      parts = λ s. rw all.met (known.parts (sym (ap all_same all.met) ∙ s));
     }
   where
     all : Whole expected 0 blank_line ix input out (playing cut expected input ix out)
@@ -194,18 +194,18 @@ played_whole cut expected input ix out some r =
     known : Agrees expected 0 (all_printed ix input out)
     known = agrees expected 0 (all_printed ix input out)
 
-    to : (playing cut expected input ix out).met.same ≡ true → (playing cut expected input ix out).met.at ≡ length expected
+    to : all_same (playing cut expected input ix out).met ≡ true → how_far (playing cut expected input ix out).met ≡ length expected
         → expected ≡ all_printed ix input out
     to s t =
         let m = all.met in
-        let y : (agreed expected 0 (all_printed ix input out)).same ≡ true = sym (ap (λ (x : Met). x.same) m) ∙ s in
+        let y : all_same (agreed expected 0 (all_printed ix input out)) ≡ true = sym (ap all_same m) ∙ s in
         let c = known.come y in
-        let a = ap (λ (x : Met). x.at) m in
+        let a = ap how_far m in
         let h = known.same.0 y in
         no_rest expected (all_printed ix input out) h.0 h.1 (omega arith)
 
     from : expected ≡ all_printed ix input out
-        → ((playing cut expected input ix out).met.same ≡ true) × ((playing cut expected input ix out).met.at ≡ length expected)
+        → (all_same (playing cut expected input ix out).met ≡ true) × (how_far (playing cut expected input ix out).met ≡ length expected)
     from e =
         let y = known.same.1 ([], e ∙ sym (append-nil _)) in
-        (ap (λ (x : Met). x.same) all.met ∙ y, ap (λ (x : Met). x.at) all.met ∙ known.come y ∙ omega (arith, ap length e))
+        (ap all_same all.met ∙ y, ap how_far all.met ∙ known.come y ∙ omega (arith, ap length e))

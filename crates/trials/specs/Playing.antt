@@ -1,16 +1,27 @@
 -- Input through the console in pieces of so many bytes, and all that it prints held against what is expected, byte for byte.
-use Rattle.std.specs.Prelude.{true, false, List, [], ◌∷◌, ℕ, zero, suc, length, take, drop, get_or, eqb, ltb}
+use Rattle.std.specs.Prelude.{Bool, true, false, Result, Ok, Err, List, [], ◌∷◌, ℕ, zero, suc, length, take, drop, get_or, eqb, ltb}
 use Rattle.slots.specs.Words.{pick, ◌and◌}
 use Rattle.index_rules.specs.Index.{Index}
 use Rattle.script_rules.specs.Feeding.{blank_line, Desk, Fed, feeds, finishes, desk_of, printed}
-use Rattle.trials.specs.declared.play.Met.{Met}
+
+-- How far what is expected has come: up to a place that all was as expected, or the first place where it was not.
+abbrev pub Met : Type 0
+Met = Result ℕ ℕ
+
+abbrev pub all_same : Met → Bool
+all_same (Ok _) = true
+all_same (Err _) = false
+
+abbrev pub how_far : Met → ℕ
+how_far (Ok n) = n
+how_far (Err n) = n
 
 -- A part of the answers against what is expected from a place on: up to the first byte that is another, or that is one too many.
 unfoldable pub agreed : List ℕ → ℕ → List ℕ → Met
-agreed expected from [] = record { same = true; at = from }
+agreed expected from [] = Ok from
 agreed expected from (b ∷ part) =
     pick (ltb from (length expected) and eqb (get_or expected from 0) b)
-    (agreed expected (suc from) part) (record { same = false; at = from })
+    (agreed expected (suc from) part) (Err from)
 
 -- What a call has printed, held against what is expected from a place on.
 abbrev pub met_by : List ℕ → ℕ → Fed → Met
@@ -44,8 +55,8 @@ plays (suc calls) cut expected rest said d =
     let f = feeds (take cut rest) d in
     let m = met_by expected said f in
     pick (eqb (length rest) 0) (closing expected said d)
-    (pick (m.same and ltb 0 f.taken) (plays calls cut expected (drop f.taken rest) m.at (cleared f))
-    (played_by (record { same = false; at = m.at }) f))
+    (pick (all_same m and ltb 0 f.taken) (plays calls cut expected (drop f.taken rest) (how_far m) (cleared f))
+    (played_by (Err (how_far m)) f))
 
 -- The whole input: a call takes a byte at least, so it has no more calls than bytes.
 abbrev pub playing : ℕ → List ℕ → List ℕ → Index → List ℕ → Played

@@ -7,30 +7,18 @@ ghost use Rattle.trials.specs.Playing.{agreed, played, playing};
 
 use console::feed::{Fed, Line, blank, feed, finish};
 
-// Whether all was as expected so far, and how much of what is expected has come.
-#[derive(Clone, Copy)]
-pub struct Met {
-    pub same: bool,
-    pub at: usize,
-}
-
-// Whether a part of the answers is what is expected from a place on.
-pub fn agrees(expected: &[u8], from: usize, part: &[u8]) -> Met
+// How far a part of the answers is what is expected from a place on: up to its end, or to the first byte that is not as expected.
+pub fn agrees(expected: &[u8], from: usize, part: &[u8]) -> Result<usize, usize>
     ensures { result ≡ agreed expected.now from part.now }
 {
     let mut at = from;
-    let mut i = 0;
-    while i < part.len() {
-        if expected.len() <= at {
-            return Met { same: false, at };
-        }
-        if expected[at] != part[i] {
-            return Met { same: false, at };
+    for byte in part {
+        if expected.get(at) != Some(byte) {
+            return Err(at);
         }
         at += 1;
-        i += 1;
     }
-    Met { same: true, at }
+    Ok(at)
 }
 
 // A call with the first bytes of the rest of the input.
@@ -58,7 +46,7 @@ fn feed_first(
     feed(line, &rest[..cut], names, cells, head, sizes, lines, out)
 }
 
-// The whole input, in pieces of so many bytes, up to the first answer that is not as expected.
+// The whole input, in pieces of so many bytes: how far its answers are what is expected, up to the first byte that is not.
 pub fn play(
     input: &[u8],
     cut: usize,
@@ -69,7 +57,7 @@ pub fn play(
     sizes: &mut [u32],
     lines: &mut [u64],
     out: &mut [u8],
-) -> Met
+) -> Result<usize, usize>
     ensures { played result
         (lent names.new cells.new head.new sizes.new lines.new) out.new
         ≡ playing cut expected.now input.now
@@ -91,24 +79,14 @@ pub fn play(
             lines,
             out,
         );
-        let taken = fed.taken;
-        let written = fed.written;
-        let met = agrees(expected, said, &out[..written]);
-        if !met.same {
-            return met;
+        let met = agrees(expected, said, &out[..fed.written])?;
+        if fed.taken == 0 {
+            return Err(met);
         }
-        if taken == 0 {
-            return Met {
-                same: false,
-                at: met.at,
-            };
-        }
-        let next = fed.line;
-        kept = next;
-        said = met.at;
-        at += taken;
+        kept = fed.line;
+        said = met;
+        at += fed.taken;
     }
     let last = finish(kept, names, cells, head, sizes, lines, out);
-    let written = last.written;
-    agrees(expected, said, &out[..written])
+    agrees(expected, said, &out[..last.written])
 }

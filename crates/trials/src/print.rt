@@ -1,6 +1,6 @@
 // What the programs print. Standard output lies outside of every contract, and nothing is answered but that a write failed, so each
 // routine promises no more than that it ends.
-use slots::answer::{Answer, Value};
+use slots::answer::Answer;
 use std::io;
 use std::io::Stdout;
 
@@ -33,10 +33,10 @@ pub fn figure(stdout: Stdout, label: &[u8], value: u32) -> io::Result<()> {
 }
 
 // A value behind its word, or the word for none.
-fn value_or(stdout: Stdout, word: &[u8], none: &[u8], value: Value) -> io::Result<()> {
+fn value_or(stdout: Stdout, word: &[u8], none: &[u8], value: Option<u32>) -> io::Result<()> {
     match value {
-        Value::Some(given) => number(stdout, word, given),
-        Value::None => say(stdout, none),
+        Some(given) => number(stdout, word, given),
+        None => say(stdout, none),
     }
 }
 
@@ -67,19 +67,12 @@ pub fn answer(stdout: Stdout, label: &[u8], word: &[u8], answer: Answer) -> io::
     answer_or(stdout, label, word, word, answer)
 }
 
-fn yes_or_no(stdout: Stdout, value: u32) -> io::Result<()> {
-    if value == 1 {
-        say(stdout, b"yes")
-    } else {
-        say(stdout, b"no")
-    }
-}
-
 // A verdict behind its label: yes, no, or the number of a refusal behind its word.
 pub fn verdict(stdout: Stdout, label: &[u8], refused: &[u8], answer: Answer) -> io::Result<()> {
     say(stdout, label)?;
     match answer.value {
-        Value::Some(yes) => yes_or_no(stdout, yes),
-        Value::None => number(stdout, refused, answer.number),
+        Some(1) => say(stdout, b"yes"),
+        Some(_) => say(stdout, b"no"),
+        None => number(stdout, refused, answer.number),
     }
 }

@@ -7,34 +7,7 @@ ghost use Rattle.trials.specs.Comparing.{same_words, same_index};
 pub fn same_names(a: &[u64], b: &[u64]) -> bool
     ensures { result ≡ same_words a.now b.now }
 {
-    if a.len() != b.len() {
-        return false;
-    }
-    let mut k = 0;
-    while k < a.len() {
-        if a[k] != b[k] {
-            return false;
-        }
-        k += 1;
-    }
-    true
-}
-
-// The cells of two trees, their headers, or their sizes.
-fn same_cells(a: &[u32], b: &[u32]) -> bool
-    ensures { result ≡ same_words a.now b.now }
-{
-    if a.len() != b.len() {
-        return false;
-    }
-    let mut k = 0;
-    while k < a.len() {
-        if a[k] != b[k] {
-            return false;
-        }
-        k += 1;
-    }
-    true
+    a == b
 }
 
 // An index, and what it was.
@@ -54,9 +27,9 @@ pub fn same_index(
         ≡ same_index (lent names.now cells.now head.now sizes.now lines.now)
         (lent oldnames.now oldcells.now oldhead.now oldsizes.now oldlines.now) }
 {
-    same_names(names, oldnames)
-        && same_cells(cells, oldcells)
-        && same_cells(head, oldhead)
-        && same_cells(sizes, oldsizes)
-        && same_names(lines, oldlines)
+    names == oldnames
+        && cells == oldcells
+        && head == oldhead
+        && sizes == oldsizes
+        && lines == oldlines
 }

@@ -1,171 +1,111 @@
 // One line of the list: a call with its answer, or words.
-use crate::list::number;
-use crate::words::{Held, held_half, held_link, held_slots, link, take_slots};
+use crate::list::List;
+use crate::words::{holds_slots, link, take_slots};
 use index::check::check;
 use index::find::find;
 use index::insert::insert;
 use index::remove::remove;
 use slots::NULL;
-use slots::answer::{Answer, Value};
+use slots::answer::{Answer, Answers};
+use tree::find::counted_by;
 
 // The words of a journal of one line: its length, and six.
 const JOURNAL_WORDS: usize = 1 + 6;
 
-// The value of an answer, or what the list has for none.
-fn value_or(none: u32, value: Value) -> u32 {
-    match value {
-        Value::Some(given) => given,
-        Value::None => none,
-    }
-}
-
-// The answer against the number and the value that come next in the list.
-fn agrees(text: &[u8], at: usize, answer: Answer, none: u32, slots: u32) -> Held {
-    let value = answer.value;
-    let start = Held { at, wrong: 0 };
-    let told = held_half(text, start, answer.number);
-    held_link(text, told, value_or(none, value), slots)
+// Whether the answer is the number and the value that come next in the list, which has a value of its own for none.
+fn agrees(list: &mut List<'_>, answer: Answer, none: u32, slots: u32) -> bool {
+    let number = list.number();
+    let value = link(list, slots);
+    number == answer.number && value == answer.value.unwrap_or(none)
 }
 
 fn try_insert(
-    text: &[u8],
-    at: usize,
+    list: &mut List<'_>,
     names: &mut [u64],
     cells: &mut [u32],
     head: &mut [u32],
     sizes: &mut [u32],
     slots: u32,
-) -> Held {
-    let hash = number(text, at);
-    let key = number(text, hash.at);
-    let place = number(text, key.at);
+) -> bool {
+    let hash = list.number() as u64;
+    let key = list.number() as u64;
+    let place = list.number();
     let mut lines = [0u64; JOURNAL_WORDS];
-    let inserted = insert(
-        names,
-        cells,
-        head,
-        sizes,
-        &mut lines,
-        hash.value as u64,
-        key.value as u64,
-        place.value,
-    );
-    agrees(text, place.at, inserted.answer(), 0, slots)
+    let inserted = insert(names, cells, head, sizes, &mut lines, hash, key, place);
+    agrees(list, inserted.answer(), 0, slots)
 }
 
 fn try_remove(
-    text: &[u8],
-    at: usize,
+    list: &mut List<'_>,
     names: &mut [u64],
     cells: &mut [u32],
     head: &mut [u32],
     sizes: &mut [u32],
     slots: u32,
-) -> Held {
-    let hash = number(text, at);
-    let key = number(text, hash.at);
+) -> bool {
+    let hash = list.number() as u64;
+    let key = list.number() as u64;
     let mut lines = [0u64; JOURNAL_WORDS];
-    let removed = remove(
-        names,
-        cells,
-        head,
-        sizes,
-        &mut lines,
-        hash.value as u64,
-        key.value as u64,
-    );
-    agrees(text, key.at, removed.answer(), 0, slots)
+    let removed = remove(names, cells, head, sizes, &mut lines, hash, key);
+    agrees(list, removed.answer(), 0, slots)
 }
 
-fn try_find(
-    text: &[u8],
-    at: usize,
-    names: &[u64],
-    cells: &[u32],
-    head: &[u32],
-    slots: u32,
-) -> Held {
-    let hash = number(text, at);
-    let key = number(text, hash.at);
-    let found = find(names, cells, head, hash.value as u64, key.value as u64);
-    let counted = found.counted();
-    let answer = counted.answer;
-    agrees(text, key.at, answer, NULL, slots)
+fn try_find(list: &mut List<'_>, names: &[u64], cells: &[u32], head: &[u32], slots: u32) -> bool {
+    let hash = list.number() as u64;
+    let key = list.number() as u64;
+    let counted = counted_by(find(names, cells, head, hash, key));
+    agrees(list, counted.answer, NULL, slots)
 }
 
-fn try_check(
-    text: &[u8],
-    at: usize,
-    names: &[u64],
-    cells: &[u32],
-    head: &[u32],
-    slots: u32,
-) -> Held {
-    let checked = check(names, cells, head);
-    agrees(text, at, checked.answer(), 0, slots)
+fn try_check(list: &mut List<'_>, names: &[u64], cells: &[u32], head: &[u32], slots: u32) -> bool {
+    agrees(list, check(names, cells, head).answer(), 0, slots)
 }
 
 fn try_words(
-    text: &[u8],
-    at: usize,
+    list: &mut List<'_>,
     names: &[u64],
     cells: &[u32],
     head: &[u32; 3],
     slots: u32,
-) -> Held {
-    let start = Held { at, wrong: 0 };
-    let root = held_link(text, start, head[0], slots);
-    let first = held_link(text, root, head[1], slots);
-    let count = held_half(text, first, head[2]);
-    held_slots(text, count, names, cells, slots)
+) -> bool {
+    let root = link(list, slots);
+    let first = link(list, slots);
+    let count = list.number();
+    holds_slots(list, names, cells, slots) && *head == [root, first, count]
 }
 
 fn take_words(
-    text: &[u8],
-    at: usize,
+    list: &mut List<'_>,
     names: &mut [u64],
     cells: &mut [u32],
     head: &mut [u32; 3],
     slots: u32,
-) -> Held {
-    let root = number(text, at);
-    let first = number(text, root.at);
-    let count = number(text, first.at);
-    head[0] = link(root.value, slots);
-    head[1] = link(first.value, slots);
-    head[2] = count.value;
-    let next = take_slots(text, count.at, names, cells, slots);
-    Held { at: next, wrong: 0 }
+) {
+    *head = [link(list, slots), link(list, slots), list.number()];
+    take_slots(list, names, cells, slots);
 }
 
-// The rest of a line of this kind; a kind that the list does not have counts as wrong.
+// Whether the rest of a line of this kind is as the list has it; no kind that the list does not have is.
+// Form kept: the numbers are the list's own, which has lines of other kinds than calls.
 pub fn line(
-    text: &[u8],
+    list: &mut List<'_>,
     kind: u32,
-    at: usize,
     names: &mut [u64],
     cells: &mut [u32],
     head: &mut [u32; 3],
     sizes: &mut [u32],
     slots: u32,
-) -> Held {
-    if kind == 1 {
-        return try_insert(text, at, names, cells, head, sizes, slots);
+) -> bool {
+    match kind {
+        1 => try_insert(list, names, cells, head, sizes, slots),
+        2 => try_remove(list, names, cells, head, sizes, slots),
+        3 => try_find(list, names, cells, head, slots),
+        4 => try_words(list, names, cells, head, slots),
+        5 => try_check(list, names, cells, head, slots),
+        6 => {
+            take_words(list, names, cells, head, slots);
+            true
+        }
+        _ => false,
     }
-    if kind == 2 {
-        return try_remove(text, at, names, cells, head, sizes, slots);
-    }
-    if kind == 3 {
-        return try_find(text, at, names, cells, head, slots);
-    }
-    if kind == 4 {
-        return try_words(text, at, names, cells, head, slots);
-    }
-    if kind == 5 {
-        return try_check(text, at, names, cells, head, slots);
-    }
-    if kind == 6 {
-        return take_words(text, at, names, cells, head, slots);
-    }
-    Held { at, wrong: 1 }
 }

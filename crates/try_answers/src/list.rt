@@ -1,37 +1,46 @@
 // The list of answers as decimal numbers, each with one byte after it.
 
-// A number, and where the next one starts.
+// What is still to be read of the list.
 #[derive(Clone, Copy)]
-pub struct Read {
-    pub value: u32,
-    pub at: usize,
+pub struct List<'a> {
+    rest: &'a [u8],
 }
 
 // One digit more; a number that is too wide for the list keeps its first digits.
-fn digit(value: u32, byte: u8) -> u32 {
-    if 100000000 < value {
-        return value;
+fn with_digit(value: u32, byte: u8) -> u32 {
+    if value <= 100000000 {
+        10 * value + (byte & 15) as u32
+    } else {
+        value
     }
-    if byte < 48 {
-        return value;
-    }
-    10 * value + (byte as u32 - 48)
 }
 
-// The number that starts at a byte, up to and with the first byte that is no digit.
-pub fn number(text: &[u8], from: usize) -> Read {
-    let mut value: u32 = 0;
-    let mut at = from;
-    while at < text.len() {
-        let byte = text[at];
-        at += 1;
-        if byte < 48 {
-            return Read { value, at };
-        }
-        if 57 < byte {
-            return Read { value, at };
-        }
-        value = digit(value, byte);
+impl<'a> List<'a> {
+    pub fn new(text: &'a [u8]) -> List<'a> {
+        List { rest: text }
     }
-    Read { value, at }
+
+    pub fn is_empty(&self) -> bool {
+        self.rest.is_empty()
+    }
+
+    // What is left is not read.
+    pub fn end(&mut self) {
+        self.rest = &[];
+    }
+
+    // The number that comes next, up to and with the first byte that is no digit.
+    pub fn number(&mut self) -> u32 {
+        let text = self.rest;
+        let mut value: u32 = 0;
+        for (i, &byte) in text.iter().enumerate() {
+            if !byte.is_ascii_digit() {
+                self.rest = &text[i + 1..];
+                return value;
+            }
+            value = with_digit(value, byte);
+        }
+        self.end();
+        value
+    }
 }

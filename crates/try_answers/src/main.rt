@@ -7,25 +7,22 @@ mod words;
 
 use calls::line;
 use index::fresh::fresh;
-use list::number;
+use list::List;
 use std::io;
 use std::io::Stdout;
 use trials::load::load;
 use trials::print::figure;
-use words::one_if;
 
-// The lines of a tree, up to the next tree: where it starts, how many there were and how many of them differ.
+// The lines of a tree, up to the next tree: how many there were and how many of them differ.
 #[derive(Clone, Copy)]
 struct Seen {
-    at: usize,
     lines: u32,
     wrong: u32,
 }
 
-// The lines of a tree of so many slots. No tree of the list has as many lines as turns.
+// The lines of a tree of so many slots, up to the kind 0, with which the next tree begins. No tree of the list has as many lines as turns.
 fn lines(
-    text: &[u8],
-    from: usize,
+    list: &mut List<'_>,
     names: &mut [u64],
     cells: &mut [u32],
     sizes: &mut [u32],
@@ -33,76 +30,38 @@ fn lines(
 ) -> Seen {
     let mut head = [0u32; 3];
     let mut journal = [0u64; 1];
-    fresh(names, cells, &mut head, sizes, &mut journal);
-    let mut at = from;
-    let mut count: u32 = 0;
-    let mut wrong: u32 = 0;
-    let mut turns: u32 = 1000;
-    while 0 < turns {
-        turns -= 1;
-        if text.len() <= at {
-            return Seen {
-                at,
-                lines: count,
-                wrong,
-            };
+    let _made = fresh(names, cells, &mut head, sizes, &mut journal);
+    let mut seen = Seen { lines: 0, wrong: 0 };
+    for _ in 0..1000 {
+        let here = *list;
+        let kind = list.number();
+        if kind == 0 {
+            *list = here;
+            return seen;
         }
-        let kind = number(text, at);
-        if kind.value == 0 {
-            return Seen {
-                at,
-                lines: count,
-                wrong,
-            };
+        let same = line(list, kind, names, cells, &mut head, sizes, slots);
+        seen.lines = seen.lines.saturating_add(1);
+        if !same {
+            seen.wrong = seen.wrong.saturating_add(1);
         }
-        let held = line(
-            text, kind.value, kind.at, names, cells, &mut head, sizes, slots,
-        );
-        at = held.at;
-        count = std::num::wrapping_add_u32(count, 1);
-        wrong = std::num::wrapping_add_u32(wrong, one_if(held.wrong != 0));
     }
-    Seen {
-        at,
-        lines: count,
-        wrong,
-    }
+    seen
 }
 
-// The words of so many slots, out of those at hand, and the lines of their tree.
-fn cut(
-    text: &[u8],
-    at: usize,
-    names: &mut [u64],
-    cells: &mut [u32],
-    sizes: &mut [u32],
-    slots: u32,
-) -> Seen {
+// A tree: the number of its slots, at most 16, then its lines.
+fn tree(list: &mut List<'_>) -> Seen {
+    let mut names = [0u64; 32];
+    let mut cells = [0u32; 112];
+    let mut sizes = [0u32; 16];
+    let _kind = list.number();
+    let slots = list.number();
     let n = slots as usize;
-    if names.len() < 2 * n {
-        return Seen {
-            at: text.len(),
-            lines: 1,
-            wrong: 1,
-        };
-    }
-    if cells.len() < 7 * n {
-        return Seen {
-            at: text.len(),
-            lines: 1,
-            wrong: 1,
-        };
-    }
-    if sizes.len() < n {
-        return Seen {
-            at: text.len(),
-            lines: 1,
-            wrong: 1,
-        };
+    if 16 < n {
+        list.end();
+        return Seen { lines: 1, wrong: 1 };
     }
     lines(
-        text,
-        at,
+        list,
         &mut names[..2 * n],
         &mut cells[..7 * n],
         &mut sizes[..n],
@@ -110,38 +69,22 @@ fn cut(
     )
 }
 
-// A tree: the number of its slots, at most 16, then its lines.
-fn tree(text: &[u8], from: usize) -> Seen {
-    let mut names = [0u64; 32];
-    let mut cells = [0u32; 112];
-    let mut sizes = [0u32; 16];
-    let kind = number(text, from);
-    let read = number(text, kind.at);
-    cut(
-        text, read.at, &mut names, &mut cells, &mut sizes, read.value,
-    )
-}
-
 // Every tree of the list. It has fewer trees than turns.
 fn trees(stdout: Stdout, text: &[u8]) -> io::Result<()> {
-    let mut at: usize = 0;
+    let mut list = List::new(text);
     let mut count: u32 = 0;
-    let mut lines: u32 = 0;
-    let mut wrong: u32 = 0;
-    let mut turns: u32 = 1000;
-    while 0 < turns {
-        turns -= 1;
-        if at < text.len() {
-            let seen = tree(text, at);
-            at = seen.at;
-            count = std::num::wrapping_add_u32(count, 1);
-            lines = std::num::wrapping_add_u32(lines, seen.lines);
-            wrong = std::num::wrapping_add_u32(wrong, seen.wrong);
+    let mut all = Seen { lines: 0, wrong: 0 };
+    for _ in 0..1000 {
+        if !list.is_empty() {
+            let seen = tree(&mut list);
+            count = count.saturating_add(1);
+            all.lines = all.lines.saturating_add(seen.lines);
+            all.wrong = all.wrong.saturating_add(seen.wrong);
         }
     }
     figure(stdout, b"trees", count)?;
-    figure(stdout, b"lines", lines)?;
-    figure(stdout, b"differences", wrong)
+    figure(stdout, b"lines", all.lines)?;
+    figure(stdout, b"differences", all.wrong)
 }
 
 fn main(rt: HostRuntime) -> io::Result<()> {

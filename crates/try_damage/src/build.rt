@@ -1,14 +1,19 @@
 // A sound tree of 47 used slots among 64. A position is a place in the reading order of a perfect tree of 63, from 1;
 // the tree has its even positions and 16 of its leaves.
+ghost use Rattle.std.specs.Prelude.{◌≤◌};
+
+use index::fresh::fresh;
 use slots::{
     BLACK, HASH, KEY, LEFT, NEXT, NULL, PARENT, PLACE, PREV, RED, RIGHT, STATE, put, put_name,
 };
 
+pub const SLOTS: u32 = 64;
+
 // The position of the root.
-pub const MIDDLE: u32 = 32;
+const MIDDLE: u32 = 32;
 
 // The slot of a position: used and free slots are mixed, and slot 0 is free.
-pub fn slot_of(p: u32) -> u32 {
+fn slot_of(p: u32) -> u32 {
     (p % 64) * 5 % 64
 }
 
@@ -23,7 +28,9 @@ fn stands(p: u32) -> bool {
 }
 
 // How far the children of a position are, to the left and to the right; 0 on the last level.
-fn reach(p: u32) -> u32 {
+fn reach(p: u32) -> u32
+    ensures { result ≤ 16 }
+{
     match p % 32 {
         0 => 16,
         16 => 8,
@@ -36,13 +43,11 @@ fn reach(p: u32) -> u32 {
 
 // The leaves on the last level are red, and so are the four slots on the third.
 fn colour(p: u32) -> u32 {
-    if p % 2 == 1 {
-        return RED;
+    if p % 2 == 1 || p % 16 == 8 {
+        RED
+    } else {
+        BLACK
     }
-    if p % 16 == 8 {
-        return RED;
-    }
-    BLACK
 }
 
 // Links the slot of p and its child, if there is one at c, along the field f.
@@ -72,28 +77,28 @@ fn fill(cells: &mut [u32], p: u32) {
 fn join(cells: &mut [u32], p: u32) {
     let by = reach(p);
     if 0 < by {
-        hang(cells, p, LEFT, std::num::wrapping_sub_u32(p, by));
-        hang(cells, p, RIGHT, std::num::wrapping_add_u32(p, by));
+        hang(cells, p, LEFT, p.wrapping_sub(by));
+        hang(cells, p, RIGHT, p.wrapping_add(by));
     }
 }
 
-// 1 if there is a slot at position q and it is p or comes below it, 0 if not: on either side as far as twice the children's distance.
-fn covers(p: u32, q: u32) -> u32 {
-    let far = std::num::wrapping_add_u32(reach(p), reach(p));
-    let near = q < std::num::wrapping_add_u32(p, far) && p < std::num::wrapping_add_u32(q, far);
-    if stands(q) && (q == p || near) {
-        return 1;
-    }
-    0
+// Whether there is a slot at position q and it is p or comes below it: on either side as far as twice the children's distance.
+fn covers(p: u32, q: u32) -> bool {
+    let far = 2 * reach(p);
+    stands(q) && (q == p || (q < p.wrapping_add(far) && p < q.wrapping_add(far)))
 }
 
-// How many slots are at p and below it.
-fn covered(p: u32) -> u32 {
-    let mut count: u32 = 0;
-    let mut q: u32 = 0;
-    while q < 64 {
-        count = std::num::wrapping_add_u32(count, covers(p, q));
-        q += 1;
+// How many slots, or positions, are such.
+// Form kept: try_limits has the same few lines; a public routine for both, with a clause that says the count of a closure, is no plainer.
+pub fn count<F: Fn(u32) -> bool>(is_such: F) -> u32
+    requires { F.IsAlwaysCallable is_such }
+    ensures { result ≤ 64 }
+{
+    let mut count = 0;
+    for i in 0..SLOTS {
+        if is_such(i) {
+            count += 1;
+        }
     }
     count
 }
@@ -104,57 +109,58 @@ fn stand(names: &mut [u64], cells: &mut [u32], sizes: &mut [u32], p: u32) {
         baptize(names, p);
         fill(cells, p);
         join(cells, p);
-        put(sizes, 0, slot_of(p), covered(p));
+        put(sizes, 0, slot_of(p), count(|q| covers(p, q)));
     }
+}
+
+// Chains slot i behind the last of a chain: the first and the last slot then.
+fn chain_slot(cells: &mut [u32], ends: Option<(u32, u32)>, i: u32) -> (u32, u32) {
+    match ends {
+        Some((first, last)) => {
+            put(cells, last, NEXT, i);
+            put(cells, i, PREV, last);
+            (first, i)
+        }
+        None => (i, i),
+    }
+}
+
+// Chains the slots in an order that is neither that of the tree nor that of their numbers: the first of them; null if there is none.
+fn chain(cells: &mut [u32]) -> u32 {
+    let mut ends = None;
+    for t in 0..SLOTS {
+        let p = t * 11 % 64;
+        if stands(p) {
+            ends = Some(chain_slot(cells, ends, slot_of(p)));
+        }
+    }
+    ends.map_or(NULL, |(first, _)| first)
+}
+
+// The words of a tree of 64 slots.
+#[derive(Clone, Copy)]
+pub struct Tree {
+    pub names: [u64; 128],
+    pub cells: [u32; 448],
+    pub head: [u32; 3],
+    pub sizes: [u32; 64],
 }
 
 // The tree, in an empty index.
-pub fn grow(names: &mut [u64], cells: &mut [u32], sizes: &mut [u32]) {
-    let mut p: u32 = 0;
-    while p < 64 {
-        stand(names, cells, sizes, p);
-        p += 1;
+pub fn grown() -> Tree {
+    let mut names = [0u64; 128];
+    let mut cells = [0u32; 448];
+    let mut head = [0u32; 3];
+    let mut sizes = [0u32; 64];
+    let _ = fresh(&mut names, &mut cells, &mut head, &mut sizes, &mut [0]);
+    for p in 0..SLOTS {
+        stand(&mut names, &mut cells, &mut sizes, p);
     }
-}
-
-// The first and the last slot of a chain; null if there is none.
-#[derive(Clone, Copy)]
-pub struct Ends {
-    pub first: u32,
-    pub last: u32,
-}
-
-// The chain with slot i behind its last.
-fn chain_slot(cells: &mut [u32], ends: Ends, i: u32) -> Ends {
-    put(cells, ends.last, NEXT, i);
-    put(cells, i, PREV, ends.last);
-    if ends.first == NULL {
-        return Ends { first: i, last: i };
+    let first = chain(&mut cells);
+    Tree {
+        names,
+        cells,
+        head: [slot_of(MIDDLE), first, 47],
+        sizes,
     }
-    Ends {
-        first: ends.first,
-        last: i,
-    }
-}
-
-// The chain with the slot of p, if there is one, behind its last.
-fn chain_on(cells: &mut [u32], ends: Ends, p: u32) -> Ends {
-    if stands(p) {
-        return chain_slot(cells, ends, slot_of(p));
-    }
-    ends
-}
-
-// Chains the slots in an order that is neither that of the tree nor that of their numbers.
-pub fn chain(cells: &mut [u32]) -> Ends {
-    let mut ends = Ends {
-        first: NULL,
-        last: NULL,
-    };
-    let mut t: u32 = 0;
-    while t < 64 {
-        ends = chain_on(cells, ends, t * 11 % 64);
-        t += 1;
-    }
-    ends
 }

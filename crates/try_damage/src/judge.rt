@@ -1,11 +1,12 @@
 // A second judge of a tree of 64 slots, written from T1 to T8 and from nothing of the library but its reads of a word.
 // It marks what it reaches, looks at every slot for every question, and climbs by parent links.
+ghost use Rattle.std.specs.Prelude.{◌≤◌};
+
+use crate::build::{SLOTS, count};
 use slots::{
     BLACK, FREE, HASH, KEY, LEFT, NEXT, NULL, PARENT, PLACE, PREV, RED, RIGHT, STATE, get, name,
-    put,
+    put, put_word,
 };
-
-const SLOTS: u32 = 64;
 
 // The words of the header, by their place.
 const ROOT: u32 = 0;
@@ -14,27 +15,9 @@ const FIRST: u32 = 1;
 
 const COUNT: u32 = 2;
 
-// The questions asked of every slot, by the rule that they belong to.
-const FINE: u32 = 1;
-
-const REACHED: u32 = 3;
-
-const ORDERED: u32 = 4;
-
-const CALM: u32 = 5;
-
-const CHAINED: u32 = 7;
-
-const COUNTED: u32 = 8;
-
 // Word k of some words.
 fn word(words: &[u32], k: u32) -> u32 {
     get(words, 0, k)
-}
-
-// The sum of two counts, which do not come near 32 bits.
-fn sum(a: u32, b: u32) -> u32 {
-    std::num::wrapping_add_u32(a, b)
 }
 
 // T1: a link is null or names one of so many slots.
@@ -44,14 +27,7 @@ fn link_fine(link: u32, slots: u32) -> bool {
 
 // T1: the five links of slot i. Of no slots, they are null.
 fn links_fine(cells: &[u32], i: u32, slots: u32) -> bool {
-    let mut f = PARENT;
-    while f <= NEXT {
-        if !link_fine(get(cells, i, f), slots) {
-            return false;
-        }
-        f += 1;
-    }
-    true
+    (PARENT..=NEXT).all(|f| link_fine(get(cells, i, f), slots))
 }
 
 // T1: the name and the place of slot i are zero.
@@ -68,30 +44,16 @@ fn slot_fine(names: &[u64], cells: &[u32], i: u32) -> bool {
     }
 }
 
-// 1 if slot i is not free, 0 if it is.
-fn used(cells: &[u32], i: u32) -> u32 {
-    if get(cells, i, STATE) == FREE {
-        return 0;
-    }
-    1
-}
-
-// How many slots are not free.
-fn used_slots(cells: &[u32]) -> u32 {
-    let mut count: u32 = 0;
-    let mut i: u32 = 0;
-    while i < SLOTS {
-        count = sum(count, used(cells, i));
-        i += 1;
-    }
-    count
+// Whether slot i is not free.
+fn used(cells: &[u32], i: u32) -> bool {
+    get(cells, i, STATE) != FREE
 }
 
 // T1 of the header.
 fn head_fine(cells: &[u32], head: &[u32]) -> bool {
     link_fine(word(head, ROOT), SLOTS)
         && link_fine(word(head, FIRST), SLOTS)
-        && word(head, COUNT) == used_slots(cells)
+        && word(head, COUNT) == count(|i| used(cells, i))
 }
 
 // T2: root and first are null if the count is 0, and neither is null if it is not.
@@ -104,65 +66,42 @@ fn ends_agree(head: &[u32]) -> bool {
     root != NULL && first != NULL
 }
 
-// Marks the children of slot i if it is marked.
-fn spread_from(cells: &[u32], marks: &mut [u32], i: u32) {
-    if word(marks, i) == 1 {
-        put(marks, 0, get(cells, i, LEFT), 1);
-        put(marks, 0, get(cells, i, RIGHT), 1);
-    }
+// Whether slot i is marked.
+fn is_marked(marks: &[bool], i: u32) -> bool {
+    marks.get(i as usize) == Some(&true)
 }
 
 // Marks the children of each marked slot.
-fn spread(cells: &[u32], marks: &mut [u32]) {
-    let mut i: u32 = 0;
-    while i < SLOTS {
-        spread_from(cells, marks, i);
-        i += 1;
+fn spread(cells: &[u32], marks: &mut [bool]) {
+    for i in 0..SLOTS {
+        if is_marked(marks, i) {
+            put_word(marks, get(cells, i, LEFT) as usize, true);
+            put_word(marks, get(cells, i, RIGHT) as usize, true);
+        }
     }
 }
 
-// The slots reached from the root, each marked 1: a round marks what is one step further, and no slot is 64 steps away.
-fn reached(cells: &[u32], root: u32) -> [u32; 64] {
-    let mut marks = [0u32; 64];
-    put(&mut marks, 0, root, 1);
-    let mut rounds: u32 = 0;
-    while rounds < SLOTS {
+// The slots reached from the root, each marked: a round marks what is one step further, and no slot is 64 steps away.
+fn reached(cells: &[u32], root: u32) -> [bool; 64] {
+    let mut marks = [false; 64];
+    put_word(&mut marks, root as usize, true);
+    for _ in 0..SLOTS {
         spread(cells, &mut marks);
-        rounds += 1;
     }
     marks
 }
 
-// 1 if the two are the same, 0 if not.
-fn same(a: u32, b: u32) -> u32 {
-    if a == b {
-        return 1;
-    }
-    0
-}
-
-// How many of the two child links of slot j, if it is reached, name slot i.
-fn child_links(cells: &[u32], marks: &[u32], j: u32, i: u32) -> u32 {
-    if word(marks, j) != 1 {
-        return 0;
-    }
-    sum(same(get(cells, j, LEFT), i), same(get(cells, j, RIGHT), i))
-}
-
-// How many child links of reached slots name slot i.
-fn times_child(cells: &[u32], marks: &[u32], i: u32) -> u32 {
-    let mut times: u32 = 0;
-    let mut j: u32 = 0;
-    while j < SLOTS {
-        times = sum(times, child_links(cells, marks, j, i));
-        j += 1;
-    }
-    times
+// How many reached slots have slot i as their child at field f.
+fn times_child(cells: &[u32], marks: &[bool], i: u32, f: u32) -> u32
+    ensures { result ≤ 64 }
+{
+    count(|j| is_marked(marks, j) && get(cells, j, f) == i)
 }
 
 // How often slot i is named, as the root and as a child of a reached slot.
-fn times_named(cells: &[u32], root: u32, marks: &[u32], i: u32) -> u32 {
-    sum(same(root, i), times_child(cells, marks, i))
+fn times_named(cells: &[u32], root: u32, marks: &[bool], i: u32) -> u32 {
+    let as_child = times_child(cells, marks, i, LEFT) + times_child(cells, marks, i, RIGHT);
+    as_child + u32::from(root == i)
 }
 
 // T3: the child of slot i at field f, if any, has i as its parent.
@@ -172,19 +111,18 @@ fn child_points_back(cells: &[u32], i: u32, f: u32) -> bool {
 }
 
 // T3 of slot i: it is reached if and only if it is used, then once, and its children point back.
-fn is_reached(cells: &[u32], root: u32, marks: &[u32], i: u32) -> bool {
+fn is_reached(cells: &[u32], root: u32, marks: &[bool], i: u32) -> bool {
     let occupied = used(cells, i);
-    word(marks, i) == occupied
-        && times_named(cells, root, marks, i) == occupied
+    is_marked(marks, i) == occupied
+        && times_named(cells, root, marks, i) == u32::from(occupied)
         && child_points_back(cells, i, LEFT)
         && child_points_back(cells, i, RIGHT)
 }
 
 // The pair of slot i is less than that of slot j.
 fn less(names: &[u64], i: u32, j: u32) -> bool {
-    let own = name(names, i, HASH);
-    let theirs = name(names, j, HASH);
-    own < theirs || (own == theirs && name(names, i, KEY) < name(names, j, KEY))
+    let own = (name(names, i, HASH), name(names, i, KEY));
+    own < (name(names, j, HASH), name(names, j, KEY))
 }
 
 // T4: slot i, which stands at or below slot child, is on the right side of slot above, whose child that is.
@@ -198,8 +136,7 @@ fn sided(names: &[u64], cells: &[u32], i: u32, child: u32, above: u32) -> bool {
 // T4 of slot i: it is less than each slot that it is below on the left, and greater than each that it is below on the right.
 fn ordered(names: &[u64], cells: &[u32], i: u32) -> bool {
     let mut at = i;
-    let mut steps: u32 = 0;
-    while steps < SLOTS {
+    for _ in 0..SLOTS {
         let above = get(cells, at, PARENT);
         if above == NULL {
             return true;
@@ -208,7 +145,6 @@ fn ordered(names: &[u64], cells: &[u32], i: u32) -> bool {
             return false;
         }
         at = above;
-        steps += 1;
     }
     false
 }
@@ -228,55 +164,32 @@ fn calm(cells: &[u32], i: u32) -> bool {
 fn blacks(cells: &[u32], i: u32) -> u32 {
     let mut count: u32 = 0;
     let mut at = i;
-    let mut steps: u32 = 0;
-    while steps < SLOTS {
+    for _ in 0..SLOTS {
         if at == NULL {
             return count;
         }
-        count = sum(count, same(get(cells, at, STATE), BLACK));
+        count = count.wrapping_add(u32::from(get(cells, at, STATE) == BLACK));
         at = get(cells, at, PARENT);
-        steps += 1;
     }
     count
 }
 
 // Whether a way from the root ends at a null link of slot i.
 fn is_end(cells: &[u32], i: u32) -> bool {
-    used(cells, i) != 0 && (get(cells, i, LEFT) == NULL || get(cells, i, RIGHT) == NULL)
-}
-
-// How many black slots are on the way from the root to a null link of slot i; null if there is no such way.
-fn way(cells: &[u32], i: u32) -> u32 {
-    if is_end(cells, i) {
-        return blacks(cells, i);
-    }
-    NULL
-}
-
-// Two numbers of black slots are the same, if there are two.
-fn agree(a: u32, b: u32) -> bool {
-    a == NULL || b == NULL || a == b
-}
-
-// The first of two numbers of black slots, if there is one, or else the second.
-fn first_of(a: u32, b: u32) -> u32 {
-    if a == NULL {
-        return b;
-    }
-    a
+    used(cells, i) && (get(cells, i, LEFT) == NULL || get(cells, i, RIGHT) == NULL)
 }
 
 // T6: every way from the root to a null link has as many black slots as the first that is looked at.
 fn level(cells: &[u32]) -> bool {
-    let mut height = NULL;
-    let mut i: u32 = 0;
-    while i < SLOTS {
-        let own = way(cells, i);
-        if !agree(height, own) {
-            return false;
+    let mut height = None;
+    for i in 0..SLOTS {
+        if is_end(cells, i) {
+            let own = blacks(cells, i);
+            if height.is_some_and(|first| first != own) {
+                return false;
+            }
+            height = Some(own);
         }
-        height = first_of(height, own);
-        i += 1;
     }
     true
 }
@@ -286,12 +199,10 @@ fn level(cells: &[u32]) -> bool {
 fn visits(cells: &[u32], first: u32) -> [u32; 64] {
     let mut counts = [0u32; 64];
     let mut at = first;
-    let mut steps: u32 = 0;
-    while steps <= SLOTS {
-        let more = sum(word(&counts, at), 1);
+    for _ in 0..=SLOTS {
+        let more = word(&counts, at).wrapping_add(1);
         put(&mut counts, 0, at, more);
         at = get(cells, at, NEXT);
-        steps += 1;
     }
     counts
 }
@@ -299,105 +210,60 @@ fn visits(cells: &[u32], first: u32) -> [u32; 64] {
 // T7 of slot i: it is visited once if it is used and never if it is free, and the slot after it, if any, points back.
 fn is_chained(cells: &[u32], counts: &[u32], i: u32) -> bool {
     let next = get(cells, i, NEXT);
-    word(counts, i) == used(cells, i) && (next == NULL || get(cells, next, PREV) == i)
+    word(counts, i) == u32::from(used(cells, i)) && (next == NULL || get(cells, next, PREV) == i)
 }
 
-// 1 if slot i is on the way from slot j up to the root, both counted, 0 if not.
-fn is_above(cells: &[u32], i: u32, j: u32) -> u32 {
+// Whether slot i is on the way from slot j up to the root, both counted.
+fn is_above(cells: &[u32], i: u32, j: u32) -> bool {
     let mut at = j;
-    let mut steps: u32 = 0;
-    while steps < SLOTS {
-        if at == i {
-            return 1;
-        }
-        if at == NULL {
-            return 0;
+    for _ in 0..SLOTS {
+        if at == i || at == NULL {
+            return at == i;
         }
         at = get(cells, at, PARENT);
-        steps += 1;
     }
-    0
+    false
 }
 
-// 1 if slot j is used and at or below slot i, 0 if not.
-fn is_under(cells: &[u32], i: u32, j: u32) -> u32 {
-    if used(cells, j) == 0 {
-        return 0;
-    }
-    is_above(cells, i, j)
-}
-
-// How many used slots are at or below slot i.
-fn slots_under(cells: &[u32], i: u32) -> u32 {
-    let mut count: u32 = 0;
-    let mut j: u32 = 0;
-    while j < SLOTS {
-        count = sum(count, is_under(cells, i, j));
-        j += 1;
-    }
-    count
-}
-
-// T8 of slot i.
+// T8 of slot i: it has the number of used slots at it and below it.
 fn is_counted(cells: &[u32], sizes: &[u32], i: u32) -> bool {
-    word(sizes, i) == slots_under(cells, i)
-}
-
-// One question of slot i. The marks are those of T3, the counts of T7 or the sizes of T8; the other questions have none.
-fn obeys(rule: u32, names: &[u64], cells: &[u32], root: u32, marks: &[u32], i: u32) -> bool {
-    match rule {
-        FINE => slot_fine(names, cells, i),
-        REACHED => is_reached(cells, root, marks, i),
-        ORDERED => ordered(names, cells, i),
-        CALM => calm(cells, i),
-        CHAINED => is_chained(cells, marks, i),
-        _ => is_counted(cells, marks, i),
-    }
-}
-
-// One question of every slot.
-fn all(rule: u32, names: &[u64], cells: &[u32], root: u32, marks: &[u32]) -> bool {
-    let mut i: u32 = 0;
-    while i < SLOTS {
-        if !obeys(rule, names, cells, root, marks, i) {
-            return false;
-        }
-        i += 1;
-    }
-    true
+    word(sizes, i) == count(|j| used(cells, j) && is_above(cells, i, j))
 }
 
 // T1 and T2.
 fn words_fine(names: &[u64], cells: &[u32], head: &[u32]) -> bool {
-    all(FINE, names, cells, NULL, cells) && head_fine(cells, head) && ends_agree(head)
+    (0..SLOTS).all(|i| slot_fine(names, cells, i)) && head_fine(cells, head) && ends_agree(head)
 }
 
 // T3.
-fn is_tree(names: &[u64], cells: &[u32], root: u32) -> bool {
+fn is_tree(cells: &[u32], root: u32) -> bool {
     let marks = reached(cells, root);
-    root == NULL || (get(cells, root, PARENT) == NULL && all(REACHED, names, cells, root, &marks))
+    root == NULL
+        || (get(cells, root, PARENT) == NULL
+            && (0..SLOTS).all(|i| is_reached(cells, root, &marks, i)))
 }
 
 // T4 to T6, of a tree.
 fn is_balanced(names: &[u64], cells: &[u32], root: u32) -> bool {
     !is_red(cells, root)
-        && all(ORDERED, names, cells, root, cells)
-        && all(CALM, names, cells, root, cells)
+        && (0..SLOTS).all(|i| ordered(names, cells, i))
+        && (0..SLOTS).all(|i| calm(cells, i))
         && level(cells)
 }
 
 // T7.
-fn is_chain(names: &[u64], cells: &[u32], first: u32) -> bool {
+fn is_chain(cells: &[u32], first: u32) -> bool {
     let counts = visits(cells, first);
-    first == NULL || (get(cells, first, PREV) == NULL && all(CHAINED, names, cells, NULL, &counts))
+    first == NULL
+        || (get(cells, first, PREV) == NULL && (0..SLOTS).all(|i| is_chained(cells, &counts, i)))
 }
 
 // Whether the tree is sound. Each rule is asked only where those before it hold: T4 to T6 speak of every used slot, which by
 // T3 is every reached slot.
 pub fn judge(names: &[u64], cells: &[u32], head: &[u32], sizes: &[u32]) -> bool {
     words_fine(names, cells, head)
-        && is_tree(names, cells, word(head, ROOT))
+        && is_tree(cells, word(head, ROOT))
         && is_balanced(names, cells, word(head, ROOT))
-        && is_chain(names, cells, word(head, FIRST))
-        && all(COUNTED, names, cells, NULL, sizes)
+        && is_chain(cells, word(head, FIRST))
+        && (0..SLOTS).all(|i| is_counted(cells, sizes, i))
 }

@@ -1,6 +1,7 @@
 // Four trees that pass the source's own check and are not sound, each one word or two away from a sound tree.
 use index::check::check;
 use index::sound::sound;
+use slots::answer::Answers;
 use slots::{BLACK, HASH, LEFT, NEXT, NULL, PARENT, PLACE, PREV, RED, RIGHT, STATE, put, put_name};
 use std::io;
 use std::io::Stdout;
@@ -11,10 +12,10 @@ use trials::print::{answer, say, verdict};
 fn ask(stdout: Stdout, label: &[u8], names: &[u64], cells: &[u32]) -> io::Result<()> {
     let head = [0u32, 0, 4];
     say(stdout, label)?;
-    let checked = check(names, cells, &head);
-    answer(stdout, b": check ", b"passes", checked.answer())?;
-    let soundness = sound(names, cells, &head, &[4u32, 2, 1, 1]);
-    verdict(stdout, b", sound ", b"no ", soundness.answer())?;
+    let checked = check(names, cells, &head).answer();
+    answer(stdout, b": check ", b"passes", checked)?;
+    let soundness = sound(names, cells, &head, &[4u32, 2, 1, 1]).answer();
+    verdict(stdout, b", sound ", b"no ", soundness)?;
     say(stdout, b"\n")
 }
 

@@ -1,25 +1,13 @@
 // Damages a sound tree in two slots at a time, in ways that leave its links consistent, for every two slots of it, and compares the
 // verdict on each tree with that of the naive judge. A slot that is moved in the chain leaves the tree sound where both are used.
-use crate::build::{MIDDLE, chain, grow, slot_of};
+use crate::build::{Tree, grown};
 use crate::damage::{Tally, compare};
-use index::fresh::fresh;
 use slots::{
     BLACK, HASH, KEY, LEFT, NEXT, NULL, PARENT, PREV, RED, RIGHT, STATE, get, name, put, put_name,
 };
 use std::io;
 use std::io::Stdout;
 use trials::print::{number, say};
-
-// The ways, by their number; any other moves a slot with all below it in the tree.
-const PAIRS: u32 = 0;
-
-const STATES: u32 = 1;
-
-const COLOURS: u32 = 2;
-
-const CHAIN: u32 = 3;
-
-const SUBTREE: u32 = 4;
 
 // The word of the header that holds the first slot of the chain.
 const FIRST: u32 = 1;
@@ -97,71 +85,19 @@ fn hang_below(cells: &mut [u32], i: u32, j: u32) {
     }
 }
 
-// Damages slots i and j in a way.
-fn twist(names: &mut [u64], cells: &mut [u32], head: &mut [u32], i: u32, j: u32, way: u32) {
-    match way {
-        PAIRS => {
-            swap_name(names, i, j, HASH);
-            swap_name(names, i, j, KEY);
+// Every two slots, in both orders, damaged in a way; a slot is not damaged with itself.
+fn try_twos<F: Fn(&mut Tree, u32, u32)>(tree: Tree, twist: F) -> Tally
+    requires { F.IsAlwaysCallable twist }
+{
+    let mut t = Tally::default();
+    for i in 0..64 {
+        for j in 0..64 {
+            if i != j {
+                let mut other = tree;
+                twist(&mut other, i, j);
+                t = compare(t, &other.names, &other.cells, &other.head, &other.sizes);
+            }
         }
-        STATES => {
-            swap_states(cells, i, j);
-        }
-        COLOURS => {
-            turn(cells, i);
-            turn(cells, j);
-        }
-        CHAIN => {
-            unchain(cells, head, i);
-            chain_behind(cells, i, j);
-        }
-        _ => {
-            unhang(cells, i);
-            hang_below(cells, i, j);
-        }
-    }
-}
-
-// The tally with the tree in which slots i and j are damaged; a slot is not damaged with itself.
-fn try_two(
-    t: Tally,
-    names: [u64; 128],
-    cells: [u32; 448],
-    head: [u32; 3],
-    sizes: [u32; 64],
-    i: u32,
-    j: u32,
-    way: u32,
-) -> Tally {
-    if i == j {
-        return t;
-    }
-    let mut names_then = names;
-    let mut cells_then = cells;
-    let mut head_then = head;
-    twist(&mut names_then, &mut cells_then, &mut head_then, i, j, way);
-    compare(t, &names_then, &cells_then, &head_then, &sizes)
-}
-
-// Every two slots, in both orders, damaged in a way.
-fn try_twos(
-    names: [u64; 128],
-    cells: [u32; 448],
-    head: [u32; 3],
-    sizes: [u32; 64],
-    way: u32,
-) -> Tally {
-    let mut t = Tally {
-        tried: 0,
-        yes: 0,
-        no: 0,
-        differences: 0,
-        passes: 0,
-    };
-    let mut trial: u32 = 0;
-    while trial < 4096 {
-        t = try_two(t, names, cells, head, sizes, trial / 64, trial % 64, way);
-        trial += 1;
     }
     t
 }
@@ -178,38 +114,27 @@ fn report(stdout: Stdout, label: &[u8], t: Tally) -> io::Result<()> {
 }
 
 pub fn run(stdout: Stdout) -> io::Result<()> {
-    let mut names = [0u64; 128];
-    let mut cells = [0u32; 448];
-    let mut head = [0u32; 3];
-    let mut sizes = [0u32; 64];
-    let mut lines = [0u64; 1];
-    fresh(&mut names, &mut cells, &mut head, &mut sizes, &mut lines);
-    grow(&mut names, &mut cells, &mut sizes);
-    let ends = chain(&mut cells);
-    head = [slot_of(MIDDLE), ends.first, 47];
-    report(
-        stdout,
-        b"two pairs exchanged",
-        try_twos(names, cells, head, sizes, PAIRS),
-    )?;
-    report(
-        stdout,
-        b"two states exchanged",
-        try_twos(names, cells, head, sizes, STATES),
-    )?;
-    report(
-        stdout,
-        b"two colours changed",
-        try_twos(names, cells, head, sizes, COLOURS),
-    )?;
-    report(
-        stdout,
-        b"a slot moved in the chain",
-        try_twos(names, cells, head, sizes, CHAIN),
-    )?;
-    report(
-        stdout,
-        b"a slot hung elsewhere with all below it",
-        try_twos(names, cells, head, sizes, SUBTREE),
-    )
+    let tree = grown();
+    let pairs = try_twos(tree, |tree, i, j| {
+        swap_name(&mut tree.names, i, j, HASH);
+        swap_name(&mut tree.names, i, j, KEY);
+    });
+    report(stdout, b"two pairs exchanged", pairs)?;
+    let states = try_twos(tree, |tree, i, j| swap_states(&mut tree.cells, i, j));
+    report(stdout, b"two states exchanged", states)?;
+    let colours = try_twos(tree, |tree, i, j| {
+        turn(&mut tree.cells, i);
+        turn(&mut tree.cells, j);
+    });
+    report(stdout, b"two colours changed", colours)?;
+    let moved = try_twos(tree, |tree, i, j| {
+        unchain(&mut tree.cells, &mut tree.head, i);
+        chain_behind(&mut tree.cells, i, j);
+    });
+    report(stdout, b"a slot moved in the chain", moved)?;
+    let hung = try_twos(tree, |tree, i, j| {
+        unhang(&mut tree.cells, i);
+        hang_below(&mut tree.cells, i, j);
+    });
+    report(stdout, b"a slot hung elsewhere with all below it", hung)
 }

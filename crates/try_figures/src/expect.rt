@@ -1,15 +1,15 @@
 // What is expected, counted apart: the blocks of an input by their lengths, and what each of the first input's files adds, from a table
 // that was counted by hand off docs/sets.
-ghost use Rattle.std.specs.Prelude.{◌<◌};
-
-use slots::{put_wide, wide};
+use slots::{put_word, word};
 
 pub const TOTALS: usize = 39;
 
-// The words of what comes of an input: the totals, and whether a set came after a million.
-pub const WORDS: usize = 40;
-
-const OVER: usize = 39;
+// What comes of an input: the totals, and whether a set came after a million.
+#[derive(Clone, Copy, PartialEq)]
+pub struct Figures {
+    pub totals: [u64; TOTALS],
+    pub over: bool,
+}
 
 // The files of the first input; its last block is cut short.
 pub const FILES: usize = 17;
@@ -53,107 +53,87 @@ fn table(k: usize) -> Share {
 }
 
 fn sum(a: u64, b: u64) -> u64 {
-    std::num::wrapping_add_u64(a, b)
+    a.wrapping_add(b)
 }
 
 // Word j with v more.
-fn add(words: &mut [u64], j: usize, v: u64) {
-    put_wide(words, j, sum(wide(words, j), v));
+fn add(totals: &mut [u64; TOTALS], j: usize, v: u64) {
+    let total = word(totals, j, 0);
+    put_word(totals, j, sum(total, v));
 }
 
-// An entry in each of the rows 1 to 32.
-fn add_rows(words: &mut [u64]) {
-    let mut i: usize = 1;
-    while i <= 32 {
-        add(words, 5 + i, 1);
-        i += 1;
+// The list of 34: an entry at each number of looks from 1 to 34, which are 595 in all. The rows 1 to 32 have one each.
+fn add_long(totals: &mut [u64; TOTALS]) {
+    add(totals, 0, 1);
+    add(totals, 2, 34);
+    add(totals, 3, 1);
+    add(totals, 5, 595);
+    for row in 6..38 {
+        add(totals, row, 1);
     }
+    add(totals, 38, 2);
 }
 
-// The list of 34: an entry at each number of looks from 1 to 34, which are 595 in all.
-fn add_long(words: &mut [u64]) {
-    add(words, 0, 1);
-    add(words, 2, 34);
-    add(words, 3, 1);
-    add(words, 5, 595);
-    add_rows(words);
-    add(words, 38, 2);
-}
-
-// A set that is refused.
-fn add_refused(words: &mut [u64]) {
-    add(words, 1, 1);
-}
-
-fn add_table(words: &mut [u64], t: Share) {
+fn add_table(totals: &mut [u64; TOTALS], t: Share) {
     if t.sets == 0 {
-        add_refused(words);
+        // A set that is refused.
+        add(totals, 1, 1);
     } else {
-        add(words, 0, 1);
-        add(words, 2, t.entries);
-        add(words, 3, t.lists);
-        add(words, 4, t.trees);
-        add(words, 5, sum(t.ones, sum(t.twos, t.twos)));
-        add(words, 6, t.ones);
-        add(words, 7, t.twos);
+        add(totals, 0, 1);
+        add(totals, 2, t.entries);
+        add(totals, 3, t.lists);
+        add(totals, 4, t.trees);
+        add(totals, 5, sum(t.ones, sum(t.twos, t.twos)));
+        add(totals, 6, t.ones);
+        add(totals, 7, t.twos);
     }
 }
 
 // File k; with a million sets it is told that one came after them.
-fn add_file(words: &mut [u64; WORDS], k: usize) {
-    if 1000000 <= sum(wide(words, 0), wide(words, 1)) {
-        put_wide(words, OVER, 1);
+fn add_file(figures: &mut Figures, k: usize) {
+    if 1000000 <= sum(figures.totals[0], figures.totals[1]) {
+        figures.over = true;
     } else if k == LONG {
-        add_long(words);
+        add_long(&mut figures.totals);
     } else {
-        add_table(words, table(k));
+        add_table(&mut figures.totals, table(k));
     }
 }
 
-fn number(byte: u8) -> usize
-    ensures { result < 256 }
-{
-    byte as usize
-}
-
-// Byte k as a number; 0 behind the last.
-fn byte(bytes: &[u8], k: usize) -> usize
-    ensures { result < 256 }
-{
-    if k < bytes.len() {
-        return number(bytes[k]);
-    }
-    0
+// Byte k; 0 behind the last.
+fn byte(bytes: &[u8], k: usize) -> u8 {
+    word(bytes, k, 0)
 }
 
 fn place(a: usize, b: usize) -> usize {
-    std::num::wrapping_add_usize(a, b)
+    a.wrapping_add(b)
 }
 
-// Where the block that begins at a place ends, by its length. No file here is longer than three bytes say.
+// Where the block that begins at a place ends, by its length.
 fn block_end(bytes: &[u8], at: usize) -> usize {
-    let low = byte(bytes, at) + 256 * byte(bytes, place(at, 1));
-    let high = 65536 * byte(bytes, place(at, 2));
-    place(at, place(4, low + high))
+    let length = u32::from_le_bytes([
+        byte(bytes, at),
+        byte(bytes, place(at, 1)),
+        byte(bytes, place(at, 2)),
+        byte(bytes, place(at, 3)),
+    ]);
+    place(at, place(4, length as usize))
 }
 
-// The figures from these totals on, of the first so many bytes of the first input.
-pub fn expected(bytes: &[u8], end: usize, from: [u64; WORDS]) -> [u64; WORDS] {
-    let mut words = from;
+// The figures from these on, of the first so many bytes of the first input.
+pub fn expected(bytes: &[u8], end: usize, from: Figures) -> Figures {
+    let mut figures = from;
     let mut at = 0;
-    let mut k = 0;
-    while k < FILES {
+    for k in 0..FILES {
         let next = block_end(bytes, at);
         if end < next {
-            k = FILES;
-        } else {
-            add_file(&mut words, k);
-            at = next;
-            k += 1;
+            break;
         }
+        add_file(&mut figures, k);
+        at = next;
     }
     if at < end {
-        add_file(&mut words, FILES);
+        add_file(&mut figures, FILES);
     }
-    words
+    figures
 }

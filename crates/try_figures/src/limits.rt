@@ -1,59 +1,39 @@
 // Totals and streams out of their ranges: 1, and nothing changes.
 use crate::expect::TOTALS;
-use crate::run::{BINS, CELLS, HEADS, LENGTHS, NAMES, one};
+use crate::run::Room;
 use crate::trial::told;
-use file::loader::{LoadNote, Loader};
-use slots::{put_wide, wide};
+use file::loader::Loader;
+use slots::answer::Answers;
+use slots::{put_word, word};
 use std::io;
 use std::io::Stdout;
 use tally::stream::Stream;
 use tally::tally::tally;
-use trials::same::same_names;
 
 fn more(count: u64, by: u64) -> u64 {
-    std::num::wrapping_add_u64(count, by)
+    count.wrapping_add(by)
 }
 
 // What tally answers to a set that is refused, by its number: with no refusal 0.
 fn number_of(totals: &mut [u64]) -> u32 {
-    let nothing: [u32; 0] = [];
-    let nameless: [u64; 0] = [];
-    let reply = tally(&nothing, &nothing, &nothing, &nameless, &nothing, totals);
-    let answer = reply.answer();
-    answer.number
+    tally(&[], &[], &[], &[], &[], totals).answer().number
 }
 
 // What a stream answers to these totals, to a set of length 0 and to an end within a set; 17 where it tells that a set came after a
 // million.
 fn stream_number(totals: &mut [u64]) -> u32 {
-    let mut lengths = [0u32; LENGTHS];
-    let mut bins = [0u32; BINS];
-    let mut heads = [0u32; HEADS];
-    let mut names = [0u64; NAMES];
-    let mut cells = [0u32; CELLS];
-    let stream = Stream::start();
-    let first = stream.chunk(
-        &mut lengths,
-        &mut bins,
-        &mut heads,
-        &mut names,
-        &mut cells,
-        totals,
-        b"\x00\x00\x00\x00\x00",
-    );
-    let begun = first.reply;
-    let chunked = begun.answer();
+    let mut room = Room::filled(0);
+    let first = room.chunk(Stream::start(), totals, b"\x00\x00\x00\x00\x00");
     let last = first.stream.end(totals);
-    let done = last.reply;
-    let ended = done.answer();
-    let after = last.stream;
-    if chunked.number != ended.number {
+    let chunked = first.reply.answer().number;
+    let ended = last.reply.answer().number;
+    if chunked != ended {
         return 99;
     }
-    if after.over {
+    if last.stream.over {
         return 17;
     }
-    chunked.number
+    chunked
 }
 
 // Whether these totals are refused with this number by all three calls, and stay.
@@ -61,15 +41,15 @@ fn refused_alike(totals: [u64; TOTALS], number: u32) -> u64 {
     let mut lent = totals;
     let first = number_of(&mut lent) == number;
     let then = stream_number(&mut lent) == number;
-    one(!(first && then && same_names(&lent, &totals)))
+    !(first && then && lent == totals) as u64
 }
 
 // Totals with so many sets and refused ones, and one word more.
 fn totals_with(sets: u64, refused: u64, j: usize, value: u64) -> [u64; TOTALS] {
     let mut totals = [0u64; TOTALS];
-    put_wide(&mut totals, j, value);
-    put_wide(&mut totals, 0, sets);
-    put_wide(&mut totals, 1, refused);
+    put_word(&mut totals, j, value);
+    put_word(&mut totals, 0, sets);
+    put_word(&mut totals, 1, refused);
     totals
 }
 
@@ -87,18 +67,16 @@ fn most(j: usize, sets: u64) -> u64 {
 // Word j at its limit is taken by tally, and one more is 1.
 fn try_word(j: usize, sets: u64) -> u64 {
     let mut at_limit = totals_with(sets, 0, j, most(j, sets));
-    let taken = number_of(&mut at_limit) == 0 && wide(&at_limit, 1) == 1;
+    let taken = number_of(&mut at_limit) == 0 && word(&at_limit, 1, 0) == 1;
     let past = totals_with(sets, 0, j, more(most(j, sets), 1));
-    more(one(!taken), refused_alike(past, 1))
+    more(!taken as u64, refused_alike(past, 1))
 }
 
 // Every word from the entries on.
 fn try_words(sets: u64) -> u64 {
-    let mut count: u64 = 0;
-    let mut j = 2;
-    while j < TOTALS {
+    let mut count = 0;
+    for j in 2..TOTALS {
         count = more(count, try_word(j, sets));
-        j += 1;
     }
     count
 }
@@ -119,10 +97,10 @@ fn try_sums() -> u64 {
 fn try_lengths() -> u64 {
     let mut short = [0u64; 38];
     let mut long = [0u64; 40];
-    let first = one(number_of(&mut short) != 1);
-    let second = one(stream_number(&mut short) != 1);
-    let third = one(number_of(&mut long) != 1);
-    let fourth = one(stream_number(&mut long) != 1);
+    let first = (number_of(&mut short) != 1) as u64;
+    let second = (stream_number(&mut short) != 1) as u64;
+    let third = (number_of(&mut long) != 1) as u64;
+    let fourth = (stream_number(&mut long) != 1) as u64;
     more(more(first, second), more(third, fourth))
 }
 
@@ -147,7 +125,7 @@ fn stream_of(got: u64, left: u64, section: u64, tables: u64, words: u64) -> Stre
         words,
         headers: 0,
         slots: 0,
-        note: LoadNote::Unsaid,
+        note: None,
     };
     Stream {
         got,
@@ -159,31 +137,18 @@ fn stream_of(got: u64, left: u64, section: u64, tables: u64, words: u64) -> Stre
 
 // Whether the number of a piece of one byte is another one, or 1 changes the totals.
 fn differs_in_piece(stream: Stream, number: u32) -> u64 {
-    let mut lengths = [0u32; LENGTHS];
-    let mut bins = [0u32; BINS];
-    let mut heads = [0u32; HEADS];
-    let mut names = [0u64; NAMES];
-    let mut cells = [0u32; CELLS];
     let mut totals = [0u64; TOTALS];
-    let figured = stream.chunk(
-        &mut lengths,
-        &mut bins,
-        &mut heads,
-        &mut names,
-        &mut cells,
-        &mut totals,
-        b"\x01",
-    );
-    let answer = figured.reply.answer();
-    one(answer.number != number || number == 1 && wide(&totals, 1) != 0)
+    let figured = Room::filled(0).chunk(stream, &mut totals, b"\x01");
+    let answered = figured.reply.answer().number;
+    (answered != number || number == 1 && totals[1] != 0) as u64
 }
 
 // The same of the end of an input.
 fn differs_at_end(stream: Stream, number: u32) -> u64 {
     let mut totals = [0u64; TOTALS];
     let figured = stream.end(&mut totals);
-    let answer = figured.reply.answer();
-    one(answer.number != number || number == 1 && wide(&totals, 1) != 0)
+    let answered = figured.reply.answer().number;
+    (answered != number || number == 1 && totals[1] != 0) as u64
 }
 
 // A stream's two numbers, in their ranges or not.

@@ -19,7 +19,7 @@ pub(crate) const WEEK: usize = 35616;
 pub(crate) const BACK: usize = 35518;
 
 fn more(a: u64, b: u64) -> u64 {
-    std::num::wrapping_add_u64(a, b)
+    a.wrapping_add(b)
 }
 
 fn main(rt: HostRuntime) -> io::Result<()> {

@@ -1,106 +1,63 @@
 // An input counted in two pieces, and what came of it.
-use crate::expect::{TOTALS, WORDS};
-use slots::{put_wide, wide};
+use crate::expect::{Figures, TOTALS};
 use tally::figure::Figured;
 use tally::stream::Stream;
 
+const LENGTHS: usize = 8;
+
+const BINS: usize = 1024;
+
+const HEADS: usize = 768;
+
+const NAMES: usize = 1024;
+
+const CELLS: usize = 3584;
+
 // The slices of the program.
-pub const LENGTHS: usize = 8;
-
-pub const BINS: usize = 1024;
-
-pub const HEADS: usize = 768;
-
-pub const NAMES: usize = 1024;
-
-pub const CELLS: usize = 3584;
-
-// 1 for yes, so that it can be counted.
-pub fn one(yes: bool) -> u64 {
-    if yes { 1 } else { 0 }
+#[derive(Clone, Copy)]
+pub struct Room {
+    lengths: [u32; LENGTHS],
+    bins: [u32; BINS],
+    heads: [u32; HEADS],
+    names: [u64; NAMES],
+    cells: [u32; CELLS],
 }
 
-// The bytes from i to before j as one piece; an empty one where these are not in their order within the bytes.
-fn take_part(
-    stream: Stream,
-    lengths: &mut [u32; LENGTHS],
-    bins: &mut [u32; BINS],
-    heads: &mut [u32; HEADS],
-    names: &mut [u64; NAMES],
-    cells: &mut [u32; CELLS],
-    totals: &mut [u64; TOTALS],
-    bytes: &[u8],
-    i: usize,
-    j: usize,
-) -> Figured {
-    if i <= j {
-        if j <= bytes.len() {
-            return stream.chunk(lengths, bins, heads, names, cells, totals, &bytes[i..j]);
+impl Room {
+    pub fn filled(word: u32) -> Room {
+        Room {
+            lengths: [word; LENGTHS],
+            bins: [word; BINS],
+            heads: [word; HEADS],
+            names: [word as u64; NAMES],
+            cells: [word; CELLS],
         }
     }
-    stream.chunk(lengths, bins, heads, names, cells, totals, b"")
-}
 
-// The input in two pieces, cut at i, in slices that had other words before.
-fn count(totals: &mut [u64; TOTALS], bytes: &[u8], i: usize) -> Stream {
-    let mut lengths = [9u32; LENGTHS];
-    let mut bins = [9u32; BINS];
-    let mut heads = [9u32; HEADS];
-    let mut names = [9u64; NAMES];
-    let mut cells = [9u32; CELLS];
-    let first = take_part(
-        Stream::start(),
-        &mut lengths,
-        &mut bins,
-        &mut heads,
-        &mut names,
-        &mut cells,
-        totals,
-        bytes,
-        0,
-        i,
-    );
-    let n = bytes.len();
-    let second = take_part(
-        first.stream,
-        &mut lengths,
-        &mut bins,
-        &mut heads,
-        &mut names,
-        &mut cells,
-        totals,
-        bytes,
-        i,
-        n,
-    );
-    let ended = second.stream.end(totals);
-    ended.stream
-}
-
-// The words of one slice put into another, as many as there are.
-fn copy(to: &mut [u64], from: &[u64]) {
-    let mut j = 0;
-    while j < to.len() {
-        put_wide(to, j, wide(from, j));
-        j += 1;
+    // The next bytes of an input.
+    pub fn chunk(&mut self, stream: Stream, totals: &mut [u64], bytes: &[u8]) -> Figured {
+        stream.chunk(
+            &mut self.lengths,
+            &mut self.bins,
+            &mut self.heads,
+            &mut self.names,
+            &mut self.cells,
+            totals,
+            bytes,
+        )
     }
 }
 
-// The totals and one word more: whether a set came after a million.
-fn words_of(totals: &[u64; TOTALS], over: bool) -> [u64; WORDS] {
-    let mut words = [one(over); WORDS];
-    let mut j = 0;
-    while j < TOTALS {
-        words[j] = totals[j];
-        j += 1;
+// The figures of an input that is cut at i into two pieces, from these on, in slices that had other words before.
+pub fn outcome(bytes: &[u8], i: usize, from: Figures) -> Figures {
+    let mut room = Room::filled(9);
+    let mut totals: [u64; TOTALS] = from.totals;
+    let (first, second) = bytes.split_at(i.min(bytes.len()));
+    let begun = room.chunk(Stream::start(), &mut totals, first);
+    let counted = room.chunk(begun.stream, &mut totals, second);
+    let ended = counted.stream.end(&mut totals);
+    Figures {
+        totals,
+        over: ended.stream.over,
     }
-    words
-}
-
-// The totals of an input that is cut at i, from these on, and whether a set came after a million.
-pub fn outcome(bytes: &[u8], i: usize, from: [u64; WORDS]) -> [u64; WORDS] {
-    let mut totals = [0u64; TOTALS];
-    copy(&mut totals, &from);
-    let stream = count(&mut totals, bytes, i);
-    words_of(&totals, stream.over)
 }

@@ -1,9 +1,9 @@
 // Runs insert, remove, replace and rollback at their limits: capacity 1 and 4,096, a journal of 0 and of 1,024 lines.
 use crate::calls::Call;
-use crate::counts::Count;
-use crate::pairs::Order;
+use crate::counts::{count, is_restored, listed};
+use crate::pairs::{drained, filled};
 use crate::words::{
-    Step, Words, ask, count, empty, made, many_calls, part, say_held, say_length, tree,
+    Words, ask, empty, made, many, part, say_accepted, say_count, say_held, say_length, tree,
 };
 use slots::NULL;
 use std::io;
@@ -45,7 +45,7 @@ fn one_pair_moved(stdout: Stdout) -> io::Result<()> {
         b"capacity 1, replace 1",
         Call::Replace(1, 11),
     )?;
-    x = made(x, Step::One(Call::Insert(1, 10)));
+    x = made(x, Call::Insert(1, 10));
     show(
         stdout,
         &mut x,
@@ -82,14 +82,15 @@ fn no_line(stdout: Stdout) -> io::Result<()> {
     ask(stdout, &mut x, b"rollback to 1", Call::Rollback(1))
 }
 
+// The first n pairs go in, each with its number as its place: how many were accepted.
+fn enter(x: &mut Words, n: u32) -> u32 {
+    many(x, n, |i| Call::Insert(filled(i), filled(i)))
+}
+
 // The journal is filled up and emptied by a rollback.
 fn all_lines(stdout: Stdout, x: &mut Words) -> io::Result<()> {
-    many_calls(
-        stdout,
-        x,
-        b"capacity 4096, journal 1024",
-        Step::Enter(1024, Order::Filled),
-    )?;
+    let accepted = enter(x, 1024);
+    say_accepted(stdout, b"capacity 4096, journal 1024", accepted)?;
     ask(stdout, x, b"insert 5000", Call::Insert(5000, 1))?;
     ask(stdout, x, b"remove 0", Call::Remove(0))?;
     ask(stdout, x, b"replace 0", Call::Replace(0, 1))?;
@@ -100,15 +101,12 @@ fn all_lines(stdout: Stdout, x: &mut Words) -> io::Result<()> {
 
 // The tree is filled up and emptied by removals.
 fn fill_and_drain(stdout: Stdout, x: &mut Words) -> io::Result<()> {
-    many_calls(stdout, x, b"filled", Step::Enter(4096, Order::Filled))?;
+    let accepted = enter(x, 4096);
+    say_accepted(stdout, b"filled", accepted)?;
     tree(stdout, x)?;
     ask(stdout, x, b"insert 5000", Call::Insert(5000, 1))?;
-    many_calls(
-        stdout,
-        x,
-        b"emptied in another order",
-        Step::Leave(4096, Order::Drained),
-    )?;
+    let accepted = many(x, 4096, |i| Call::Remove(drained(i)));
+    say_accepted(stdout, b"emptied in another order", accepted)?;
     tree(stdout, x)
 }
 
@@ -116,13 +114,10 @@ fn fill_and_drain(stdout: Stdout, x: &mut Words) -> io::Result<()> {
 fn undo_last(stdout: Stdout, x: &mut Words) -> io::Result<()> {
     ask(stdout, x, b"rollback to 0", Call::Rollback(0))?;
     tree(stdout, x)?;
-    count(stdout, x, b"pairs as at the mark", Count::Right)?;
-    count(
-        stdout,
-        x,
-        b"neighbours listed as at the mark",
-        Count::Listed,
-    )
+    let words: &Words = x;
+    let restored = count(4096, |i| is_restored(words, i));
+    say_count(stdout, b"pairs as at the mark", restored)?;
+    say_count(stdout, b"neighbours listed as at the mark", listed(words))
 }
 
 // The largest capacity and the largest journal, each filled up and emptied.

@@ -21,14 +21,12 @@ pub fn say_entries(
 ) -> io::Result<()> {
     print::number(stdout, b", entries ", get(head, 0, 2))?;
     let mut x = get(head, 0, 1);
-    let mut i: u32 = 0;
-    while i < n {
+    for _ in 0..n {
         if x == NULL {
             return Ok(());
         }
         say_entry(stdout, names, cells, x)?;
         x = get(cells, x, NEXT);
-        i += 1;
     }
     Ok(())
 }

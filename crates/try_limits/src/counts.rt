@@ -1,93 +1,81 @@
 // What is counted over a whole tree: pairs and neighbours after a rollback, positions.
-use crate::pairs::{Order, hash_of, nth, turn_of};
-use index::find::{Found, find};
-use ranks::kth::{KthSlot, kth};
-use ranks::position::{Positioned, position};
+ghost use Rattle.std.specs.Prelude.{◌≤◌};
+
+use crate::pairs::{drained, hash_of, turn_of};
+use crate::words::Words;
+use index::find::find;
+use ranks::kth::kth;
+use ranks::position::position;
 use slots::{HASH, KEY, NEXT, NULL, PLACE, get, name};
+use tree::find::Found;
 
-#[derive(Clone, Copy)]
-pub enum Count {
-    Right, // pairs that stand as they have to once the last 1,024 removes are undone
-    Listed, // neighbours of the chain in the order that they had when the tree was full
-    Ranked, // pairs that have the position that they have to have
-    RankedThinned, // the same with every third pair gone
-    Undone, // positions whose slot's pair has that position again
+// How many of the first n are as they have to be.
+// Form kept: try_damage has the same few lines; a public routine for both, with a clause that says the count of a closure, is no plainer.
+pub fn count<F: Fn(u32) -> bool>(n: u32, is_right: F) -> u32
+    requires { F.IsAlwaysCallable is_right }
+    ensures { result ≤ n }
+{
+    let mut count = 0;
+    for i in 0..n {
+        if is_right(i) {
+            count += 1;
+        }
+    }
+    count
 }
 
-fn one(yes: bool) -> u32 {
-    if yes { 1 } else { 0 }
-}
-
-// Whether the pair that was removed after i others is there with its place exactly if its line was undone.
-fn is_right(names: &[u64], cells: &[u32], head: &[u32], i: u32) -> bool {
-    let k = nth(Order::Drained, i);
-    match find(names, cells, head, hash_of(k), k as u64) {
-        Found::At(slot, _) => 3072 <= i && get(cells, slot, PLACE) == k,
+// Whether the pair that was removed after i others is there with its place exactly if its line was undone: the last 1,024 removes are.
+pub fn is_restored(x: &Words, i: u32) -> bool {
+    let k = drained(i);
+    match find(
+        x.lent_names(),
+        x.lent_cells(),
+        x.lent_head(),
+        hash_of(k),
+        k as u64,
+    ) {
+        Ok(Found::At(slot, _)) => 3072 <= i && get(&x.cells, slot, PLACE) == k,
         _ => i < 3072,
     }
 }
 
 // How many of the pairs below pair k are left once every third pair, from pair 0 on, has gone.
-fn left_below(k: u32) -> u32 {
-    std::num::wrapping_sub_u32(k, k / 3 + 1)
+pub fn left_below(k: u32) -> u32 {
+    k.wrapping_sub(k / 3 + 1)
 }
 
 // Whether a pair has the position wanted.
-fn is_at(
-    names: &[u64],
-    cells: &[u32],
-    head: &[u32],
-    sizes: &[u32],
-    hash: u64,
-    key: u64,
-    wanted: u32,
-) -> bool {
-    match position(names, cells, head, sizes, hash, key) {
-        Positioned::At(at) => at == wanted,
+fn is_at(x: &Words, hash: u64, key: u64, wanted: u32) -> bool {
+    match position(
+        x.lent_names(),
+        x.lent_cells(),
+        x.lent_head(),
+        x.lent_sizes(),
+        hash,
+        key,
+    ) {
+        Ok(at) => at == wanted,
         _ => false,
     }
+}
+
+// Whether pair k has the position wanted.
+pub fn is_ranked(x: &Words, k: u32, wanted: u32) -> bool {
+    is_at(x, hash_of(k), k as u64, wanted)
 }
 
 // Whether there is a position k, and its slot's pair has that position again.
-fn is_undone(names: &[u64], cells: &[u32], head: &[u32], sizes: &[u32], k: u32) -> bool {
-    match kth(names, cells, head, sizes, k) {
-        KthSlot::At(x) => {
-            let hash = name(names, x, HASH);
-            let key = name(names, x, KEY);
-            is_at(names, cells, head, sizes, hash, key, k)
-        }
+pub fn is_undone(x: &Words, k: u32) -> bool {
+    match kth(
+        x.lent_names(),
+        x.lent_cells(),
+        x.lent_head(),
+        x.lent_sizes(),
+        k,
+    ) {
+        Ok(slot) => is_at(x, name(&x.names, slot, HASH), name(&x.names, slot, KEY), k),
         _ => false,
     }
-}
-
-// Whether the pair or the position with number i is as it has to be.
-fn holds(count: Count, names: &[u64], cells: &[u32], head: &[u32], sizes: &[u32], i: u32) -> bool {
-    match count {
-        Count::Right => is_right(names, cells, head, i),
-        Count::Undone => is_undone(names, cells, head, sizes, i),
-        Count::Ranked => is_at(names, cells, head, sizes, hash_of(i), i as u64, i),
-        _ => is_at(
-            names,
-            cells,
-            head,
-            sizes,
-            hash_of(i),
-            i as u64,
-            left_below(i),
-        ),
-    }
-}
-
-// How many of the first n are.
-fn held(count: Count, names: &[u64], cells: &[u32], head: &[u32], sizes: &[u32], n: u32) -> u32 {
-    let mut sum: u32 = 0;
-    let mut i: u32 = 0;
-    while i < n {
-        let yes = holds(count, names, cells, head, sizes, i);
-        sum = std::num::wrapping_add_u32(sum, one(yes));
-        i += 1;
-    }
-    sum
 }
 
 // Whether slot x has one behind it in the chain whose pair went in before its own.
@@ -97,24 +85,12 @@ fn is_listed(names: &[u64], cells: &[u32], x: u32) -> bool {
 }
 
 // How many neighbours of the chain stand in the order that they had when the tree was full: the last that went in first.
-fn listed(names: &[u64], cells: &[u32], head: &[u32]) -> u32 {
+pub fn listed(x: &Words) -> u32 {
     let mut sum: u32 = 0;
-    let mut x = get(head, 0, 1);
-    let mut i: u32 = 0;
-    while i < 4096 {
-        let yes = is_listed(names, cells, x);
-        sum = std::num::wrapping_add_u32(sum, one(yes));
-        x = get(cells, x, NEXT);
-        i += 1;
+    let mut slot = get(&x.head, 0, 1);
+    for _ in 0..4096 {
+        sum = sum.wrapping_add(u32::from(is_listed(&x.names, &x.cells, slot)));
+        slot = get(&x.cells, slot, NEXT);
     }
     sum
-}
-
-// How many there are of what is counted.
-pub fn counted(count: Count, names: &[u64], cells: &[u32], head: &[u32], sizes: &[u32]) -> u32 {
-    match count {
-        Count::Listed => listed(names, cells, head),
-        Count::Right => held(count, names, cells, head, sizes, 4096),
-        _ => held(count, names, cells, head, sizes, 300),
-    }
 }

@@ -1,30 +1,18 @@
 // Asks find at the limits of what it refuses, and prints each answer.
-use index::find::{Found, find};
+use index::find::find;
+use slots::answer::Unfit;
 use slots::{LEFT, NULL, RIGHT, put};
 use std::io;
 use std::io::Stdout;
+use tree::find::{Found, counted_by};
+use trials::part::first;
 use trials::print::{answer_or, say};
 
-fn print(stdout: Stdout, label: &[u8], found: Found) -> io::Result<()> {
-    let counted = found.counted();
-    let answer = counted.answer;
+fn print(stdout: Stdout, label: &[u8], found: Result<Found<u32>, Unfit>) -> io::Result<()> {
+    let answer = counted_by(found).answer;
     say(stdout, label)?;
     answer_or(stdout, b": ", b"at ", b"none", answer)?;
     say(stdout, b"\n")
-}
-
-fn first_names(words: &[u64], n: usize) -> &[u64] {
-    if n <= words.len() {
-        return &words[0..n];
-    }
-    words
-}
-
-fn first_words(words: &[u32], n: usize) -> &[u32] {
-    if n <= words.len() {
-        return &words[0..n];
-    }
-    words
 }
 
 // A tree of n slots in which each name is (0, 0), asked for (0, key) from root.
@@ -40,8 +28,8 @@ fn ask(
     let head = [root, root, 0];
     let slots = n as usize;
     let found = find(
-        first_names(names, 2 * slots),
-        first_words(cells, 7 * slots),
+        first(names, 2 * slots),
+        first(cells, 7 * slots),
         &head,
         0,
         key,
@@ -68,13 +56,7 @@ fn cut(
     h: usize,
 ) -> io::Result<()> {
     let head = [0u32, 0, 0, 0];
-    let found = find(
-        first_names(names, n),
-        first_words(cells, c),
-        first_words(&head, h),
-        0,
-        0,
-    );
+    let found = find(first(names, n), first(cells, c), first(&head, h), 0, 0);
     print(stdout, label, found)
 }
 

@@ -1,10 +1,11 @@
 // Damages a journal in one word at a time, asks rollback, and prints its answer and whether the lent slices are as they were before
 // the call; where they are not, also what the tree then holds.
-use crate::calls::{Call, Word};
-use crate::words::{Step, Words, empty, made, part, same, say_held};
+use crate::calls::Call;
+use crate::words::{Words, empty, made, part, same, say_held};
 use index::journal::{
     LINE_KEY, LINE_KIND, LINE_PLACE, LINE_PRIOR_HASH, LINE_PRIOR_KEY, NOTED_REMOVE, REMOVE,
 };
+use slots::{PLACE, put, put_name};
 use std::io;
 use std::io::Stdout;
 use trials::print::say;
@@ -26,7 +27,7 @@ fn roll(stdout: Stdout, label: &[u8], x: Words, n: u32, mark: u32) -> io::Result
     say(stdout, label)?;
     let mut rolled = x;
     part(stdout, &mut rolled, b": ", Call::Rollback(mark))?;
-    if same(x, rolled) {
+    if same(&x, &rolled) {
         say(stdout, b", all as it was")?;
     } else {
         say(stdout, b", written")?;
@@ -37,13 +38,15 @@ fn roll(stdout: Stdout, label: &[u8], x: Words, n: u32, mark: u32) -> io::Result
 
 // Of so many slots and lines, with 1 inserted, and then 2.
 fn two_pairs(n: u32) -> Words {
-    let one = made(empty(n, n), Step::One(Call::Insert(1, 10)));
-    made(one, Step::One(Call::Insert(2, 20)))
+    let one = made(empty(n, n), Call::Insert(1, 10));
+    made(one, Call::Insert(2, 20))
 }
 
 // Word f of line k set to value.
 fn damaged(x: Words, k: u32, f: u32, value: u64) -> Words {
-    made(x, Step::Set(Word::Line(k, f, value)))
+    let mut after = x;
+    put_name(&mut after.lines, 0, 6 * (k % 4) + f % 6 + 1, value);
+    after
 }
 
 // Three lines of which the last is that of a call. Word f of line k is set to value, and they are rolled back to mark.
@@ -56,7 +59,7 @@ fn ask_three(
     value: u64,
     mark: u32,
 ) -> io::Result<()> {
-    let x = made(two_pairs(3), Step::One(call));
+    let x = made(two_pairs(3), call);
     roll(stdout, label, damaged(x, k, f, value), 3, mark)
 }
 
@@ -86,40 +89,42 @@ fn ask_noted(
     value: u64,
     mark: u32,
 ) -> io::Result<()> {
-    let three = made(two_pairs(4), Step::One(Call::Insert(3, 30)));
-    let x = made(three, Step::One(Call::Remove(2)));
+    let three = made(two_pairs(4), Call::Insert(3, 30));
+    let x = made(three, Call::Remove(2));
     roll(stdout, label, damaged(x, k, f, value), 4, mark)
 }
 
 // One slot, in use, and a line that says that pair (0, 9) was removed.
 fn ask_full(stdout: Stdout, label: &[u8]) -> io::Result<()> {
-    let x = made(empty(1, 1), Step::One(Call::Insert(1, 10)));
+    let x = made(empty(1, 1), Call::Insert(1, 10));
     let other = damaged(x, 0, LINE_KEY, 9);
     roll(stdout, label, damaged(other, 0, LINE_KIND, REMOVE), 1, 0)
 }
 
 // The three lines that end in a removal, and a root that is a free slot.
 fn ask_unsound(stdout: Stdout, label: &[u8]) -> io::Result<()> {
-    let x = made(two_pairs(3), Step::One(Call::Remove(1)));
-    roll(stdout, label, made(x, Step::Set(Word::Root(2))), 3, 0)
+    let x = made(two_pairs(3), Call::Remove(1));
+    let mut other = x;
+    other.head[0] = 2;
+    roll(stdout, label, other, 3, 0)
 }
 
 // A replace of 2, with its place then set to the old one again: whether no other word of the tree is another.
 fn ask_only_place(stdout: Stdout, label: &[u8]) -> io::Result<()> {
     let before = two_pairs(3);
-    let moved = made(before, Step::One(Call::Replace(2, 21)));
-    let mut mended = made(moved, Step::Set(Word::Place(1, 20)));
-    let lines = before.lines;
-    mended.lines = lines;
-    say_same(stdout, label, same(before, mended))
+    let moved = made(before, Call::Replace(2, 21));
+    let mut mended = moved;
+    put(&mut mended.cells, 1, PLACE, 20);
+    mended.lines = before.lines;
+    say_same(stdout, label, same(&before, &mended))
 }
 
 // A replace that is rolled back: whether every word is as it was.
 fn ask_back(stdout: Stdout, label: &[u8]) -> io::Result<()> {
     let before = two_pairs(3);
-    let moved = made(before, Step::One(Call::Replace(2, 21)));
-    let back = made(moved, Step::One(Call::Rollback(2)));
-    say_same(stdout, label, same(before, back))
+    let moved = made(before, Call::Replace(2, 21));
+    let back = made(moved, Call::Rollback(2));
+    say_same(stdout, label, same(&before, &back))
 }
 
 // The same of the pair that a remove line notes: it has to be there at that point, and the pair comes back right behind it, at the front

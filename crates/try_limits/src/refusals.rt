@@ -1,7 +1,7 @@
 // Asks insert, replace, remove, rollback, sound, check, kth and position of an empty tree whose words are unfit, or that is damaged.
 // Prints what each of them answers, and whether the lent words are as they were before the first call.
-use crate::calls::{Call, Word};
-use crate::words::{Room, Step, Words, empty, made, part, same};
+use crate::calls::Call;
+use crate::words::{Room, Words, empty, part, same};
 use slots::NULL;
 use std::io;
 use std::io::Stdout;
@@ -10,10 +10,11 @@ use trials::print::say;
 // An empty index, with the journal's length, the root, the count and the first slot's size as given.
 fn prepared(length: u64, root: u32, count: u32, first: u32) -> Words {
     let mut x = empty(4096, 1024);
-    x = made(x, Step::Set(Word::Length(length)));
-    x = made(x, Step::Set(Word::Root(root)));
-    x = made(x, Step::Set(Word::Count(count)));
-    made(x, Step::Set(Word::FirstSize(first)))
+    x.lines[0] = length;
+    x.head[0] = root;
+    x.head[2] = count;
+    x.sizes[0] = first;
+    x
 }
 
 // The four calls that can write, the two checks, and the two calls by position.
@@ -55,7 +56,7 @@ fn ask(
     let before = x;
     say(stdout, label)?;
     ask_eight(stdout, &mut x)?;
-    if same(before, x) {
+    if same(&before, &x) {
         return say(stdout, b", all as it was\n");
     }
     say(stdout, b", written\n")

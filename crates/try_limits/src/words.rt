@@ -1,13 +1,12 @@
 // The words of an index as one value: a list of calls hands on one thing, and not five slices.
-use crate::calls::{Call, Word, make, say_answer, set};
+use crate::calls::{Call, make, say_answer};
 use crate::contents::say_entries;
-use crate::counts::{Count, counted};
-use crate::pairs::{Order, nth};
 use index::journal::is_full;
-use slots::answer::{Answer, Value, given, nothing};
+use slots::answer::Answer;
 use slots::{get, name, put_name};
 use std::io;
 use std::io::Stdout;
+use trials::part::first;
 use trials::print::{line, name as say_name, say};
 use trials::same::same_index;
 
@@ -31,143 +30,69 @@ pub struct Words {
     pub room: Room,
 }
 
-// What is done with the words that are lent.
-#[derive(Clone, Copy)]
-pub enum Step {
-    One(Call),
-    Enter(u32, Order), // so many pairs go in, each with its number as its place
-    Leave(u32, Order), // so many pairs go
-    Count(Count),
-    Set(Word),
-}
+impl Words {
+    pub fn lent_names(&self) -> &[u64] {
+        first(&self.names, self.room.names)
+    }
 
-// What is left, and what was answered. The number of accepted calls, or of what is counted, is the answer's value.
-#[derive(Clone, Copy)]
-pub struct Done {
-    pub words: Words,
-    pub told: Answer,
-}
+    pub fn lent_cells(&self) -> &[u32] {
+        first(&self.cells, self.room.cells)
+    }
 
-// A journal is emptied where it is full.
-fn reset(lines: &mut [u64]) {
-    if is_full(lines) {
-        put_name(lines, 0, 0, 0);
+    pub fn lent_head(&self) -> &[u32] {
+        first(&self.head, self.room.head)
+    }
+
+    pub fn lent_sizes(&self) -> &[u32] {
+        first(&self.sizes, self.room.sizes)
     }
 }
 
-// The call of many that is of pair k.
-fn of_pair(leave: bool, k: u32) -> Call {
-    if leave {
-        return Call::Remove(k);
-    }
-    Call::Insert(k, k)
+// The first words of a slice, to be written: as many as are asked for, or all of them where there are no more.
+// Form kept: each program has its own, since of a public one no clause that the check proves by itself says what is left of the slice.
+fn lend<T>(words: &mut [T], n: usize) -> &mut [T] {
+    let most = n.min(words.len());
+    &mut words[..most]
 }
 
-// 1 if a call was accepted, 0 if not.
-fn accepted(told: Answer) -> u32 {
-    if told.number == 0 {
-        return 1;
-    }
-    0
-}
-
-// Inserts or removes the first n pairs of an order: how many were accepted.
-fn many(
-    leave: bool,
-    order: Order,
-    n: u32,
-    names: &mut [u64],
-    cells: &mut [u32],
-    head: &mut [u32],
-    sizes: &mut [u32],
-    lines: &mut [u64],
-) -> u32 {
-    let mut count: u32 = 0;
-    let mut i: u32 = 0;
-    while i < n {
-        reset(lines);
-        let call = of_pair(leave, nth(order, i));
-        let told = make(call, names, cells, head, sizes, lines);
-        count = std::num::wrapping_add_u32(count, accepted(told));
-        i += 1;
-    }
-    count
-}
-
-// Makes a step on slices.
-fn make_step(
-    step: Step,
-    names: &mut [u64],
-    cells: &mut [u32],
-    head: &mut [u32],
-    sizes: &mut [u32],
-    lines: &mut [u64],
-) -> Answer {
-    match step {
-        Step::One(call) => make(call, names, cells, head, sizes, lines),
-        Step::Enter(n, order) => given(many(false, order, n, names, cells, head, sizes, lines)),
-        Step::Leave(n, order) => given(many(true, order, n, names, cells, head, sizes, lines)),
-        Step::Count(count) => given(counted(count, names, cells, head, sizes)),
-        Step::Set(word) => {
-            set(word, cells, head, sizes, lines);
-            nothing()
-        }
-    }
-}
-
-// The first words, lent to be written; all of them where there are no more.
-fn lend_wide(words: &mut [u64], n: usize) -> &mut [u64] {
-    if n <= words.len() {
-        return &mut words[0..n];
-    }
-    words
-}
-
-fn lend(words: &mut [u32], n: usize) -> &mut [u32] {
-    if n <= words.len() {
-        return &mut words[0..n];
-    }
-    words
-}
-
-// Makes a step on the words of an index.
-pub fn after(x: Words, step: Step) -> Done {
-    let mut names = x.names;
-    let mut cells = x.cells;
-    let mut head = x.head;
-    let mut sizes = x.sizes;
-    let mut lines = x.lines;
+// Makes a call on the words that are lent.
+fn told(x: &mut Words, call: Call) -> Answer {
     let room = x.room;
-    let told = make_step(
-        step,
-        lend_wide(&mut names, room.names),
-        lend(&mut cells, room.cells),
-        lend(&mut head, room.head),
-        lend(&mut sizes, room.sizes),
-        lend_wide(&mut lines, room.lines),
-    );
-    let words = Words {
-        names,
-        cells,
-        head,
-        sizes,
-        lines,
-        room,
-    };
-    Done { words, told }
+    make(
+        call,
+        lend(&mut x.names, room.names),
+        lend(&mut x.cells, room.cells),
+        lend(&mut x.head, room.head),
+        lend(&mut x.sizes, room.sizes),
+        lend(&mut x.lines, room.lines),
+    )
 }
 
-// The words after a step of which nothing is printed.
-pub fn made(x: Words, step: Step) -> Words {
-    let done = after(x, step);
-    done.words
+// Makes n calls, each with a journal that is emptied where it is full: how many were accepted.
+pub fn many<F: Fn(u32) -> Call>(x: &mut Words, n: u32, nth: F) -> u32
+    requires { F.IsAlwaysCallable nth }
+{
+    let mut accepted: u32 = 0;
+    for i in 0..n {
+        if is_full(first(&x.lines, x.room.lines)) {
+            put_name(&mut x.lines, 0, 0, 0);
+        }
+        accepted = accepted.wrapping_add(u32::from(told(x, nth(i)).number == 0));
+    }
+    accepted
+}
+
+// The words after a call of which nothing is printed.
+pub fn made(x: Words, call: Call) -> Words {
+    let mut after = x;
+    let _ = told(&mut after, call);
+    after
 }
 
 // The words become those after a call, whose answer is printed behind a label.
 pub fn part(stdout: Stdout, x: &mut Words, label: &[u8], call: Call) -> io::Result<()> {
-    let done = after(*x, Step::One(call));
-    *x = done.words;
-    say_answer(stdout, label, call, done.told)
+    let answer = told(x, call);
+    say_answer(stdout, label, call, answer)
 }
 
 // The same, in a line of its own.
@@ -194,23 +119,14 @@ pub fn empty(slots: u32, lines: u32) -> Words {
         lines: [0; 6152],
         room,
     };
-    made(zeros, Step::One(Call::Fresh))
+    made(zeros, Call::Fresh)
 }
 
 // Whether two have the same words.
-pub fn same(x: Words, y: Words) -> bool {
-    let names = x.names;
-    let cells = x.cells;
-    let head = x.head;
-    let sizes = x.sizes;
-    let lines = x.lines;
-    let names2 = y.names;
-    let cells2 = y.cells;
-    let head2 = y.head;
-    let sizes2 = y.sizes;
-    let lines2 = y.lines;
+pub fn same(x: &Words, y: &Words) -> bool {
     same_index(
-        &names, &cells, &head, &sizes, &lines, &names2, &cells2, &head2, &sizes2, &lines2,
+        &x.names, &x.cells, &x.head, &x.sizes, &x.lines, &y.names, &y.cells, &y.head, &y.sizes,
+        &y.lines,
     )
 }
 
@@ -224,34 +140,23 @@ pub fn say_length(stdout: Stdout, x: &Words) -> io::Result<()> {
     say_name(stdout, b", lines ", name(&x.lines, 0, 0))
 }
 
-// The value of an answer, or 0.
-fn value_of(told: Answer) -> u32 {
-    let value = told.value;
-    match value {
-        Value::Some(given) => given,
-        Value::None => 0,
-    }
-}
-
 // Whether the tree is sound, and its count, since the answers alone do not say what is left.
 pub fn tree(stdout: Stdout, x: &Words) -> io::Result<()> {
     let count = get(&x.head, 0, 2);
-    let done = after(*x, Step::One(Call::Sound));
-    if value_of(done.told) == 1 {
+    let mut words = *x;
+    let sound = told(&mut words, Call::Sound);
+    if sound.value == Some(1) {
         return line(stdout, b"the tree", b": sound, count ", count);
     }
     line(stdout, b"the tree", b": not sound, count ", count)
 }
 
-// The words become those after many calls; how many of these were accepted.
-pub fn many_calls(stdout: Stdout, x: &mut Words, label: &[u8], step: Step) -> io::Result<()> {
-    let done = after(*x, step);
-    *x = done.words;
-    line(stdout, label, b": accepted ", value_of(done.told))
+// How many of many calls were accepted.
+pub fn say_accepted(stdout: Stdout, label: &[u8], accepted: u32) -> io::Result<()> {
+    line(stdout, label, b": accepted ", accepted)
 }
 
 // How many there are of what is counted.
-pub fn count(stdout: Stdout, x: &Words, label: &[u8], count: Count) -> io::Result<()> {
-    let done = after(*x, Step::Count(count));
-    line(stdout, label, b": ", value_of(done.told))
+pub fn say_count(stdout: Stdout, label: &[u8], count: u32) -> io::Result<()> {
+    line(stdout, label, b": ", count)
 }

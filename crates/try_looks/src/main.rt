@@ -4,10 +4,11 @@
 
 use index::find::find;
 use index::fresh::fresh;
-use index::insert::{Inserted, insert};
-use slots::{MOST_CELLS, MOST_NAMES, MOST_SLOTS, put_wide};
+use index::insert::insert;
+use slots::{MOST_CELLS, MOST_NAMES, MOST_SLOTS, put_word};
 use std::io;
 use std::io::Stdout;
+use tree::find::counted_by;
 use trials::print::{number, say};
 
 // Pairs come in fours of one hash, so that a search also takes the detours at a null child.
@@ -24,61 +25,29 @@ fn key_of(i: u32) -> u64 {
     gap_of(i) | 1
 }
 
-// 1 for yes, so that it can be counted.
-fn one(yes: bool) -> u32 {
-    if yes { 1 } else { 0 }
-}
-
-fn larger(a: u32, b: u32) -> u32 {
-    if a < b { b } else { a }
-}
-
-// m times m, for m up to 65,536.
-fn square(m: u32) -> u64 {
-    let mut sum: u64 = 0;
-    let mut i: u32 = 0;
-    while i < m {
-        sum = std::num::wrapping_add_u64(sum, m as u64);
-        i += 1;
-    }
-    sum
-}
-
-// The most looks that the limit allows for n pairs: how many powers of two, from 2 on, are no more than the square of one more.
+// The most looks that the limit allows for n pairs: 2 to the power of them is at most the square of one more.
 fn limit(n: u32) -> u32 {
-    let most = square(std::num::wrapping_add_u32(n, 1));
-    let mut power: u64 = 2;
-    let mut looks: u32 = 0;
-    let mut i: u32 = 0;
-    while i < 40 {
-        looks = std::num::wrapping_add_u32(looks, one(power <= most));
-        power = std::num::wrapping_add_u64(power, power);
-        i += 1;
-    }
-    looks
+    let more = n as u64 + 1;
+    more.saturating_mul(more).checked_ilog2().unwrap_or(0)
 }
 
 fn looks(names: &[u64], cells: &[u32], head: &[u32], hash: u64, key: u64) -> u32 {
-    let found = find(names, cells, head, hash, key);
-    let counted = found.counted();
+    let counted = counted_by(find(names, cells, head, hash, key));
     counted.looks
 }
 
 // The most looks for any of the first n pairs, the gap below it, the gap above its hash, and what is above them all.
 fn deepest(names: &[u64], cells: &[u32], head: &[u32], n: u32) -> u32 {
     let mut most = looks(names, cells, head, 4294967296, 0);
-    let mut i: u32 = 0;
-    while i < n {
-        let hash = hash_of(i);
-        most = larger(most, looks(names, cells, head, hash, key_of(i)));
-        most = larger(most, looks(names, cells, head, hash, gap_of(i)));
-        most = larger(most, looks(names, cells, head, hash, 8));
-        i += 1;
+    for i in 0..n {
+        for key in [key_of(i), gap_of(i), 8] {
+            most = most.max(looks(names, cells, head, hash_of(i), key));
+        }
     }
     most
 }
 
-// Inserts pair i with an empty journal: 1 if it was accepted.
+// Inserts pair i with an empty journal, and answers whether it was accepted.
 fn take(
     names: &mut [u64],
     cells: &mut [u32],
@@ -86,20 +55,35 @@ fn take(
     sizes: &mut [u32],
     lines: &mut [u64],
     i: u32,
-) -> u32 {
-    put_wide(lines, 0, 0);
-    match insert(names, cells, head, sizes, lines, hash_of(i), key_of(i), i) {
-        Inserted::At(_) => 1,
-        _ => 0,
-    }
+) -> bool {
+    put_word(lines, 0, 0);
+    insert(names, cells, head, sizes, lines, hash_of(i), key_of(i), i).is_ok()
 }
 
-// The pair that comes n-th in an order of 300: rising, falling or drawn.
-fn nth(order: u32, n: u32) -> u32 {
-    match order {
-        0 => n,
-        1 => 299 - n % 300,
-        _ => (n % 300 * 77 + 31) % 300,
+// An order in which 300 pairs come.
+#[derive(Clone, Copy)]
+enum Order {
+    Rising,
+    Falling,
+    Drawn,
+}
+
+impl Order {
+    // The pair that comes n-th.
+    fn nth(self, n: u32) -> u32 {
+        match self {
+            Order::Rising => n,
+            Order::Falling => 299 - n % 300,
+            Order::Drawn => (n % 300 * 77 + 31) % 300,
+        }
+    }
+
+    fn label(self) -> &'static [u8] {
+        match self {
+            Order::Rising => b"rising",
+            Order::Falling => b"falling",
+            Order::Drawn => b"drawn",
+        }
     }
 }
 
@@ -111,25 +95,23 @@ fn grow(
     head: &mut [u32],
     sizes: &mut [u32],
     lines: &mut [u64],
-    order: u32,
-    label: &[u8],
+    order: Order,
 ) -> io::Result<()> {
-    fresh(names, cells, head, sizes, lines);
+    let _made = fresh(names, cells, head, sizes, lines);
     let mut pairs: u32 = 0;
     let mut most: u32 = 0;
     let mut past: u32 = 0;
-    let mut n: u32 = 0;
-    while n < 300 {
-        pairs = std::num::wrapping_add_u32(
-            pairs,
-            take(names, cells, head, sizes, lines, nth(order, n)),
-        );
-        n += 1;
+    for n in 0..300 {
+        if take(names, cells, head, sizes, lines, order.nth(n)) {
+            pairs = pairs.saturating_add(1);
+        }
         let seen = deepest(names, cells, head, 300);
-        most = larger(most, seen);
-        past = std::num::wrapping_add_u32(past, one(limit(n) < seen));
+        most = most.max(seen);
+        if limit(n + 1) < seen {
+            past = past.saturating_add(1);
+        }
     }
-    say(stdout, label)?;
+    say(stdout, order.label())?;
     number(stdout, b": pairs ", pairs)?;
     number(stdout, b" deepest ", most)?;
     number(stdout, b" past the limit ", past)?;
@@ -137,12 +119,7 @@ fn grow(
 }
 
 // The sizes of the handbook's table.
-fn is_listed(n: u32) -> bool {
-    match n {
-        1 | 15 | 16 | 100 | 255 | 256 | 512 | 900 | 1024 | 3000 | 4096 => true,
-        _ => false,
-    }
-}
+const LISTED: [u32; 11] = [1, 15, 16, 100, 255, 256, 512, 900, 1024, 3000, 4096];
 
 fn row(stdout: Stdout, names: &[u64], cells: &[u32], head: &[u32], n: u32) -> io::Result<()> {
     number(stdout, b"pairs ", n)?;
@@ -161,12 +138,10 @@ fn table(
     sizes: &mut [u32],
     lines: &mut [u64],
 ) -> io::Result<()> {
-    fresh(names, cells, head, sizes, lines);
-    let mut n: u32 = 0;
-    while n < 4096 {
-        take(names, cells, head, sizes, lines, n);
-        n += 1;
-        if is_listed(n) {
+    let _made = fresh(names, cells, head, sizes, lines);
+    for n in 1..4097 {
+        take(names, cells, head, sizes, lines, n - 1);
+        if LISTED.contains(&n) {
             row(stdout, names, cells, head, n)?;
         }
     }
@@ -180,15 +155,11 @@ fn main(rt: HostRuntime) -> io::Result<()> {
     let mut head = [0u32; 3];
     let mut sizes = [0u32; MOST_SLOTS];
     let mut lines = [0u64; 7];
-    grow(
-        stdout, &mut names, &mut cells, &mut head, &mut sizes, &mut lines, 0, b"rising",
-    )?;
-    grow(
-        stdout, &mut names, &mut cells, &mut head, &mut sizes, &mut lines, 1, b"falling",
-    )?;
-    grow(
-        stdout, &mut names, &mut cells, &mut head, &mut sizes, &mut lines, 2, b"drawn",
-    )?;
+    for order in [Order::Rising, Order::Falling, Order::Drawn] {
+        grow(
+            stdout, &mut names, &mut cells, &mut head, &mut sizes, &mut lines, order,
+        )?;
+    }
     table(
         stdout, &mut names, &mut cells, &mut head, &mut sizes, &mut lines,
     )

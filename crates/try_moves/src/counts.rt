@@ -1,43 +1,56 @@
 // The counts: a line to each kind of trial.
-use slots::{put_word, word};
 
-// A line has so many counts.
-pub const COLUMNS: usize = 4;
-
-pub const TRIED: u32 = 0;
-
-pub const REFUSED: u32 = 1;
-
-// The entries moved.
-pub const MOVED: u32 = 2;
-
-pub const DIFFERENCES: u32 = 3;
-
-// The line of all trials, behind those of the kinds.
-pub const ALL: u32 = 12;
-
-// 1 for yes, 0 for no.
-pub fn one_if(yes: bool) -> u32 {
-    if yes { 1 } else { 0 }
+// The kinds of trials, and all of them together.
+#[derive(Clone, Copy)]
+pub enum Kind {
+    List, // bins that may be moved: from a list, from a tree, and those with a half of one hash
+    ListOfOneHash,
+    Tree,
+    TreeOfOneHash,
+    Slices, // refusals: slices that do not fit, no such table, a word that is damaged
+    Table,
+    Word,
+    Last, // a bin that cannot move: no next table, no such bin, Moved already, its parent not Moved
+    Bin,
+    Gone,
+    Parent,
+    Finish, // all bins
+    All,
 }
 
-// So many more in a column of a line.
-fn add(counts: &mut [u32; 52], line: u32, column: u32, more: u32) {
-    let k = line as usize * COLUMNS + column as usize;
-    let count = std::num::wrapping_add_u32(word(counts, k, 0), more);
-    put_word(counts, k, count);
+// What is counted of a kind.
+#[derive(Clone, Copy)]
+pub struct Count {
+    pub tried: u32,
+    pub refused: u32,
+    pub moved: u32, // the entries
+    pub differences: u32,
 }
 
-// So many more in a column of a line, and of the line of all.
-fn count(counts: &mut [u32; 52], line: u32, column: u32, more: u32) {
-    add(counts, line, column, more);
-    add(counts, ALL, column, more);
+pub type Counts = [Count; 13];
+
+// Nothing is counted.
+pub fn none() -> Counts {
+    [Count {
+        tried: 0,
+        refused: 0,
+        moved: 0,
+        differences: 0,
+    }; 13]
+}
+
+// A trial in the line of a kind.
+fn add(counts: &mut Counts, kind: Kind, refused: bool, moved: u32, right: bool) {
+    if let Some(count) = counts.get_mut(kind as usize) {
+        count.tried = std::num::wrapping_add_u32(count.tried, 1);
+        count.refused = std::num::wrapping_add_u32(count.refused, u32::from(refused));
+        count.moved = std::num::wrapping_add_u32(count.moved, moved);
+        count.differences = std::num::wrapping_add_u32(count.differences, u32::from(!right));
+    }
 }
 
 // A trial that told so many entries, or was refused, and whether all was right.
-pub fn tried(counts: &mut [u32; 52], line: u32, refused: bool, moved: u32, right: bool) {
-    count(counts, line, TRIED, 1);
-    count(counts, line, REFUSED, one_if(refused));
-    count(counts, line, MOVED, moved);
-    count(counts, line, DIFFERENCES, one_if(!right));
+pub fn tried(counts: &mut Counts, kind: Kind, refused: bool, moved: u32, right: bool) {
+    add(counts, kind, refused, moved, right);
+    add(counts, Kind::All, refused, moved, right);
 }

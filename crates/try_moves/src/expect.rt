@@ -39,10 +39,8 @@ fn put_plain(cells: &mut [u32; CELLS], x: u32, next: u32) {
 }
 
 fn put_list(cells: &mut [u32; CELLS], row: &[u32; ROW], many: u32) {
-    let mut p: u32 = 0;
-    while p < many {
+    for p in 0..many {
         put_plain(cells, at(row, p), at(row, p + 1));
-        p += 1;
     }
 }
 
@@ -57,13 +55,11 @@ fn insert_row(
     many: u32,
     names: &[u64; NAMES],
 ) {
-    let mut p: u32 = 0;
-    while p < many {
+    for p in 0..many {
         let x = at(row, p);
         let hash = name(names, x, HASH);
         let key = name(names, x, KEY);
-        insert(names2, cells2, head2, sizes, lines, hash, key, 0);
-        p += 1;
+        let _ = insert(names2, cells2, head2, sizes, lines, hash, key, 0);
     }
 }
 
@@ -73,7 +69,7 @@ fn grow(row: &[u32; ROW], many: u32, names: &[u64; NAMES], cells2: &mut [u32; CE
     let mut head2 = [0u32; 3];
     let mut sizes = [0u32; 16];
     let mut lines = [0u64; 97];
-    fresh(&mut names2, cells2, &mut head2, &mut sizes, &mut lines);
+    let _ = fresh(&mut names2, cells2, &mut head2, &mut sizes, &mut lines);
     insert_row(
         &mut names2,
         cells2,
@@ -105,12 +101,10 @@ fn put_knot(
 }
 
 fn put_knots(cells: &mut [u32; CELLS], row: &[u32; ROW], many: u32, cells2: &[u32; CELLS]) {
-    let mut p: u32 = 0;
     let mut before = NULL;
-    while p < many {
+    for p in 0..many {
         put_knot(cells, row, p, before, cells2);
         before = at(row, p);
-        p += 1;
     }
 }
 

@@ -1,29 +1,10 @@
 // All bins moved, held against the moves made one after another.
-use crate::counts::tried;
+use crate::counts::{Counts, Kind, tried};
 use crate::make::{Trial, make};
-use crate::trial::{ask, many_of, moved_of, number_of};
-use crate::words::{BINS, CELLS, HEADS, NAMES, lengths, same_set};
-use mover::finishing::{FinishTold, finish};
-
-// All bins of a set that is lent so many words of headers.
-fn finish_some(
-    bins: &mut [u32],
-    heads: &mut [u32],
-    names: &[u64],
-    cells: &mut [u32],
-    words: usize,
-) -> FinishTold {
-    let tables = lengths();
-    if words <= heads.len() {
-        return finish(&tables, bins, &mut heads[..words], names, cells);
-    }
-    FinishTold {
-        number: 1,
-        table: 0,
-        bin: 0,
-        gone: 0,
-    }
-}
+use crate::trial::{ask, many_of};
+use crate::words::{BINS, CELLS, HEADS, NAMES, lend, lengths, same_set};
+use mover::finishing::{Stop, finish};
+use mover::moving::MoveRefusal;
 
 // All bins of a set that is lent so many headers.
 fn finish_all(
@@ -32,19 +13,14 @@ fn finish_all(
     names: &[u64; NAMES],
     cells: &mut [u32; CELLS],
     headers: u32,
-) -> FinishTold {
-    let words = 3 * headers as usize;
-    finish_some(bins, heads, names, cells, words)
+) -> Result<u32, Stop> {
+    let tables = lengths();
+    let some = lend(heads, 3 * headers as usize);
+    finish(&tables, bins, some, names, cells)
 }
 
-// The table and the bin of a move, so many having been made: two of table 0, then four of table 1.
-fn table_at(k: u32) -> u32 {
-    if k < 2 { 0 } else { 1 }
-}
-
-fn bin_at(k: u32) -> u32 {
-    if k < 2 { k } else { k - 2 }
-}
+// The table and the bin of each move: two of table 0, then four of table 1.
+const MOVES: [(u32, u32); 6] = [(0, 0), (0, 1), (1, 0), (1, 1), (1, 2), (1, 3)];
 
 // The six moves one after another, up to a refusal that is not 16.
 fn move_all(
@@ -53,37 +29,27 @@ fn move_all(
     names: &[u64; NAMES],
     cells: &mut [u32; CELLS],
     headers: u32,
-) -> FinishTold {
-    let mut gone: u32 = 0;
-    let mut k: u32 = 0;
-    while k < 6 {
-        let reply = ask(bins, heads, names, cells, headers, table_at(k), bin_at(k));
-        let number = number_of(reply);
-        if number != 0 && number != 16 {
-            return FinishTold {
-                number,
-                table: table_at(k) as usize,
-                bin: bin_at(k),
-                gone,
-            };
+) -> Result<u32, Stop> {
+    let mut gone = 0;
+    for &(table, bin) in MOVES.iter() {
+        match ask(bins, heads, names, cells, headers, table, bin) {
+            Ok(entries) => gone = std::num::wrapping_add_u32(gone, entries),
+            Err(MoveRefusal::CannotMove) => {},
+            Err(refusal) => {
+                return Err(Stop {
+                    refusal,
+                    table: table as usize,
+                    bin,
+                    gone,
+                });
+            },
         }
-        gone = std::num::wrapping_add_u32(gone, moved_of(reply));
-        k += 1;
     }
-    FinishTold {
-        number: 0,
-        table: 0,
-        bin: 0,
-        gone,
-    }
-}
-
-fn same_told(a: FinishTold, b: FinishTold) -> bool {
-    a.number == b.number && a.table == b.table && a.bin == b.bin && a.gone == b.gone
+    Ok(gone)
 }
 
 // A set, and its bins moved in both ways.
-fn try_one(counts: &mut [u32; 52], t: Trial) {
+fn try_one(counts: &mut Counts, t: Trial) {
     let mut bins = [0u32; BINS];
     let mut heads = [0u32; HEADS];
     let mut names = [0u64; NAMES];
@@ -95,14 +61,22 @@ fn try_one(counts: &mut [u32; 52], t: Trial) {
     let told = finish_all(&mut bins, &mut heads, &names, &mut cells, t.headers);
     let made = move_all(&mut bins2, &mut heads2, &names, &mut cells2, t.headers);
     let same = same_set(&bins, &heads, &cells, &bins2, &heads2, &cells2);
-    let alike = same_told(told, made);
-    tried(counts, 11, told.number != 0, told.gone, same && alike);
+    let gone = match told {
+        Ok(gone) => gone,
+        Err(stop) => stop.gone,
+    };
+    tried(
+        counts,
+        Kind::Finish,
+        told.is_err(),
+        gone,
+        same && told == made,
+    );
 }
 
 // Every size of the halves with one to four headers.
-fn try_sizes(counts: &mut [u32; 52], table: u32, tree: bool) {
-    let mut k: u32 = 0;
-    while k < 100 {
+fn try_sizes(counts: &mut Counts, table: u32, tree: bool) {
+    for k in 0..100 {
         let low = many_of(k / 4 / 5);
         let high = many_of(k / 4 % 5);
         let headers = k % 4 + 1;
@@ -117,11 +91,10 @@ fn try_sizes(counts: &mut [u32; 52], table: u32, tree: bool) {
         if low + high <= 14 && (!tree || (1 <= low + high && 2 <= headers)) {
             try_one(counts, t);
         }
-        k += 1;
     }
 }
 
-pub fn try_finishes(counts: &mut [u32; 52]) {
+pub fn try_finishes(counts: &mut Counts) {
     try_sizes(counts, 0, false);
     try_sizes(counts, 1, false);
     try_sizes(counts, 0, true);

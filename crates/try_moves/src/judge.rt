@@ -1,17 +1,10 @@
 // Acceptance, and lookups from table 0.
-use crate::words::{BINS, CELLS, HEADS, NAMES, front, lengths};
-use sets::accept::{Acceptance, accept};
-use sets::lookup::{Looked, lookup};
-use slots::{HASH, KEY, NULL, name};
-
-// Whether acceptance says yes.
-fn is_yes(judged: Acceptance) -> bool {
-    match judged {
-        Acceptance::Yes => true,
-        Acceptance::No => false,
-        Acceptance::Unfit => false,
-    }
-}
+use crate::words::{BINS, CELLS, HEADS, NAMES, lengths};
+use sets::accept::accept;
+use sets::lookup::lookup;
+use slots::answer::{Answer, Answers};
+use slots::{HASH, KEY, name};
+use trials::part::first;
 
 // Whether the set is accepted.
 pub fn is_accepted(
@@ -22,22 +15,11 @@ pub fn is_accepted(
     headers: u32,
 ) -> bool {
     let tables = lengths();
-    let some = front(heads, headers);
-    is_yes(accept(&tables, bins, some, names, cells))
+    let some = first(heads, 3 * headers as usize);
+    accept(&tables, bins, some, names, cells).unwrap_or(false)
 }
 
-// The slot that was found, null where there is none.
-fn slot_of(looked: Looked) -> u32 {
-    match looked {
-        Looked::At(slot, looks) => slot,
-        Looked::Nothing(looks) => NULL,
-        Looked::Unfit => 77,
-        Looked::Unknown => 77,
-        Looked::Lost(looks) => 77,
-    }
-}
-
-// The slot that a lookup from table 0 answers.
+// What a lookup from table 0 answers.
 fn found(
     bins: &[u32; BINS],
     heads: &[u32; HEADS],
@@ -46,10 +28,13 @@ fn found(
     headers: u32,
     hash: u64,
     key: u64,
-) -> u32 {
+) -> Answer {
     let tables = lengths();
-    let some = front(heads, headers);
-    slot_of(lookup(&tables, bins, some, names, cells, 0, hash, key))
+    let some = first(heads, 3 * headers as usize);
+    match lookup(&tables, bins, some, names, cells, 0, hash, key) {
+        Ok(found) => found.counted().answer,
+        Err(no_table) => no_table.answer(),
+    }
 }
 
 // Lookups from table 0 give each of the first so many slots, and nothing for a pair that is in none.
@@ -61,8 +46,7 @@ pub fn found_all(
     headers: u32,
     many: u32,
 ) -> bool {
-    let mut x: u32 = 0;
-    while x < many {
+    for x in 0..many {
         let hash = name(names, x, HASH);
         let there = found(
             bins,
@@ -74,10 +58,9 @@ pub fn found_all(
             name(names, x, KEY),
         );
         let none = found(bins, heads, names, cells, headers, hash, 99);
-        if there != x || none != NULL {
+        if there.value != Some(x) || none.number != 0 || none.value.is_some() {
             return false;
         }
-        x += 1;
     }
     true
 }

@@ -16,7 +16,7 @@ use std::io;
 
 fn main(rt: HostRuntime) -> io::Result<()> {
     let stdout = rt.stdout();
-    let mut counts = [0u32; 52];
+    let mut counts = counts::none();
     trial::try_moves(&mut counts);
     refuse::try_refusals(&mut counts);
     finishes::try_finishes(&mut counts);

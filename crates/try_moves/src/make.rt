@@ -102,13 +102,11 @@ fn put_slot(names: &mut [u64; NAMES], cells: &mut [u32; CELLS], x: u32, hash: u6
 // The entries as a list.
 fn put_list(names: &mut [u64; NAMES], cells: &mut [u32; CELLS], t: Trial) {
     let n = entries_of(t);
-    let mut p: u32 = 0;
-    while p < n {
+    for p in 0..n {
         let x = slot_at(p, n);
         put_slot(names, cells, x, hash_of(t, x), key_of(x));
         put(cells, x, PLACE, std::num::wrapping_add_u32(100, x));
         put(cells, x, NEXT, slot_at(p + 1, n));
-        p += 1;
     }
 }
 
@@ -122,10 +120,9 @@ fn put_tree(
     t: Trial,
 ) {
     let n = entries_of(t);
-    let mut x: u32 = 0;
-    while x < n {
+    for x in 0..n {
         let place = std::num::wrapping_add_u32(100, x);
-        insert(
+        let _ = insert(
             names,
             cells,
             head,
@@ -135,7 +132,6 @@ fn put_tree(
             key_of(x),
             place,
         );
-        x += 1;
     }
 }
 
@@ -202,7 +198,7 @@ pub fn make(
     let mut head = [0u32; 3];
     let mut sizes = [0u32; 16];
     let mut lines = [0u64; 97];
-    fresh(names, cells, &mut head, &mut sizes, &mut lines);
+    let _ = fresh(names, cells, &mut head, &mut sizes, &mut lines);
     if t.tree {
         put_tree(names, cells, &mut head, &mut sizes, &mut lines, t);
     } else {

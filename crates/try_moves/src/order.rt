@@ -15,10 +15,7 @@ pub fn first_of(w: u32, heads: &[u32; HEADS]) -> u32 {
 
 // Puts a slot into a row where its hash has this remainder, and answers how many the row then has.
 fn choose(row: &mut [u32; ROW], many: u32, x: u32, hash: u64, length: u64, j: u64) -> u32 {
-    if length == 0 {
-        return many;
-    }
-    if hash % length != j {
+    if length == 0 || hash % length != j {
         return many;
     }
     put_word(row, many as usize, x);
@@ -36,15 +33,13 @@ pub fn half(
 ) -> u32 {
     let mut x = first;
     let mut many: u32 = 0;
-    let mut left: u32 = 16;
-    while 0 < left {
+    for _ in 0..ROW {
         if x == NULL {
-            return many;
+            break;
         }
         let hash = name(names, x, HASH);
         many = choose(row, many, x, hash, length as u64, j as u64);
         x = get(cells, x, NEXT);
-        left -= 1;
     }
     many
 }

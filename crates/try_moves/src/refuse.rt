@@ -1,10 +1,12 @@
 // What is refused: nothing may be written.
-use crate::counts::tried;
+use crate::counts::{Counts, Kind, tried};
 use crate::judge::is_accepted;
 use crate::make::{Trial, make};
-use crate::trial::{ask, ask_some, number_of};
+use crate::trial::{ask, ask_some};
 use crate::words::{BINS, CELLS, HEADS, NAMES, TABLES, same_set};
+use mover::moving::MoveRefusal;
 use slots::put_word;
+use trials::part::first;
 
 // Nine entries of a bin of table 1, seven of them of the low half, and four headers.
 fn sample(tree: bool) -> Trial {
@@ -25,22 +27,23 @@ fn refused_thrice(
     names: &[u64; NAMES],
     cells: &mut [u32; CELLS],
 ) -> bool {
-    let may = number_of(ask(bins, heads, names, cells, 4, 1, 3));
-    let gone = number_of(ask(bins, heads, names, cells, 4, 0, 1));
-    let none = number_of(ask(bins, heads, names, cells, 4, 3, 0));
-    may == 2 && gone == 2 && none == 10
+    let may = ask(bins, heads, names, cells, 4, 1, 3);
+    let gone = ask(bins, heads, names, cells, 4, 0, 1);
+    let none = ask(bins, heads, names, cells, 4, 3, 0);
+    may == Err(MoveRefusal::Damaged)
+        && gone == Err(MoveRefusal::Damaged)
+        && none == Err(MoveRefusal::Unknown)
 }
 
 // A set is damaged where acceptance says no.
 fn ask_damaged(
-    counts: &mut [u32; 52],
+    counts: &mut Counts,
     bins: &mut [u32; BINS],
     heads: &mut [u32; HEADS],
     names: &[u64; NAMES],
     cells: &mut [u32; CELLS],
 ) {
-    let good = is_accepted(bins, heads, names, cells, 4);
-    if good {
+    if is_accepted(bins, heads, names, cells, 4) {
         return;
     }
     let bins0 = *bins;
@@ -48,7 +51,7 @@ fn ask_damaged(
     let cells0 = *cells;
     let right = refused_thrice(bins, heads, names, cells);
     let same = same_set(bins, heads, cells, &bins0, &heads0, &cells0);
-    tried(counts, 6, true, 0, same && right);
+    tried(counts, Kind::Word, true, 0, same && right);
 }
 
 // Word k of the bins, the headers and the cells, in that order, is another.
@@ -72,7 +75,7 @@ fn damage(
 }
 
 // The sample with a word damaged.
-fn try_damaged(counts: &mut [u32; 52], tree: bool, k: usize, value: u32) {
+fn try_damaged(counts: &mut Counts, tree: bool, k: usize, value: u32) {
     let mut bins = [0u32; BINS];
     let mut heads = [0u32; HEADS];
     let mut names = [0u64; NAMES];
@@ -82,14 +85,12 @@ fn try_damaged(counts: &mut [u32; 52], tree: bool, k: usize, value: u32) {
     ask_damaged(counts, &mut bins, &mut heads, &names, &mut cells);
 }
 
-fn try_words(counts: &mut [u32; 52], tree: bool) {
-    let mut k: usize = 0;
-    while k < BINS + HEADS + CELLS {
+fn try_words(counts: &mut Counts, tree: bool) {
+    for k in 0..BINS + HEADS + CELLS {
         try_damaged(counts, tree, k, 0);
         try_damaged(counts, tree, k, 1);
         try_damaged(counts, tree, k, 3);
         try_damaged(counts, tree, k, 4098);
-        k += 1;
     }
 }
 
@@ -124,15 +125,7 @@ fn other_names(which: u32) -> usize {
     }
 }
 
-// The first so many words; all of them where there are no more.
-fn front_wides(words: &[u64], n: usize) -> &[u64] {
-    if n <= words.len() {
-        return &words[..n];
-    }
-    words
-}
-
-// The number of a move of a set whose slices do not fit; past the eight kinds of these they fit.
+// What a move answers of a set whose slices do not fit; past the eight kinds of these they fit.
 fn ask_kind(
     bins: &mut [u32; BINS],
     heads: &mut [u32; HEADS],
@@ -141,10 +134,10 @@ fn ask_kind(
     which: u32,
     table: u32,
     bin: u32,
-) -> u32 {
+) -> Result<u32, MoveRefusal> {
     let tables = other_tables(which);
-    let some = front_wides(names, other_names(which));
-    number_of(ask_some(
+    let some = first(names, other_names(which));
+    ask_some(
         &tables,
         bins,
         heads,
@@ -153,18 +146,18 @@ fn ask_kind(
         other_heads(which),
         table,
         bin,
-    ))
+    )
 }
 
-// A move of the sample that is to be refused with this number, in slices that do not fit or, past these kinds, that do.
+// A move of the sample that is to be refused so, in slices that do not fit or, past these kinds, that do.
 fn try_number(
-    counts: &mut [u32; 52],
-    line: u32,
+    counts: &mut Counts,
+    kind: Kind,
     tree: bool,
     which: u32,
     table: u32,
     bin: u32,
-    number: u32,
+    refusal: MoveRefusal,
 ) {
     let mut bins = [0u32; BINS];
     let mut heads = [0u32; HEADS];
@@ -176,34 +169,80 @@ fn try_number(
     let cells0 = cells;
     let told = ask_kind(&mut bins, &mut heads, &names, &mut cells, which, table, bin);
     let same = same_set(&bins, &heads, &cells, &bins0, &heads0, &cells0);
-    tried(counts, line, told != 0, 0, same && told == number);
+    tried(counts, kind, told.is_err(), 0, same && told == Err(refusal));
 }
 
 // The sixteens: no next table, no such bin, Moved already, and a parent that is not Moved.
-fn try_sixteen(counts: &mut [u32; 52], tree: bool) {
-    try_number(counts, 7, tree, FITS, 2, 0, 16);
-    try_number(counts, 7, tree, FITS, 2, 8, 16);
-    try_number(counts, 8, tree, FITS, 0, 2, 16);
-    try_number(counts, 8, tree, FITS, 1, 4, 16);
-    try_number(counts, 9, tree, FITS, 0, 1, 16);
-    try_number(counts, 10, tree, FITS, 1, 0, 16);
-    try_number(counts, 10, tree, FITS, 1, 2, 16);
+fn try_sixteen(counts: &mut Counts, tree: bool) {
+    try_number(
+        counts,
+        Kind::Last,
+        tree,
+        FITS,
+        2,
+        0,
+        MoveRefusal::CannotMove,
+    );
+    try_number(
+        counts,
+        Kind::Last,
+        tree,
+        FITS,
+        2,
+        8,
+        MoveRefusal::CannotMove,
+    );
+    try_number(counts, Kind::Bin, tree, FITS, 0, 2, MoveRefusal::CannotMove);
+    try_number(counts, Kind::Bin, tree, FITS, 1, 4, MoveRefusal::CannotMove);
+    try_number(
+        counts,
+        Kind::Gone,
+        tree,
+        FITS,
+        0,
+        1,
+        MoveRefusal::CannotMove,
+    );
+    try_number(
+        counts,
+        Kind::Parent,
+        tree,
+        FITS,
+        1,
+        0,
+        MoveRefusal::CannotMove,
+    );
+    try_number(
+        counts,
+        Kind::Parent,
+        tree,
+        FITS,
+        1,
+        2,
+        MoveRefusal::CannotMove,
+    );
 }
 
 // Slices that do not fit are 1, also where there is no such table.
-fn try_unfits(counts: &mut [u32; 52]) {
-    let mut which: u32 = 0;
-    while which < FITS {
-        try_number(counts, 4, false, which, 1, 3, 1);
-        try_number(counts, 4, false, which, 3, 3, 1);
-        which += 1;
+fn try_unfits(counts: &mut Counts) {
+    for which in 0..FITS {
+        try_number(counts, Kind::Slices, false, which, 1, 3, MoveRefusal::Unfit);
+        try_number(counts, Kind::Slices, false, which, 3, 3, MoveRefusal::Unfit);
     }
 }
 
-pub fn try_refusals(counts: &mut [u32; 52]) {
+pub fn try_refusals(counts: &mut Counts) {
     try_unfits(counts);
-    try_number(counts, 5, false, FITS, 3, 0, 10);
-    try_number(counts, 5, true, FITS, 4294967295, 0, 10);
+    try_number(counts, Kind::Table, false, FITS, 3, 0, MoveRefusal::Unknown);
+    try_number(
+        counts,
+        Kind::Table,
+        true,
+        FITS,
+        4294967295,
+        0,
+        MoveRefusal::Unknown,
+    );
     try_words(counts, false);
     try_words(counts, true);
     try_sixteen(counts, false);

@@ -1,42 +1,18 @@
 // The moves: halves of 0, 1, 6, 7 and all entries, from lists and from trees, with as many headers as will do and fewer.
 ghost use Rattle.std.specs.Prelude.{◌≤◌};
 
-use crate::counts::tried;
+use crate::counts::{Counts, Kind, tried};
 use crate::expect::{expect, suffice};
 use crate::judge::{found_all, is_accepted};
 use crate::make::{Trial, bin_of, entries_of, make, used_of};
-use crate::words::{BINS, CELLS, HEADS, NAMES, TABLES, lengths, same_set};
-use mover::moving::{MoveReply, move_bin};
+use crate::words::{BINS, CELLS, HEADS, NAMES, TABLES, lend, lengths, same_set};
+use mover::moving::{MoveRefusal, move_bin};
 
-// What came of a move: whether all but the words is right, the number, and the entries moved.
+// What came of a move: whether all but the words is right, and what was answered.
 #[derive(Clone, Copy)]
 struct Moving {
     whole: bool,
-    number: u32,
-    moved: u32,
-}
-
-// The number of what was answered, and the entries moved.
-pub fn number_of(reply: MoveReply) -> u32 {
-    match reply {
-        MoveReply::Moved(entries) => 0,
-        MoveReply::Unfit => 1,
-        MoveReply::Unknown => 10,
-        MoveReply::Damaged => 2,
-        MoveReply::CannotMove => 16,
-        MoveReply::Full => 5,
-    }
-}
-
-pub fn moved_of(reply: MoveReply) -> u32 {
-    match reply {
-        MoveReply::Moved(entries) => entries,
-        MoveReply::Unfit => 0,
-        MoveReply::Unknown => 0,
-        MoveReply::Damaged => 0,
-        MoveReply::CannotMove => 0,
-        MoveReply::Full => 0,
-    }
+    reply: Result<u32, MoveRefusal>,
 }
 
 // A move of a set that is lent so many words of headers.
@@ -49,11 +25,9 @@ pub fn ask_some(
     words: usize,
     table: u32,
     bin: u32,
-) -> MoveReply {
-    if words <= heads.len() {
-        return move_bin(tables, bins, &mut heads[..words], names, cells, table, bin);
-    }
-    MoveReply::Unfit
+) -> Result<u32, MoveRefusal> {
+    let some = lend(heads, words);
+    move_bin(tables, bins, some, names, cells, table, bin)
 }
 
 // A move of a set that is lent so many headers.
@@ -65,7 +39,7 @@ pub fn ask(
     headers: u32,
     table: u32,
     bin: u32,
-) -> MoveReply {
+) -> Result<u32, MoveRefusal> {
     let tables = lengths();
     let words = 3 * headers as usize;
     ask_some(&tables, bins, heads, names, cells, words, table, bin)
@@ -86,13 +60,11 @@ fn make_after(
 }
 
 // What is to be answered.
-fn answered(t: Trial, reply: MoveReply) -> bool {
-    let number = number_of(reply);
-    let moved = moved_of(reply);
+fn answered(t: Trial, reply: Result<u32, MoveRefusal>) -> bool {
     if suffice(t) {
-        return number == 0 && moved == entries_of(t);
+        return reply == Ok(entries_of(t));
     }
-    number == 5 && moved == 0
+    reply == Err(MoveRefusal::Full)
 }
 
 // A set that is accepted, in which lookups from table 0 find every entry.
@@ -123,13 +95,12 @@ fn move_made(
     let right = answered(t, reply);
     Moving {
         whole: before && after && right,
-        number: number_of(reply),
-        moved: moved_of(reply),
+        reply,
     }
 }
 
 // One move, and the set with what it is to leave.
-fn try_one(counts: &mut [u32; 52], line: u32, t: Trial) {
+fn try_one(counts: &mut Counts, kind: Kind, t: Trial) {
     let mut bins = [0u32; BINS];
     let mut heads = [0u32; HEADS];
     let mut names = [0u64; NAMES];
@@ -142,9 +113,9 @@ fn try_one(counts: &mut [u32; 52], line: u32, t: Trial) {
     let same = same_set(&bins, &heads, &cells, &bins2, &heads2, &cells2);
     tried(
         counts,
-        line,
-        made.number != 0,
-        made.moved,
+        kind,
+        made.reply.is_err(),
+        made.reply.unwrap_or(0),
         same && made.whole,
     );
 }
@@ -158,16 +129,15 @@ fn fewest(tree: bool) -> u32
 
 // Each number of headers up to four.
 fn try_headers(
-    counts: &mut [u32; 52],
-    line: u32,
+    counts: &mut Counts,
+    kind: Kind,
     table: u32,
     low: u32,
     high: u32,
     tree: bool,
     equal: bool,
 ) {
-    let mut headers = fewest(tree);
-    while headers <= 4 {
+    for headers in fewest(tree)..5 {
         let t = Trial {
             table,
             low,
@@ -176,8 +146,7 @@ fn try_headers(
             equal,
             headers,
         };
-        try_one(counts, line, t);
-        headers += 1;
+        try_one(counts, kind, t);
     }
 }
 
@@ -195,27 +164,25 @@ pub fn many_of(k: u32) -> u32
 }
 
 // Each size of the two halves that a set of fourteen entries can have; a tree has one entry at least.
-fn try_halves(counts: &mut [u32; 52], line: u32, table: u32, tree: bool, equal: bool) {
-    let mut k: u32 = 0;
-    while k < 25 {
+fn try_halves(counts: &mut Counts, kind: Kind, table: u32, tree: bool, equal: bool) {
+    for k in 0..25 {
         let low = many_of(k / 5);
         let high = many_of(k % 5);
         if low + high <= 14 {
             if !tree || 1 <= low + high {
-                try_headers(counts, line, table, low, high, tree, equal);
+                try_headers(counts, kind, table, low, high, tree, equal);
             }
         }
-        k += 1;
     }
 }
 
-pub fn try_moves(counts: &mut [u32; 52]) {
-    try_halves(counts, 0, 0, false, false);
-    try_halves(counts, 0, 1, false, false);
-    try_halves(counts, 1, 0, false, true);
-    try_halves(counts, 1, 1, false, true);
-    try_halves(counts, 2, 0, true, false);
-    try_halves(counts, 2, 1, true, false);
-    try_halves(counts, 3, 0, true, true);
-    try_halves(counts, 3, 1, true, true);
+pub fn try_moves(counts: &mut Counts) {
+    try_halves(counts, Kind::List, 0, false, false);
+    try_halves(counts, Kind::List, 1, false, false);
+    try_halves(counts, Kind::ListOfOneHash, 0, false, true);
+    try_halves(counts, Kind::ListOfOneHash, 1, false, true);
+    try_halves(counts, Kind::Tree, 0, true, false);
+    try_halves(counts, Kind::Tree, 1, true, false);
+    try_halves(counts, Kind::TreeOfOneHash, 0, true, true);
+    try_halves(counts, Kind::TreeOfOneHash, 1, true, true);
 }

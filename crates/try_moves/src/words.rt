@@ -1,6 +1,4 @@
 // The slices of a small set: tables of 2, 4 and 8 bins, up to four headers, and sixteen slots.
-use slots::word;
-
 pub const TABLES: usize = 3;
 
 pub const BINS: usize = 14;
@@ -19,28 +17,11 @@ pub fn lengths() -> [u32; TABLES] {
     [2, 4, 8]
 }
 
-// The words of so many headers; all of them where there are no more.
-pub fn front(heads: &[u32], headers: u32) -> &[u32] {
-    let many = 3 * headers as usize;
-    if many <= heads.len() {
-        return &heads[..many];
-    }
-    heads
-}
-
-// Whether two rows of words are the same.
-fn same(a: &[u32], b: &[u32]) -> bool {
-    if a.len() != b.len() {
-        return false;
-    }
-    let mut k = 0;
-    while k < a.len() {
-        if word(a, k, 0) != word(b, k, 0) {
-            return false;
-        }
-        k += 1;
-    }
-    true
+// The first n words of a slice, to be written; all of them where there are no more.
+// Form kept: each program has its own, since of a public one no clause that the check proves by itself says what is left of the slice.
+pub fn lend(words: &mut [u32], n: usize) -> &mut [u32] {
+    let most = n.min(words.len());
+    &mut words[..most]
 }
 
 // Whether the bins, the headers and the cells of two sets are the same.
@@ -52,8 +33,5 @@ pub fn same_set(
     heads2: &[u32; HEADS],
     cells2: &[u32; CELLS],
 ) -> bool {
-    let bins_same = same(bins, bins2);
-    let heads_same = same(heads, heads2);
-    let cells_same = same(cells, cells2);
-    bins_same && heads_same && cells_same
+    bins == bins2 && heads == heads2 && cells == cells2
 }

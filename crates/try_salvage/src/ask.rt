@@ -6,27 +6,17 @@ use crate::judge::{
 };
 use crate::naive::{lost, told_below};
 use index::fresh::fresh;
-use night::salvage::{SalvageMade, salvage};
-use slots::NULL;
+use night::salvage::salvage;
+use slots::answer::Unfit;
 
 // The most slots that a tree here has.
 pub const MOST: u32 = 8;
 
-// How many slots are kept; null for a refusal.
-pub fn kept_of(made: SalvageMade) -> u32 {
-    match made {
-        SalvageMade::Kept(kept) => kept,
-        SalvageMade::Unfit => NULL,
-    }
-}
-
 // Counts what is to be told of the n slots.
 fn count_told(counts: &mut [u32], line: u32, names: &[u64], cells: &[u32], n: u32) {
-    let mut what: u32 = 0;
-    while what < 4 {
+    for what in 0..4 {
         let slots = told_below(names, cells, n, what);
         count(counts, line, KEPT + what, slots);
-        what += 1;
     }
 }
 
@@ -51,7 +41,7 @@ fn is_right(
         && sound_right(names2, cells2, head2, sizes2, kept)
 }
 
-// Makes the second tree, cleared, and salvages into it: how many slots are kept, null for a refusal.
+// Makes the second tree, cleared, and salvages into it: how many slots are kept.
 fn save(
     names: &[u64],
     cells: &[u32],
@@ -60,11 +50,10 @@ fn save(
     head2: &mut [u32],
     sizes2: &mut [u32],
     report: &mut [u32],
-) -> u32 {
+) -> Result<u32, Unfit> {
     let mut lines = [0u64; 1];
-    fresh(names2, cells2, head2, sizes2, &mut lines);
-    let made = salvage(names, cells, names2, cells2, head2, sizes2, report);
-    kept_of(made)
+    fresh(names2, cells2, head2, sizes2, &mut lines)?;
+    salvage(names, cells, names2, cells2, head2, sizes2, report)
 }
 
 // Counts whether what is left is what is to be, and what is lost of the tree before the damage.
@@ -81,10 +70,13 @@ fn note(
     sizes2: &[u32],
     report: &[u32],
     n: u32,
-    kept: u32,
+    made: Result<u32, Unfit>,
 ) {
-    let right = is_right(names, cells, names2, cells2, head2, sizes2, report, n, kept)
-        && no_more_lost(names0, cells0, names, cells, names2, cells2, report, n);
+    let kept_right = match made {
+        Ok(kept) => is_right(names, cells, names2, cells2, head2, sizes2, report, n, kept),
+        Err(_) => false,
+    };
+    let right = kept_right && no_more_lost(names0, cells0, names, cells, names2, cells2, report, n);
     count(counts, line, DIFFERENCES, one_if(!right));
     let gone = lost(names0, cells0, names2, cells2, n);
     count(counts, line, LOST, gone);
@@ -105,9 +97,9 @@ fn ask_into(
     report: &mut [u32],
     n: u32,
 ) {
-    let kept = save(names, cells, names2, cells2, head2, sizes2, report);
+    let made = save(names, cells, names2, cells2, head2, sizes2, report);
     note(
-        counts, line, names0, cells0, names, cells, names2, cells2, head2, sizes2, report, n, kept,
+        counts, line, names0, cells0, names, cells, names2, cells2, head2, sizes2, report, n, made,
     );
 }
 

@@ -26,7 +26,7 @@ pub fn sum(a: u32, b: u32) -> u32 {
 
 // 1 for yes, 0 for no.
 pub fn one_if(yes: bool) -> u32 {
-    if yes { 1 } else { 0 }
+    yes as u32
 }
 
 // So many more in a column of a line.

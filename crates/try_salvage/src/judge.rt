@@ -1,7 +1,7 @@
 // Whether what salvage has left is right: the report, the second tree's entries, their slots and their order along the chain.
 use crate::naive::{is_lost, same_entry, told, told_below};
-use index::sound::{Soundness, sound};
-use night::why::{Explanation, why};
+use index::sound::sound;
+use night::why::why;
 use slots::{COUNT, FIRST, FREE, NEXT, NULL, STATE, get, word};
 
 // What stands in the report before the call, two words of it past the slots.
@@ -9,12 +9,10 @@ pub const REST: u32 = 77;
 
 // The report says of each slot what is to be told.
 pub fn report_right(names: &[u64], cells: &[u32], report: &[u32], n: u32) -> bool {
-    let mut i: u32 = 0;
-    while i < n {
+    for i in 0..n {
         if word(report, i as usize, NULL) != told(names, cells, i) {
             return false;
         }
-        i += 1;
     }
     true
 }
@@ -26,25 +24,21 @@ pub fn rest_stays(report: &[u32], n: u32) -> bool {
 
 // The entry of each slot that is to be kept stands in the slot of the second tree whose number is that of the kept ones below it.
 pub fn entries_right(names: &[u64], cells: &[u32], names2: &[u64], cells2: &[u32], n: u32) -> bool {
-    let mut i: u32 = 0;
-    while i < n {
+    for i in 0..n {
         let k = told_below(names, cells, i, 0);
         if told(names, cells, i) == 0 && !same_entry(names, cells, i, names2, cells2, k) {
             return false;
         }
-        i += 1;
     }
     true
 }
 
 // The first slots of the second tree, so many as are kept, are used, and the others free.
 pub fn used_right(cells2: &[u32], kept: u32, n: u32) -> bool {
-    let mut k: u32 = 0;
-    while k < n {
+    for k in 0..n {
         if (get(cells2, k, STATE) == FREE) == (k < kept) {
             return false;
         }
-        k += 1;
     }
     true
 }
@@ -52,9 +46,7 @@ pub fn used_right(cells2: &[u32], kept: u32, n: u32) -> bool {
 // From first by next the last of the kept slots comes first, and slot 0 last.
 pub fn chain_right(cells2: &[u32], head2: &[u32], kept: u32) -> bool {
     let mut at = word(head2, FIRST, NULL);
-    let mut k = kept;
-    while 0 < k {
-        k -= 1;
+    for k in (0..kept).rev() {
         if at != k {
             return false;
         }
@@ -71,13 +63,13 @@ pub fn sound_right(
     sizes2: &[u32],
     kept: u32,
 ) -> bool {
-    let Soundness::Yes = sound(names2, cells2, head2, sizes2) else {
+    let Ok(true) = sound(names2, cells2, head2, sizes2) else {
         return false;
     };
-    let Explanation::Told(a) = why(names2, cells2, head2, sizes2) else {
+    let Ok(account) = why(names2, cells2, head2, sizes2) else {
         return false;
     };
-    a.rule == 0 && word(head2, COUNT, NULL) == kept
+    account.rule == 0 && word(head2, COUNT, NULL) == kept
 }
 
 // Slot i has the entry that it had before the damage, the report says that it is kept, and yet it is lost.
@@ -108,12 +100,10 @@ pub fn no_more_lost(
     report: &[u32],
     n: u32,
 ) -> bool {
-    let mut i: u32 = 0;
-    while i < n {
+    for i in 0..n {
         if lost_unsaid(names0, cells0, names, cells, names2, cells2, report, n, i) {
             return false;
         }
-        i += 1;
     }
     true
 }

@@ -27,12 +27,10 @@ pub fn same_entry(
 
 // The lowest slot below i that has state 1 or 2 and its pair; i where there is none.
 fn lowest_like(names: &[u64], cells: &[u32], i: u32) -> u32 {
-    let mut j: u32 = 0;
-    while j < i {
+    for j in 0..i {
         if has_name(cells, j) && same_pair(names, i, names, j) {
             return j;
         }
-        j += 1;
     }
     i
 }
@@ -61,22 +59,18 @@ fn is_told(names: &[u64], cells: &[u32], i: u32, what: u32) -> bool {
 // How many slots below i are told to be so.
 pub fn told_below(names: &[u64], cells: &[u32], i: u32, what: u32) -> u32 {
     let mut count: u32 = 0;
-    let mut j: u32 = 0;
-    while j < i {
+    for j in 0..i {
         count = sum(count, one_if(is_told(names, cells, j, what)));
-        j += 1;
     }
     count
 }
 
 // The entry of slot i is in one of the n slots of another tree.
 fn holds(names: &[u64], cells: &[u32], i: u32, others: &[u64], words: &[u32], n: u32) -> bool {
-    let mut k: u32 = 0;
-    while k < n {
+    for k in 0..n {
         if get(words, k, STATE) != FREE && same_entry(names, cells, i, others, words, k) {
             return true;
         }
-        k += 1;
     }
     false
 }
@@ -96,10 +90,8 @@ pub fn is_lost(
 // How many of the n slots of a tree have an entry that is not in another.
 pub fn lost(names: &[u64], cells: &[u32], others: &[u64], words: &[u32], n: u32) -> u32 {
     let mut count: u32 = 0;
-    let mut i: u32 = 0;
-    while i < n {
+    for i in 0..n {
         count = sum(count, one_if(is_lost(names, cells, i, others, words, n)));
-        i += 1;
     }
     count
 }

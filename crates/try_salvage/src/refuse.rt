@@ -1,13 +1,13 @@
 // What is to be refused: a second tree that is not cleared or of another capacity, and a report with fewer words than slots. A refused call
 // writes nothing.
-use crate::ask::{MOST, kept_of};
+use crate::ask::MOST;
 use crate::counts::{DIFFERENCES, REFUSED, TRIED, count};
 use crate::judge::REST;
 use crate::words::{VALUES, damaged, damaged_name};
 use index::fresh::fresh;
 use index::insert::insert;
 use night::salvage::salvage;
-use slots::{NULL, put_wide, put_word, wide, word};
+use slots::{NULL, put_word, word};
 
 // The lines of a second tree with a damaged word, with a name, of another capacity, and of a report that is too short.
 const UNCLEARED: u32 = 14;
@@ -19,45 +19,10 @@ const CAPACITY: u32 = 16;
 const SHORT: u32 = 17;
 
 // Writes words over as many others.
-fn copy(from: &[u32], to: &mut [u32]) {
-    let mut k = 0;
-    while k < to.len() {
-        put_word(to, k, word(from, k, NULL));
-        k += 1;
+fn copy<T: Copy>(from: &[T], to: &mut [T]) {
+    for (to, from) in to.iter_mut().zip(from) {
+        *to = *from;
     }
-}
-
-// The same of names.
-fn copy_names(from: &[u64], to: &mut [u64]) {
-    let mut k = 0;
-    while k < to.len() {
-        put_wide(to, k, wide(from, k));
-        k += 1;
-    }
-}
-
-// The words are the first of others.
-fn same(words: &[u32], others: &[u32]) -> bool {
-    let mut k = 0;
-    while k < words.len() {
-        if word(words, k, NULL) != word(others, k, NULL) {
-            return false;
-        }
-        k += 1;
-    }
-    true
-}
-
-// The same of names.
-fn same_names(words: &[u64], others: &[u64]) -> bool {
-    let mut k = 0;
-    while k < words.len() {
-        if wide(words, k) != wide(others, k) {
-            return false;
-        }
-        k += 1;
-    }
-    true
 }
 
 // Salvage answers 1 and leaves every word as it was.
@@ -75,18 +40,18 @@ fn is_refused(
     let mut oldhead = [0u32; 3];
     let mut oldsizes = [0u32; 8];
     let mut oldreport = [0u32; 10];
-    copy_names(names2, &mut oldnames);
+    copy(names2, &mut oldnames);
     copy(cells2, &mut oldcells);
     copy(head2, &mut oldhead);
     copy(sizes2, &mut oldsizes);
     copy(report, &mut oldreport);
     let made = salvage(names, cells, names2, cells2, head2, sizes2, report);
-    kept_of(made) == NULL
-        && same_names(names2, &oldnames)
-        && same(cells2, &oldcells)
-        && same(head2, &oldhead)
-        && same(sizes2, &oldsizes)
-        && same(report, &oldreport)
+    made.is_err()
+        && oldnames.starts_with(names2)
+        && oldcells.starts_with(cells2)
+        && oldhead.starts_with(head2)
+        && oldsizes.starts_with(sizes2)
+        && oldreport.starts_with(report)
 }
 
 // Counts a call that is to be refused.
@@ -109,9 +74,9 @@ fn damage_word(words: &mut [u32], k: usize, m: u32, value: usize) -> bool {
 
 // The same of names.
 fn damage_name(names: &mut [u64], k: usize, m: u32, value: usize) -> bool {
-    let old = wide(names, k);
+    let old = word(names, k, 0);
     let new = damaged_name(old, m, value);
-    put_wide(names, k, new);
+    put_word(names, k, new);
     new != old
 }
 
@@ -153,12 +118,12 @@ fn lay(
     value: usize,
 ) -> bool {
     let mut lines = [0u64; 7];
-    fresh(names, cells, head, sizes, &mut lines);
+    let _ = fresh(names, cells, head, sizes, &mut lines);
     if line == UNCLEARED {
         return damage_tree(names, cells, head, sizes, k, m, value);
     }
     if line == NAMED {
-        insert(names, cells, head, sizes, &mut lines, 4, 5, 6);
+        let _ = insert(names, cells, head, sizes, &mut lines, 4, 5, 6);
     }
     true
 }
@@ -224,8 +189,7 @@ fn try_second(
 // Each word of the second tree with each other value.
 fn try_uncleared(counts: &mut [u32], names: &[u64], cells: &[u32], n: u32) {
     let trials = (10 * n as usize + 3) * VALUES;
-    let mut trial: usize = 0;
-    while trial < trials {
+    for trial in 0..trials {
         try_second(
             counts,
             UNCLEARED,
@@ -236,7 +200,6 @@ fn try_uncleared(counts: &mut [u32], names: &[u64], cells: &[u32], n: u32) {
             trial / VALUES,
             trial % VALUES,
         );
-        trial += 1;
     }
 }
 
@@ -249,19 +212,15 @@ fn try_capacity(counts: &mut [u32], names: &[u64], cells: &[u32], n: u32, m: u32
 
 // Second trees of fewer and of more slots.
 fn try_capacities(counts: &mut [u32], names: &[u64], cells: &[u32], n: u32) {
-    let mut m: u32 = 1;
-    while m <= MOST {
+    for m in 1..=MOST {
         try_capacity(counts, names, cells, n, m);
-        m += 1;
     }
 }
 
 // Reports of fewer words than slots.
 fn try_reports(counts: &mut [u32], names: &[u64], cells: &[u32], n: u32) {
-    let mut len: u32 = 0;
-    while len < n {
+    for len in 0..n {
         try_second(counts, SHORT, names, cells, n, len as usize, 0, 0);
-        len += 1;
     }
 }
 

@@ -6,7 +6,6 @@ use crate::words::{try_cells, try_names};
 use index::fresh::fresh;
 use index::insert::insert;
 use index::remove::remove;
-use slots::wide;
 
 // The hash of a name by its number. Two neighbours have one, and none is 0.
 fn hash_of(x: u64) -> u64 {
@@ -28,11 +27,8 @@ fn put_in(
     order: &[u64],
     used: u32,
 ) {
-    let mut k: u32 = 0;
-    while k < used {
-        let x = wide(order, k as usize);
-        insert(names, cells, head, sizes, lines, hash_of(x), key_of(x), k);
-        k += 1;
+    for (k, x) in (0..used).zip(order) {
+        let _ = insert(names, cells, head, sizes, lines, hash_of(*x), key_of(*x), k);
     }
 }
 
@@ -46,11 +42,8 @@ fn take_out(
     order: &[u64],
     taken: u32,
 ) {
-    let mut k: u32 = 0;
-    while k < taken {
-        let x = wide(order, k as usize);
-        remove(names, cells, head, sizes, lines, hash_of(x), key_of(x));
-        k += 1;
+    for x in order.iter().take(taken as usize) {
+        let _ = remove(names, cells, head, sizes, lines, hash_of(*x), key_of(*x));
     }
 }
 
@@ -77,7 +70,7 @@ fn try_four(counts: &mut [u32], order: &[u64], used: u32) {
     let mut head = [0u32; 3];
     let mut sizes = [0u32; 4];
     let mut lines = [0u64; 97];
-    fresh(&mut names, &mut cells, &mut head, &mut sizes, &mut lines);
+    let _ = fresh(&mut names, &mut cells, &mut head, &mut sizes, &mut lines);
     put_in(
         &mut names, &mut cells, &mut head, &mut sizes, &mut lines, order, used,
     );
@@ -100,7 +93,7 @@ fn try_eight(counts: &mut [u32], order: &[u64], used: u32, taken: u32) {
     let mut head = [0u32; 3];
     let mut sizes = [0u32; 8];
     let mut lines = [0u64; 97];
-    fresh(&mut names, &mut cells, &mut head, &mut sizes, &mut lines);
+    let _ = fresh(&mut names, &mut cells, &mut head, &mut sizes, &mut lines);
     put_in(
         &mut names, &mut cells, &mut head, &mut sizes, &mut lines, order, used,
     );
@@ -121,10 +114,8 @@ fn try_eight(counts: &mut [u32], order: &[u64], used: u32, taken: u32) {
 
 // No name, one, two, three and four in four slots.
 pub fn try_small(counts: &mut [u32]) {
-    let mut used: u32 = 0;
-    while used < 5 {
+    for used in 0..5 {
         try_four(counts, &[3, 5, 1, 6], used);
-        used += 1;
     }
 }
 

@@ -99,10 +99,8 @@ fn try_with(
     i: u32,
     way: u32,
 ) {
-    let mut j: u32 = 0;
-    while j < n {
+    for j in 0..n {
         try_two(counts, names0, cells0, names, cells, n, i, j, way);
-        j += 1;
     }
 }
 
@@ -116,10 +114,8 @@ fn try_way(
     n: u32,
     way: u32,
 ) {
-    let mut i: u32 = 0;
-    while i < n {
+    for i in 0..n {
         try_with(counts, names0, cells0, names, cells, n, i, way);
-        i += 1;
     }
 }
 
@@ -132,9 +128,7 @@ pub fn try_twos(
     cells: &mut [u32],
     n: u32,
 ) {
-    let mut way: u32 = 0;
-    while way < WAYS {
+    for way in 0..WAYS {
         try_way(counts, names0, cells0, names, cells, n, way);
-        way += 1;
     }
 }

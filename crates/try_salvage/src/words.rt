@@ -1,6 +1,6 @@
 // Every word of a tree set to each of several values, one at a time.
 use crate::ask::ask;
-use slots::{NULL, put_wide, put_word, wide, word};
+use slots::{NULL, put_word, word};
 
 // How many values a word is set to.
 pub const VALUES: usize = 12;
@@ -47,10 +47,10 @@ fn try_name(
     k: usize,
     value: usize,
 ) {
-    let old = wide(names, k);
-    put_wide(names, k, damaged_name(old, n, value));
+    let old = word(names, k, 0);
+    put_word(names, k, damaged_name(old, n, value));
     ask(counts, (1 + k % 2) as u32, names0, cells0, names, cells0, n);
-    put_wide(names, k, old);
+    put_word(names, k, old);
 }
 
 // Damages word k of the cells, asks, and restores it.
@@ -72,8 +72,7 @@ fn try_cell(
 // Damages each word of the names in each way. What is lent to be damaged is as the tree before the damage.
 pub fn try_names(counts: &mut [u32], names0: &[u64], cells0: &[u32], names: &mut [u64], n: u32) {
     let trials = 2 * n as usize * VALUES;
-    let mut trial: usize = 0;
-    while trial < trials {
+    for trial in 0..trials {
         try_name(
             counts,
             names0,
@@ -83,15 +82,13 @@ pub fn try_names(counts: &mut [u32], names0: &[u64], cells0: &[u32], names: &mut
             trial / VALUES,
             trial % VALUES,
         );
-        trial += 1;
     }
 }
 
 // Damages each word of the cells in each way.
 pub fn try_cells(counts: &mut [u32], names0: &[u64], cells0: &[u32], cells: &mut [u32], n: u32) {
     let trials = 7 * n as usize * VALUES;
-    let mut trial: usize = 0;
-    while trial < trials {
+    for trial in 0..trials {
         try_cell(
             counts,
             names0,
@@ -101,6 +98,5 @@ pub fn try_cells(counts: &mut [u32], names0: &[u64], cells0: &[u32], cells: &mut
             trial / VALUES,
             trial % VALUES,
         );
-        trial += 1;
     }
 }

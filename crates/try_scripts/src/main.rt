@@ -23,21 +23,18 @@ fn runs(input: &[u8], expected: &[u8], cut: usize, out: &mut [u8]) -> bool {
     let mut head = [0u32; 3];
     let mut sizes = [0u32; 512];
     let mut lines = [0u64; JOURNAL_WORDS];
-    fresh(&mut names, &mut cells, &mut head, &mut sizes, &mut lines);
+    let _ = fresh(&mut names, &mut cells, &mut head, &mut sizes, &mut lines);
     let met = play(
         input, cut, expected, &mut names, &mut cells, &mut head, &mut sizes, &mut lines, out,
     );
-    met.same && met.at == expected.len()
+    met == Ok(expected.len())
 }
 
 // 1 where a script does not run as it has to, so that they can be counted.
 fn differs(input: &[u8], expected: &[u8], cut: usize, out: &mut [u8]) -> u32
     ensures { result ≤ 1 }
 {
-    if runs(input, expected, cut, out) {
-        return 0;
-    }
-    1
+    u32::from(!runs(input, expected, cut, out))
 }
 
 // How many of a script's three runs differ.
@@ -76,13 +73,8 @@ fn try_script<R: Files>(
 
 fn try_all<R: Files>(rt: &R, input: &mut [u8], expected: &mut [u8], out: &mut [u8]) -> u32 {
     let mut differences: u32 = 0;
-    let mut number: u32 = 1;
-    while number <= SCRIPTS {
-        differences = std::num::wrapping_add_u32(
-            differences,
-            try_script(rt, number, input, expected, out),
-        );
-        number += 1;
+    for number in 1..=SCRIPTS {
+        differences = differences.wrapping_add(try_script(rt, number, input, expected, out));
     }
     differences
 }

@@ -7,21 +7,16 @@ use trials::print::{answer, number, say};
 
 // 1 for yes, so that it can be counted.
 pub(crate) fn one(yes: bool) -> u32 {
-    if yes { 1 } else { 0 }
+    u32::from(yes)
 }
 
 pub(crate) fn more(count: u32, by: u32) -> u32 {
-    std::num::wrapping_add_u32(count, by)
+    count.wrapping_add(by)
 }
 
 // The bytes from i to before j; all of them where i and j are not in their order within them.
 fn part_of(bytes: &[u8], i: usize, j: usize) -> &[u8] {
-    if i <= j {
-        if j <= bytes.len() {
-            return &bytes[i..j];
-        }
-    }
-    bytes
+    bytes.get(i..j).unwrap_or(bytes)
 }
 
 // The upload in three chunks, cut at i and j, into an index begun anew, and the end call.
@@ -44,10 +39,8 @@ fn differs(bytes: &[u8], i: usize, j: usize) -> u32 {
 // The same for every j from i on: how many differ.
 fn differ_from(bytes: &[u8], i: usize) -> u32 {
     let mut count: u32 = 0;
-    let mut j = i;
-    while j <= bytes.len() {
+    for j in i..=bytes.len() {
         count = more(count, differs(bytes, i, j));
-        j += 1;
     }
     count
 }
@@ -55,10 +48,8 @@ fn differ_from(bytes: &[u8], i: usize) -> u32 {
 // The same for every i.
 fn differ_in_all(bytes: &[u8]) -> u32 {
     let mut count: u32 = 0;
-    let mut i = 0;
-    while i <= bytes.len() {
+    for i in 0..=bytes.len() {
         count = more(count, differ_from(bytes, i));
-        i += 1;
     }
     count
 }

@@ -15,42 +15,27 @@ const NEW: [u8; 34] =
 const AGAIN: [u8; 34] =
     *b"\x01\x02\0\x01\0\0\0\0\0\0\0\x02\0\0\0\0\0\0\0\x01\0\0\0\0\0\0\0\x02\0\0\0\0\0\0";
 
-// The write: the journal's length made 0, which is below the mark, or 1, which is the mark, or more than it has lines; a size of a free
-// slot; a line's place.
-fn written(x: Upload, which: u32) -> Upload {
-    match which {
-        1 => with_line(x, 0, 9),
-        2 => with_size(x, 7, 1),
-        6 => with_line(x, 0, 1),
-        7 => with_line(x, 0, 0),
-        _ => with_line(x, 10, 5),
-    }
-}
-
-// A part of an upload into an index begun anew, and the write.
-fn prepared(part: &[u8], which: u32) -> Upload {
-    let read = chunk(started(begun(8, 8)), part);
-    written(read, which)
-}
-
 // A chunk, or the end call where it has no bytes.
 fn call(x: Upload, bytes: &[u8]) -> Upload {
-    if bytes.len() == 0 {
+    if bytes.is_empty() {
         return ended(x);
     }
     chunk(x, bytes)
 }
 
-// A part, the write, and a call; then a chunk of one byte and the end call. The words are held against those that the write left.
-fn ask(
+// A part of an upload into an index begun anew, the write, and a call; then a chunk of one byte and the end call. The words are held
+// against those that the write left.
+fn ask<F: Fn(Upload) -> Upload>(
     stdout: Stdout,
     site: &[u8],
     label: &[u8],
     part: &[u8],
     bytes: &[u8],
-    which: u32,
-) -> io::Result<()> {
-    let start = prepared(part, which);
+    write: F,
+) -> io::Result<()>
+    requires { F.IsAlwaysCallable write }
+{
+    let start = write(chunk(started(begun(8, 8)), part));
     let first = call(start, bytes);
     let second = chunk(first, b"\x02");
     let third = ended(second);
@@ -63,41 +48,19 @@ fn ask(
     say(stdout, b"\n")
 }
 
-// Each write between a part and a call.
+// Each write between a part and a call: the journal's length made more than it has lines; a size of a free slot; the length made 0, which
+// is below the mark, or 1, which is the mark; a line's place.
 fn each_write(stdout: Stdout, site: &[u8], part: &[u8], bytes: &[u8]) -> io::Result<()> {
-    ask(
-        stdout,
-        site,
-        b", the length past the lines: ",
-        part,
-        bytes,
-        1,
-    )?;
-    ask(
-        stdout,
-        site,
-        b", a size that does not agree: ",
-        part,
-        bytes,
-        2,
-    )?;
-    ask(
-        stdout,
-        site,
-        b", the length below the mark: ",
-        part,
-        bytes,
-        7,
-    )?;
-    ask(
-        stdout,
-        site,
-        b", the length back at the mark: ",
-        part,
-        bytes,
-        6,
-    )?;
-    ask(stdout, site, b", another place in a line: ", part, bytes, 8)
+    let past = b", the length past the lines: ";
+    ask(stdout, site, past, part, bytes, |x| with_line(x, 0, 9))?;
+    let size = b", a size that does not agree: ";
+    ask(stdout, site, size, part, bytes, |x| with_size(x, 7, 1))?;
+    let below = b", the length below the mark: ";
+    ask(stdout, site, below, part, bytes, |x| with_line(x, 0, 0))?;
+    let back = b", the length back at the mark: ";
+    ask(stdout, site, back, part, bytes, |x| with_line(x, 0, 1))?;
+    let place = b", another place in a line: ";
+    ask(stdout, site, place, part, bytes, |x| with_line(x, 10, 5))
 }
 
 pub(crate) fn try_foreign(stdout: Stdout, upload: &[u8]) -> io::Result<()> {

@@ -13,10 +13,11 @@ mod words;
 use cuts::whole_and_cut;
 use foreign::try_foreign;
 use refused::try_refused;
-use sample::{LENGTH, ROOM, fill, first};
+use sample::{LENGTH, ROOM, fill};
 use std::io;
 use std::io::Stdout;
 use table::try_full;
+use trials::part::first;
 
 // The uploads, each of the name that its line has.
 const ACCEPTED: [u8; 44] =

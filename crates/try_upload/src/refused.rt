@@ -1,12 +1,14 @@
 // The sample's trials: each is read in one chunk and byte by byte, and its answers and what it leaves are held against what has to come.
 use crate::cuts::{more, one};
 use crate::sample::{
-    Kind, ROOM, Trial, due, fill, first, hash_of, key_of, place_of, put_byte, put_pair,
+    ROOM, Trial, accepted, due, fill, full, hash_of, journal_full, key_of, long, place_of,
+    put_byte, put_pair, short, there, twice, wrong_kind,
 };
 use crate::words::{Upload, begun, chunk, ended, inserted, same, started, told, with_name};
 use slots::answer::answer_word;
 use std::io;
 use std::io::Stdout;
+use trials::part::first;
 use trials::print::{number, say};
 
 // How much was wrong in a trial, and 1 where a planted name was noticed.
@@ -27,11 +29,9 @@ fn other_than(word: u64, x: Upload) -> u32 {
 // The index of so many slots and lines with the name of the start, and the first entries by plain inserts.
 fn entered(slots: u32, rows: u32, count: u32) -> Upload {
     let mut x = begun(slots, rows);
-    let mut entry: u32 = 0;
-    while entry < count {
+    for entry in 0..count {
         let slot = more(entry, 1);
         x = inserted(x, hash_of(slot), key_of(slot), place_of(entry));
-        entry += 1;
     }
     x
 }
@@ -60,12 +60,9 @@ fn wrong_whole(start: Upload, bytes: &[u8], trial: Trial) -> u32 {
 fn wrong_by_bytes(start: Upload, bytes: &[u8], trial: Trial) -> u32 {
     let mut x = start;
     let mut wrong: u32 = 0;
-    let mut k = 0;
-    while k < bytes.len() {
-        let next = k + 1;
-        x = chunk(x, &bytes[k..next]);
-        wrong = more(wrong, other_than(due(trial, next), x));
-        k = next;
+    for (k, b) in bytes.iter().enumerate() {
+        x = chunk(x, &[*b]);
+        wrong = more(wrong, other_than(due(trial, k + 1), x));
     }
     more(wrong, wrong_after(x, trial))
 }
@@ -112,33 +109,29 @@ fn say_tally(stdout: Stdout, label: &[u8], count: u32, right: u32, noticed: u32)
     say(stdout, b"\n")
 }
 
-// So many trials of a kind.
-fn tally(stdout: Stdout, label: &[u8], kind: Kind, count: u32) -> io::Result<()> {
+// So many trials of a kind: the k-th of them is what the closure gives.
+fn tally<F: Fn(u32) -> Trial>(stdout: Stdout, label: &[u8], count: u32, nth: F) -> io::Result<()>
+    requires { F.IsAlwaysCallable nth }
+{
     let mut right: u32 = 0;
     let mut noticed: u32 = 0;
-    let mut k: u32 = 0;
-    while k < count {
-        let trial = kind.trial(k);
-        let seen = try_one(trial);
+    for k in 0..count {
+        let seen = try_one(nth(k));
         right = more(right, one(seen.wrong == 0));
         noticed = more(noticed, seen.noticed);
-        k += 1;
     }
     say_tally(stdout, label, count, right, noticed)
 }
 
 pub(crate) fn try_refused(stdout: Stdout) -> io::Result<()> {
-    tally(stdout, b"the sample as six inserts: ", Kind::Accepted, 1)?;
-    tally(stdout, b"3, the pair of another entry: ", Kind::Twice, 30)?;
-    tally(stdout, b"3, the pair that was there: ", Kind::There, 6)?;
-    tally(stdout, b"5 at each entry: ", Kind::Full, 6)?;
-    tally(stdout, b"6 at each entry: ", Kind::JournalFull, 6)?;
-    tally(stdout, b"12 after each byte: ", Kind::Short, 108)?;
-    tally(stdout, b"13 by each byte: ", Kind::Long, 256)?;
-    tally(
-        stdout,
-        b"18 by each byte in each header: ",
-        Kind::WrongKind,
-        1020,
-    )
+    tally(stdout, b"the sample as six inserts: ", 1, |_k| accepted())?;
+    tally(stdout, b"3, the pair of another entry: ", 30, |k| twice(k))?;
+    tally(stdout, b"3, the pair that was there: ", 6, |k| there(k))?;
+    tally(stdout, b"5 at each entry: ", 6, |k| full(k))?;
+    tally(stdout, b"6 at each entry: ", 6, |k| journal_full(k))?;
+    tally(stdout, b"12 after each byte: ", 108, |k| short(k))?;
+    tally(stdout, b"13 by each byte: ", 256, |k| long(k))?;
+    tally(stdout, b"18 by each byte in each header: ", 1020, |k| {
+        wrong_kind(k)
+    })
 }

@@ -77,20 +77,13 @@ pub(crate) fn key_of(slot: u32) -> u64 {
 }
 
 pub(crate) fn put_byte(bytes: &mut [u8], offset: u32, byte: u8) {
-    let k = offset as usize;
-    if k < bytes.len() {
-        bytes[k] = byte;
-    }
+    slots::put_word(bytes, offset as usize, byte);
 }
 
 // A hash or a key, its lowest byte first.
 fn put_word(bytes: &mut [u8], from: u32, word: u64) {
-    let mut rest = word;
-    let mut k: u32 = 0;
-    while k < 8 {
-        put_byte(bytes, more(from, k), (rest % 256) as u8);
-        rest = rest / 256;
-        k += 1;
+    for (k, byte) in (0..).zip(word.to_le_bytes()) {
+        put_byte(bytes, more(from, k), byte);
     }
 }
 
@@ -122,14 +115,6 @@ pub(crate) fn fill(bytes: &mut [u8; ROOM]) {
     put_pair(bytes, 5, 6);
 }
 
-// The first bytes; all of them where there are no more.
-pub(crate) fn first(bytes: &[u8], count: usize) -> &[u8] {
-    if count <= bytes.len() {
-        return &bytes[0..count];
-    }
-    bytes
-}
-
 #[derive(Clone, Copy)]
 pub(crate) struct Trial {
     pub entry: u32, // this entry gets the pair of this slot
@@ -153,7 +138,7 @@ pub(crate) fn due(trial: Trial, count: usize) -> u64 {
 }
 
 // The sample as it is.
-fn accepted() -> Trial {
+pub(crate) fn accepted() -> Trial {
     Trial {
         entry: 0,
         slot: 1,
@@ -170,11 +155,12 @@ fn accepted() -> Trial {
 
 // It is refused at a byte.
 fn refused_at(at: usize, number: u32, value: u32) -> Trial {
-    let mut trial = accepted();
-    trial.at = at;
-    trial.told = packed(number, value);
-    trial.stay = 0;
-    trial
+    Trial {
+        at,
+        told: packed(number, value),
+        stay: 0,
+        ..accepted()
+    }
 }
 
 // It is refused at an entry's last byte.
@@ -184,93 +170,66 @@ fn refused_in(entry: u32, number: u32, value: u32) -> Trial {
 }
 
 // An entry gets the pair of another: 3 at the later of the two, with the slot of the other.
-fn twice(k: u32) -> Trial {
+pub(crate) fn twice(k: u32) -> Trial {
     let entry = k / 5 % 6;
     let other = (entry + 1 + k % 5) % 6;
-    let mut first = entry;
-    let mut last = other;
-    if other < entry {
-        first = other;
-        last = entry;
+    Trial {
+        entry,
+        slot: other + 1,
+        ..refused_in(entry.max(other), 3, more(entry.min(other), 1))
     }
-    let mut trial = refused_in(last, 3, more(first, 1));
-    trial.entry = entry;
-    trial.slot = other + 1;
-    trial
 }
 
 // An entry gets the pair that was there.
-fn there(entry: u32) -> Trial {
-    let mut trial = refused_in(entry, 3, 0);
-    trial.entry = entry;
-    trial.slot = 0;
-    trial
+pub(crate) fn there(entry: u32) -> Trial {
+    Trial {
+        entry,
+        slot: 0,
+        ..refused_in(entry, 3, 0)
+    }
 }
 
 // There is no slot left for an entry.
-fn full(entry: u32) -> Trial {
-    let mut trial = refused_in(entry, 5, 0);
-    trial.slots = more(entry, 1);
-    trial
+pub(crate) fn full(entry: u32) -> Trial {
+    Trial {
+        slots: more(entry, 1),
+        ..refused_in(entry, 5, 0)
+    }
 }
 
 // There is no line left for it.
-fn journal_full(entry: u32) -> Trial {
-    let mut trial = refused_in(entry, 6, 0);
-    trial.lines = more(entry, 1);
-    trial
+pub(crate) fn journal_full(entry: u32) -> Trial {
+    Trial {
+        lines: more(entry, 1),
+        ..refused_in(entry, 6, 0)
+    }
 }
 
 // The bytes end before section 4 is whole.
-fn short(length: u32) -> Trial {
-    let mut trial = refused_at(length as usize, 12, 0);
-    trial.length = length as usize;
-    trial
+pub(crate) fn short(length: u32) -> Trial {
+    Trial {
+        length: length as usize,
+        ..refused_at(length as usize, 12, 0)
+    }
 }
 
 // One to four bytes more, the first of them each of the 256.
-fn long(k: u32) -> Trial {
-    let mut trial = refused_at(LENGTH, 13, 0);
-    trial.spot = LENGTH as u32;
-    trial.byte = (k % 256) as u8;
-    trial.length = LENGTH + 1 + (k % 4) as usize;
-    trial
+pub(crate) fn long(k: u32) -> Trial {
+    Trial {
+        spot: LENGTH as u32,
+        byte: (k % 256) as u8,
+        length: LENGTH + 1 + (k % 4) as usize,
+        ..refused_at(LENGTH, 13, 0)
+    }
 }
 
 // A section begins with each of the 255 bytes that are not its kind.
-fn wrong_kind(k: u32) -> Trial {
+pub(crate) fn wrong_kind(k: u32) -> Trial {
     let kind = k / 255 % 4 + 1;
     let spot = kind_byte(kind);
-    let mut trial = refused_at(spot as usize, 18, 0);
-    trial.spot = spot;
-    trial.byte = ((kind + 1 + k % 255) % 256) as u8;
-    trial
-}
-
-#[derive(Clone, Copy)]
-pub(crate) enum Kind {
-    Accepted,
-    Twice,
-    There,
-    Full,
-    JournalFull,
-    Short,
-    Long,
-    WrongKind,
-}
-
-impl Kind {
-    // The trial number k of its kind.
-    pub(crate) fn trial(self, k: u32) -> Trial {
-        match self {
-            Kind::Accepted => accepted(),
-            Kind::Twice => twice(k),
-            Kind::There => there(k),
-            Kind::Full => full(k),
-            Kind::JournalFull => journal_full(k),
-            Kind::Short => short(k),
-            Kind::Long => long(k),
-            Kind::WrongKind => wrong_kind(k),
-        }
+    Trial {
+        spot,
+        byte: ((kind + 1 + k % 255) % 256) as u8,
+        ..refused_at(spot as usize, 18, 0)
     }
 }

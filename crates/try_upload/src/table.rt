@@ -1,9 +1,9 @@
 // Uploads that fill the slots, and the lines: the last entry is refused, and nothing stays of those before it.
-use crate::words::{lend_cells, lend_lines, lend_names, lend_sizes};
+use crate::words::lend;
 use index::fresh::fresh;
 use reader::words::Reader;
-use slots::answer::Answer;
-use slots::{COUNT, wide, word};
+use slots::answer::{Answer, Answers};
+use slots::{COUNT, word};
 use std::io;
 use std::io::Stdout;
 use trials::print::{answer, name, number, say};
@@ -15,11 +15,9 @@ fn fill(bytes: &mut [u8; MANY]) {
     bytes[0] = 1;
     bytes[1] = 1;
     bytes[2] = 4;
-    let mut k: usize = 0;
-    while k < 1025 {
+    for k in 0..1025usize {
         bytes[3 + 16 * k + 8] = (k % 256) as u8;
         bytes[3 + 16 * k + 9] = (k / 256 % 256) as u8;
-        k += 1;
     }
 }
 
@@ -36,8 +34,7 @@ fn read(
     let first = started
         .reader
         .chunk(names, cells, head, sizes, lines, bytes);
-    let reply = first.reply;
-    reply.answer()
+    first.reply.answer()
 }
 
 // The same, into an empty index.
@@ -49,7 +46,7 @@ fn read_fresh(
     lines: &mut [u64],
     bytes: &[u8],
 ) -> Answer {
-    fresh(names, cells, head, sizes, lines);
+    let _ = fresh(names, cells, head, sizes, lines);
     read(names, cells, head, sizes, lines, bytes)
 }
 
@@ -62,7 +59,7 @@ fn say_left(
 ) -> io::Result<()> {
     answer(stdout, label, b"entries ", told)?;
     number(stdout, b", names left ", word(head, COUNT, 0))?;
-    name(stdout, b", lines left ", wide(lines, 0))?;
+    name(stdout, b", lines left ", word(lines, 0, 0))?;
     say(stdout, b"\n")
 }
 
@@ -79,12 +76,13 @@ fn fill_in(
     let mut head = [0u32; 3];
     let mut sizes = [0u32; slots::MOST_SLOTS];
     let mut lines = [0u64; 6145];
+    let n = slots as usize;
     let told = read_fresh(
-        lend_names(&mut names, slots),
-        lend_cells(&mut cells, slots),
+        lend(&mut names, 2 * n),
+        lend(&mut cells, 7 * n),
         &mut head,
-        lend_sizes(&mut sizes, slots),
-        lend_lines(&mut lines, rows),
+        lend(&mut sizes, n),
+        lend(&mut lines, 6 * rows as usize + 1),
         bytes,
     );
     say_left(stdout, label, told, &head, &lines)

@@ -2,10 +2,10 @@
 use index::fresh::fresh;
 use index::insert::insert;
 use reader::read::Read;
-use reader::reply::Reply;
-use reader::words::{Note, Reader};
-use slots::answer::Answer;
-use slots::{put_wide, put_word};
+use reader::reply::ReadRefusal;
+use reader::words::Reader;
+use slots::answer::{Answer, Answers};
+use slots::put_word;
 use trials::same::same_index;
 
 // The words of an index; the first of each array are those of so many slots and lines.
@@ -27,108 +27,28 @@ pub(crate) struct Upload {
     pub read: Read,
 }
 
-#[derive(Clone, Copy)]
-enum Task {
-    Fresh,
-    Insert(u64, u64, u32), // hash, key and place
-    Start,
-    Chunk,
-    End,
+// The first words of a slice, to be written: as many as are asked for, or all of them where there are no more.
+// Form kept: each program has its own, since of a public one no clause that the check proves by itself says what is left of the slice.
+pub(crate) fn lend<T>(words: &mut [T], n: usize) -> &mut [T] {
+    let most = n.min(words.len());
+    &mut words[..most]
 }
 
-// Does a task on slices.
-fn work(
-    task: Task,
-    read: Read,
-    names: &mut [u64],
-    cells: &mut [u32],
-    head: &mut [u32],
-    sizes: &mut [u32],
-    lines: &mut [u64],
-    bytes: &[u8],
-) -> Read {
-    match task {
-        Task::Fresh => {
-            fresh(names, cells, head, sizes, lines);
-            read
-        }
-        Task::Insert(hash, key, place) => {
-            insert(names, cells, head, sizes, lines, hash, key, place);
-            read
-        }
-        Task::Start => Reader::start(names, cells, head, sizes, lines),
-        Task::Chunk => {
-            let reader = read.reader;
-            reader.chunk(names, cells, head, sizes, lines, bytes)
-        }
-        Task::End => {
-            let reader = read.reader;
-            reader.end(names, cells, head, sizes, lines)
-        }
-    }
-}
-
-// The words of so many slots, lent to be written; all of them where there are no more.
-pub(crate) fn lend_names(words: &mut [u64], slots: u32) -> &mut [u64] {
-    let n = 2 * slots as usize;
-    if n <= words.len() {
-        return &mut words[0..n];
-    }
-    words
-}
-
-pub(crate) fn lend_cells(words: &mut [u32], slots: u32) -> &mut [u32] {
-    let n = 7 * slots as usize;
-    if n <= words.len() {
-        return &mut words[0..n];
-    }
-    words
-}
-
-pub(crate) fn lend_sizes(words: &mut [u32], slots: u32) -> &mut [u32] {
-    let n = slots as usize;
-    if n <= words.len() {
-        return &mut words[0..n];
-    }
-    words
-}
-
-// The words of so many lines.
-pub(crate) fn lend_lines(words: &mut [u64], rows: u32) -> &mut [u64] {
-    let n = 6 * rows as usize + 1;
-    if n <= words.len() {
-        return &mut words[0..n];
-    }
-    words
-}
-
-// Does a task on an index.
-fn after(x: Upload, task: Task, bytes: &[u8]) -> Upload {
-    let before = x.words;
-    let mut names = before.names;
-    let mut cells = before.cells;
-    let mut head = before.head;
-    let mut sizes = before.sizes;
-    let mut lines = before.lines;
-    let read = work(
-        task,
-        x.read,
-        lend_names(&mut names, before.slots),
-        lend_cells(&mut cells, before.slots),
-        &mut head,
-        lend_sizes(&mut sizes, before.slots),
-        lend_lines(&mut lines, before.rows),
-        bytes,
+// Does a step on the words that are lent: what it leaves, and the step's answer and reader.
+fn after<F>(x: Upload, step: F) -> Upload
+where
+    F: FnOnce(&mut [u64], &mut [u32], &mut [u32], &mut [u32], &mut [u64]) -> Read,
+    requires { F.IsAlwaysCallable step }
+{
+    let mut words = x.words;
+    let n = words.slots as usize;
+    let read = step(
+        lend(&mut words.names, 2 * n),
+        lend(&mut words.cells, 7 * n),
+        &mut words.head,
+        lend(&mut words.sizes, n),
+        lend(&mut words.lines, 6 * words.rows as usize + 1),
     );
-    let words = Words {
-        names,
-        cells,
-        head,
-        sizes,
-        lines,
-        slots: before.slots,
-        rows: before.rows,
-    };
     Upload { words, read }
 }
 
@@ -142,17 +62,20 @@ fn unread() -> Read {
         key: 0,
         mark: 0,
         taken: 0,
-        note: Note::Unsaid,
+        note: None,
     };
     Read {
-        reply: Reply::Unfit,
+        reply: Err(ReadRefusal::Unfit),
         reader,
     }
 }
 
 // One name more.
 pub(crate) fn inserted(x: Upload, hash: u64, key: u64, place: u32) -> Upload {
-    after(x, Task::Insert(hash, key, place), b"")
+    after(x, |names, cells, head, sizes, lines| {
+        let _ = insert(names, cells, head, sizes, lines, hash, key, place);
+        x.read
+    })
 }
 
 // The index of so many slots and lines that an upload starts on. It has one name.
@@ -170,77 +93,63 @@ pub(crate) fn begun(slots: u32, rows: u32) -> Upload {
         words,
         read: unread(),
     };
-    inserted(after(zeros, Task::Fresh, b""), 9, 9, 77)
+    let empty = after(zeros, |names, cells, head, sizes, lines| {
+        let _ = fresh(names, cells, head, sizes, lines);
+        zeros.read
+    });
+    inserted(empty, 9, 9, 77)
 }
 
 // The three calls of an upload.
 pub(crate) fn started(x: Upload) -> Upload {
-    after(x, Task::Start, b"")
+    after(x, |names, cells, head, sizes, lines| {
+        Reader::start(names, cells, head, sizes, lines)
+    })
 }
 
 pub(crate) fn chunk(x: Upload, bytes: &[u8]) -> Upload {
-    after(x, Task::Chunk, bytes)
+    let reader = x.read.reader;
+    after(x, |names, cells, head, sizes, lines| {
+        reader.chunk(names, cells, head, sizes, lines, bytes)
+    })
 }
 
 pub(crate) fn ended(x: Upload) -> Upload {
-    after(x, Task::End, b"")
+    let reader = x.read.reader;
+    after(x, |names, cells, head, sizes, lines| {
+        reader.end(names, cells, head, sizes, lines)
+    })
 }
 
 // What the last of them answered.
 pub(crate) fn told(x: Upload) -> Answer {
-    let read = x.read;
-    let reply = read.reply;
-    reply.answer()
+    x.read.reply.answer()
 }
 
 // Whether two indexes have the same words.
-fn same_words(x: Words, y: Words) -> bool {
-    let names = x.names;
-    let cells = x.cells;
-    let head = x.head;
-    let sizes = x.sizes;
-    let lines = x.lines;
-    let names2 = y.names;
-    let cells2 = y.cells;
-    let head2 = y.head;
-    let sizes2 = y.sizes;
-    let lines2 = y.lines;
-    same_index(
-        &names, &cells, &head, &sizes, &lines, &names2, &cells2, &head2, &sizes2, &lines2,
-    )
-}
-
 pub(crate) fn same(x: Upload, y: Upload) -> bool {
-    same_words(x.words, y.words)
+    let (a, b) = (x.words, y.words);
+    same_index(
+        &a.names, &a.cells, &a.head, &a.sizes, &a.lines, &b.names, &b.cells, &b.head, &b.sizes,
+        &b.lines,
+    )
 }
 
 // With another word of the names, the sizes or the lines.
 pub(crate) fn with_name(x: Upload, k: usize, value: u64) -> Upload {
-    let mut words = x.words;
-    let mut names = words.names;
-    put_wide(&mut names, k, value);
-    words.names = names;
     let mut y = x;
-    y.words = words;
+    put_word(&mut y.words.names, k, value);
     y
 }
 
 pub(crate) fn with_size(x: Upload, k: usize, value: u32) -> Upload {
-    let mut words = x.words;
-    let mut sizes = words.sizes;
-    put_word(&mut sizes, k, value);
-    words.sizes = sizes;
     let mut y = x;
-    y.words = words;
+    put_word(&mut y.words.sizes, k, value);
     y
 }
 
 pub(crate) fn with_line(x: Upload, k: usize, value: u64) -> Upload {
-    let mut words = x.words;
-    let mut lines = words.lines;
-    put_wide(&mut lines, k, value);
-    words.lines = lines;
     let mut y = x;
-    y.words = words;
+    put_word(&mut y.words.lines, k, value);
     y
 }

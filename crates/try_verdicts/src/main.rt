@@ -2,6 +2,7 @@
 #![tactic(auto)]
 
 use sets::accept::accept;
+use slots::answer::Answers;
 use slots::{
     BLACK, HASH, KEY, LEFT, NEXT, NULL, PARENT, PLACE, PREV, RED, RIGHT, STATE, put, put_name,
 };
@@ -27,11 +28,9 @@ fn ask(
 
 // The first n slots become free.
 fn clear(cells: &mut [u32], n: u32) {
-    let mut i: u32 = 0;
-    while i < n {
+    for i in 0..n {
         put(cells, i, PLACE, 0);
         put(cells, i, STATE, 0);
-        i += 1;
     }
 }
 

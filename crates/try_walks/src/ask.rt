@@ -1,7 +1,7 @@
 // A lookup, a step and a walk of a set, each answer on a line of its own.
 use crate::say;
 use sets::lookup::lookup;
-use sets::walk::{Cursor, Given, Started};
+use sets::walk::Cursor;
 use slots::NULL;
 use std::io;
 use std::io::Stdout;
@@ -50,16 +50,12 @@ fn steps(
     n: u32,
 ) -> io::Result<()> {
     let mut c = from;
-    let mut left = n;
-    while 0 < left {
-        left -= 1;
+    for _ in 0..n {
         let step = c.next(lengths, bins, heads, names, cells);
-        let answer = step.answer;
-        let after = step.cursor;
-        c = after;
-        say::given(stdout, answer)?;
-        say::cursor(stdout, after)?;
-        let Given::Entry(_) = answer else {
+        c = step.cursor;
+        say::given(stdout, step.answer)?;
+        say::cursor(stdout, c)?;
+        let Ok(Some(_)) = step.answer else {
             return Ok(());
         };
     }
@@ -90,21 +86,17 @@ pub fn walk(
     table: u32,
     n: u32,
 ) -> io::Result<()> {
-    let start = Cursor::start(lengths, bins, heads, names, cells, table);
-    let answer = start.answer;
-    let c = start.cursor;
     print::number(stdout, b"walk from ", table)?;
-    match answer {
-        Started::Made => {
+    match Cursor::start(lengths, bins, heads, names, cells, table) {
+        Ok(c) => {
             say::cursor(stdout, c)?;
-            steps(stdout, lengths, bins, heads, names, cells, c, n)?;
+            steps(stdout, lengths, bins, heads, names, cells, c, n)
         }
-        _ => {
-            say::refused(stdout, answer)?;
-            say::cursor(stdout, c)?;
+        Err(refusal) => {
+            say::refused(stdout, refusal)?;
+            say::cursor(stdout, Cursor::blank())
         }
     }
-    Ok(())
 }
 
 // A cursor of these numbers.

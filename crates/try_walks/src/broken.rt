@@ -24,17 +24,10 @@ fn word(
 }
 
 fn small_words(stdout: Stdout, heads: &[u32], names: &[u64], cells: &[u32]) -> io::Result<()> {
-    word(stdout, 0, heads, names, cells, 1)?;
-    word(stdout, 1, heads, names, cells, 1)?;
-    word(stdout, 2, heads, names, cells, 1)?;
-    word(stdout, 3, heads, names, cells, 1)?;
-    word(stdout, 4, heads, names, cells, 1)?;
-    word(stdout, 4097, heads, names, cells, 1)?;
-    word(stdout, 4098, heads, names, cells, 1)?;
-    word(stdout, 4099, heads, names, cells, 1)?;
-    word(stdout, 8193, heads, names, cells, 1)?;
-    word(stdout, 8194, heads, names, cells, 1)?;
-    word(stdout, NULL, heads, names, cells, 1)
+    for w in [0, 1, 2, 3, 4, 4097, 4098, 4099, 8193, 8194, NULL] {
+        word(stdout, w, heads, names, cells, 1)?;
+    }
+    Ok(())
 }
 
 // A bin's word at each edge of what two slots and one header, whose tree is slot 1, allow. Moved is in the last table.
@@ -55,18 +48,17 @@ fn wide_cells() -> [u32; 28672] {
 // The first and the last of 4,096 headers have the last slot as root and first.
 fn wide_heads() -> [u32; 12288] {
     let mut heads = [NULL; 12288];
-    heads[0] = 4095;
-    heads[1] = 4095;
-    heads[12285] = 4095;
-    heads[12286] = 4095;
+    for word in [0, 1, 12285, 12286] {
+        heads[word] = 4095;
+    }
     heads
 }
 
 fn wide_words(stdout: Stdout, heads: &[u32], names: &[u64], cells: &[u32]) -> io::Result<()> {
-    word(stdout, 4097, heads, names, cells, 0)?;
-    word(stdout, 4098, heads, names, cells, 0)?;
-    word(stdout, 8193, heads, names, cells, 0)?;
-    word(stdout, 8194, heads, names, cells, 0)
+    for w in [4097, 4098, 8193, 8194] {
+        word(stdout, w, heads, names, cells, 0)?;
+    }
+    Ok(())
 }
 
 // The words that name the last slot, the first header, the last header, and none.
@@ -96,11 +88,10 @@ fn header(stdout: Stdout, root: u32, first: u32) -> io::Result<()> {
 // Lookup reads a header's root alone, the walk its first alone: a null root, a null first, and each out of range.
 pub fn headers(stdout: Stdout) -> io::Result<()> {
     print::say(stdout, b"headers\n")?;
-    header(stdout, 0, 0)?;
-    header(stdout, 0, NULL)?;
-    header(stdout, NULL, 0)?;
-    header(stdout, 1, 0)?;
-    header(stdout, 0, 1)
+    for (root, first) in [(0, 0), (0, NULL), (NULL, 0), (1, 0), (0, 1)] {
+        header(stdout, root, first)?;
+    }
+    Ok(())
 }
 
 // A list of two, from slot 0, the last of which has this next link.
@@ -137,8 +128,8 @@ fn linked(stdout: Stdout, next: u32) -> io::Result<()> {
 // A list that ends, one that goes round, and one whose link names no slot. A step reads one slot, so a ring is walked for ever.
 pub fn links(stdout: Stdout) -> io::Result<()> {
     print::say(stdout, b"lists\n")?;
-    linked(stdout, NULL)?;
-    linked(stdout, 0)?;
-    linked(stdout, 1)?;
-    linked(stdout, 2)
+    for next in [NULL, 0, 1, 2] {
+        linked(stdout, next)?;
+    }
+    Ok(())
 }

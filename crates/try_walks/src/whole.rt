@@ -26,22 +26,18 @@ fn hang(cells: &mut [u32], p: u32, f: u32, c: u32) {
 // Two slots, each a list of one.
 pub fn two() -> [u32; 14] {
     let mut cells = [NULL; 14];
-    fill(&mut cells, 0, BLACK);
-    fill(&mut cells, 1, BLACK);
+    for i in 0..2 {
+        fill(&mut cells, i, BLACK);
+    }
     cells
 }
 
 // Eight slots, each a list of one.
 fn eight() -> [u32; 56] {
     let mut cells = [NULL; 56];
-    fill(&mut cells, 0, BLACK);
-    fill(&mut cells, 1, BLACK);
-    fill(&mut cells, 2, BLACK);
-    fill(&mut cells, 3, BLACK);
-    fill(&mut cells, 4, BLACK);
-    fill(&mut cells, 5, BLACK);
-    fill(&mut cells, 6, BLACK);
-    fill(&mut cells, 7, BLACK);
+    for i in 0..8 {
+        fill(&mut cells, i, BLACK);
+    }
     cells
 }
 
@@ -56,10 +52,10 @@ fn ask_worked(
     walk(stdout, lengths, bins, heads, names, cells, 0, 20)?;
     walk(stdout, lengths, bins, heads, names, cells, 1, 20)?;
     walk(stdout, lengths, bins, heads, names, cells, 2, 20)?;
-    look(stdout, lengths, bins, heads, names, cells, 0, 6, 5)?;
-    look(stdout, lengths, bins, heads, names, cells, 0, 6, 4)?;
-    look(stdout, lengths, bins, heads, names, cells, 1, 1, 0)?;
-    look(stdout, lengths, bins, heads, names, cells, 2, 1, 0)
+    for (table, hash, key) in [(0, 6, 5), (0, 6, 4), (1, 1, 0), (2, 1, 0)] {
+        look(stdout, lengths, bins, heads, names, cells, table, hash, key)?;
+    }
+    Ok(())
 }
 
 // Lengths 2, 4, 8; Moved: both bins of table 0, bins 0 and 2 of table 1; a list of one in each other bin that the walk comes to. Two slots
@@ -76,13 +72,12 @@ pub fn worked(stdout: Stdout) -> io::Result<()> {
 // A list of three from slot 0, a tree of three whose root is slot 4 and whose first is slot 5, and a list of one.
 fn mixed_cells() -> [u32; 49] {
     let mut cells = [NULL; 49];
-    fill(&mut cells, 0, BLACK);
-    fill(&mut cells, 1, BLACK);
-    fill(&mut cells, 2, BLACK);
-    fill(&mut cells, 3, RED);
-    fill(&mut cells, 4, BLACK);
-    fill(&mut cells, 5, RED);
-    fill(&mut cells, 6, BLACK);
+    for (i, state) in [BLACK, BLACK, BLACK, RED, BLACK, RED, BLACK]
+        .into_iter()
+        .enumerate()
+    {
+        fill(&mut cells, i as u32, state);
+    }
     put(&mut cells, 0, NEXT, 1);
     put(&mut cells, 1, NEXT, 2);
     hang(&mut cells, 4, LEFT, 3);
@@ -101,12 +96,17 @@ fn ask_mixed(
     cells: &[u32],
 ) -> io::Result<()> {
     walk(stdout, lengths, bins, heads, names, cells, 0, 20)?;
-    look(stdout, lengths, bins, heads, names, cells, 0, 8, 2)?;
-    look(stdout, lengths, bins, heads, names, cells, 0, 8, 3)?;
-    look(stdout, lengths, bins, heads, names, cells, 0, 9, 5)?;
-    look(stdout, lengths, bins, heads, names, cells, 0, 9, 4)?;
-    look(stdout, lengths, bins, heads, names, cells, 0, 2, 0)?;
-    look(stdout, lengths, bins, heads, names, cells, 0, 3, 6)
+    for (table, hash, key) in [
+        (0, 8, 2),
+        (0, 8, 3),
+        (0, 9, 5),
+        (0, 9, 4),
+        (0, 2, 0),
+        (0, 3, 6),
+    ] {
+        look(stdout, lengths, bins, heads, names, cells, table, hash, key)?;
+    }
+    Ok(())
 }
 
 // One table of four bins: a list of three, a tree of three, nothing, and a list of one.
@@ -150,12 +150,17 @@ fn ask_deep(
 ) -> io::Result<()> {
     walk(stdout, lengths, bins, heads, names, cells, 0, 20)?;
     walk(stdout, lengths, bins, heads, names, cells, 6, 20)?;
-    look(stdout, lengths, bins, heads, names, cells, 0, 0, 0)?;
-    look(stdout, lengths, bins, heads, names, cells, 0, 64, 7)?;
-    look(stdout, lengths, bins, heads, names, cells, 0, 32, 6)?;
-    look(stdout, lengths, bins, heads, names, cells, 7, 64, 7)?;
-    look(stdout, lengths, bins, heads, names, cells, 0, 128, 0)?;
-    look(stdout, lengths, bins, heads, names, cells, 0, 64, 6)
+    for (table, hash, key) in [
+        (0, 0, 0),
+        (0, 64, 7),
+        (0, 32, 6),
+        (7, 64, 7),
+        (0, 128, 0),
+        (0, 64, 6),
+    ] {
+        look(stdout, lengths, bins, heads, names, cells, table, hash, key)?;
+    }
+    Ok(())
 }
 
 pub fn deep(stdout: Stdout) -> io::Result<()> {

@@ -2,7 +2,8 @@
 // header and its sizes.
 use crate::finder::found;
 use crate::rows::sum;
-use night::why::{Explanation, why};
+use night::account::Account;
+use night::why::why;
 use slots::{NULL, put_word, word};
 
 // A kind of damage has a line of so many counts: tried, sound, T1 by a slot, T1 by the header, T2 to T8, differences.
@@ -13,41 +14,31 @@ const DIFFERENCES: u32 = 11;
 // The line of all damages, behind those of the kinds.
 pub const ALL: u32 = 28;
 
-// The number told and the eight words of shown; 98 for a refusal.
-fn told(names: &[u64], cells: &[u32], head: &[u32], sizes: &[u32]) -> [u32; 9] {
-    let Explanation::Told(a) = why(names, cells, head, sizes) else {
-        return [98; 9];
-    };
-    let one = a.one;
-    let two = a.two;
-    [
-        a.rule, a.slot, a.other, one.last, one.side, one.blacks, two.last, two.side, two.blacks,
-    ]
-}
-
-// Whether two answers are the same word by word.
-fn agree(a: [u32; 9], b: [u32; 9]) -> bool {
-    let mut k: usize = 0;
-    while k < 9 {
-        if a[k] != b[k] {
-            return false;
-        }
-        k += 1;
+// The number told and the eight words of shown; none for a refusal.
+fn told(names: &[u64], cells: &[u32], head: &[u32], sizes: &[u32]) -> Option<[u32; 9]> {
+    match why(names, cells, head, sizes) {
+        Ok(
+            Account {
+                rule,
+                slot,
+                other,
+                one,
+                two,
+            },
+        ) => Some([
+            rule, slot, other, one.last, one.side, one.blacks, two.last, two.side, two.blacks,
+        ]),
+        Err(_) => None,
     }
-    true
 }
 
 // The count of what was told: T1 has one for slots and one for the header; what is no rule's number has none.
 fn column(rule: u32, slot: u32) -> u32 {
     match rule {
         0 => 1,
-        1 => {
-            if slot == NULL {
-                return 3;
-            }
-            2
-        }
-        2 | 3 | 4 | 5 | 6 | 7 | 8 => rule + 2,
+        1 if slot == NULL => 3,
+        1 => 2,
+        2..=8 => rule + 2,
         _ => NULL,
     }
 }
@@ -60,11 +51,11 @@ fn count(counts: &mut [u32], line: u32, column: u32) {
 }
 
 // Counts an answer of why beside that of the finder in a line.
-fn note(counts: &mut [u32], line: u32, ours: [u32; 9], theirs: [u32; 9]) {
+fn note(counts: &mut [u32], line: u32, ours: Option<[u32; 9]>, theirs: [u32; 9]) {
     count(counts, line, 0);
     let kind = column(theirs[0], theirs[1]);
     count(counts, line, kind);
-    if !agree(ours, theirs) {
+    if ours != Some(theirs) {
         count(counts, line, DIFFERENCES);
     }
 }

@@ -1,5 +1,5 @@
 // Why a tree is not sound: the first broken rule, and the lowest slot that shows it. Of the library it has the reads of a word alone.
-use crate::rows::{below, used};
+use crate::rows::{below, is_used};
 use crate::tests::{
     ends_agree, head_fine, is_chain, is_tree, rises, shows1, shows3, shows5, shows7, shows8,
 };
@@ -14,16 +14,12 @@ fn tells(rule: u32, slot: u32) -> [u32; 9] {
 // T3, T5, T6 and T7 at slot i, which is used.
 fn shows_used(rule: u32, cells: &[u32], head: &[u32], i: u32) -> bool {
     let root = word(head, ROOT, NULL);
-    if rule == 3 {
-        return shows3(cells, root, i);
+    match rule {
+        3 => shows3(cells, root, i),
+        5 => shows5(cells, root, i),
+        6 => parts(cells, i),
+        _ => shows7(cells, word(head, FIRST, NULL), i),
     }
-    if rule == 5 {
-        return shows5(cells, root, i);
-    }
-    if rule == 6 {
-        return parts(cells, i);
-    }
-    shows7(cells, word(head, FIRST, NULL), i)
 }
 
 // A rule is broken at slot i.
@@ -36,68 +32,71 @@ fn shows(
     n: u32,
     i: u32,
 ) -> bool {
-    if rule == 1 {
-        return shows1(names, cells, n, i);
+    match rule {
+        1 => shows1(names, cells, n, i),
+        8 => shows8(cells, sizes, i),
+        _ => is_used(cells, i) && shows_used(rule, cells, head, i),
     }
-    if rule == 8 {
-        return shows8(cells, sizes, i);
-    }
-    used(cells, i) == 1 && shows_used(rule, cells, head, i)
 }
 
-// The lowest slot that shows a rule, null where none does.
-fn lowest(rule: u32, names: &[u64], cells: &[u32], head: &[u32], sizes: &[u32], n: u32) -> u32 {
-    let mut i: u32 = 0;
-    while i < n {
+// The lowest slot that shows a rule, none where no slot does.
+fn lowest(
+    rule: u32,
+    names: &[u64],
+    cells: &[u32],
+    head: &[u32],
+    sizes: &[u32],
+    n: u32,
+) -> Option<u32> {
+    for i in 0..n {
         if shows(rule, names, cells, head, sizes, n, i) {
-            return i;
+            return Some(i);
         }
-        i += 1;
     }
-    NULL
+    None
 }
 
 // A rule of T3, T6 and T7 holds, by the words of section 2.
 fn holds(rule: u32, cells: &[u32], head: &[u32], n: u32) -> bool {
     let root = word(head, ROOT, NULL);
-    if rule == 3 {
-        return is_tree(cells, n, root);
+    match rule {
+        3 => is_tree(cells, n, root),
+        6 => is_even(cells, root),
+        _ => is_chain(cells, n, word(head, FIRST, NULL)),
     }
-    if rule == 6 {
-        return is_even(cells, root);
-    }
-    is_chain(cells, n, word(head, FIRST, NULL))
 }
 
 // T5 and T8 hold where no slot shows them broken; the others are asked whole, and where that is not what the slots show, no rule's number
 // is told.
-fn told_by(rule: u32, cells: &[u32], head: &[u32], n: u32, i: u32) -> [u32; 9] {
-    let shown = i != NULL;
-    let own = rule == 3 || rule == 6 || rule == 7;
-    if own && shown == holds(rule, cells, head, n) {
-        return tells(99, NULL);
+fn told_by(rule: u32, cells: &[u32], head: &[u32], n: u32, shown: Option<u32>) -> Option<[u32; 9]> {
+    let whole = rule == 3 || rule == 6 || rule == 7;
+    if whole && shown.is_some() == holds(rule, cells, head, n) {
+        return Some(tells(99, NULL));
     }
-    if shown {
-        return tells(rule, i);
-    }
-    tells(0, NULL)
+    Some(tells(rule, shown?))
 }
 
 // T1 is shown by a slot, or else by the header.
-fn first_rule(names: &[u64], cells: &[u32], head: &[u32], sizes: &[u32], n: u32) -> [u32; 9] {
-    let i = lowest(1, names, cells, head, sizes, n);
-    if i == NULL && head_fine(cells, head, n) {
-        return tells(0, NULL);
+fn first_rule(
+    names: &[u64],
+    cells: &[u32],
+    head: &[u32],
+    sizes: &[u32],
+    n: u32,
+) -> Option<[u32; 9]> {
+    match lowest(1, names, cells, head, sizes, n) {
+        Some(i) => Some(tells(1, i)),
+        None if head_fine(cells, head, n) => None,
+        None => Some(tells(1, NULL)),
     }
-    tells(1, i)
 }
 
 // T2 is shown by the header.
-fn second_rule(head: &[u32]) -> [u32; 9] {
+fn second_rule(head: &[u32]) -> Option<[u32; 9]> {
     if ends_agree(head) {
-        return tells(0, NULL);
+        return None;
     }
-    tells(2, NULL)
+    Some(tells(2, NULL))
 }
 
 // Two neighbours in order.
@@ -107,52 +106,29 @@ struct Two {
     other: u32,
 }
 
-// The lower of two slots in order whose pairs do not rise and of those found so far. Null is above all slots.
-fn lower(names: &[u64], found: Two, i: u32, j: u32) -> Two {
-    if i < found.slot && !rises(names, i, j) {
-        return Two { slot: i, other: j };
+// The lower of two slots in order whose pairs do not rise and of those found so far.
+fn lower(names: &[u64], found: Option<Two>, slot: u32, other: u32) -> Option<Two> {
+    match found {
+        Some(two) if two.slot <= slot => found,
+        _ if rises(names, slot, other) => found,
+        _ => Some(Two { slot, other }),
     }
-    found
 }
 
 // The lowest slot of a row whose pair is not below that of the next, and that next.
-fn lowest_fall(names: &[u64], row: &[u32], len: u32) -> Two {
-    let mut found = Two {
-        slot: NULL,
-        other: NULL,
-    };
-    let mut k: u32 = 1;
-    while k < len {
-        found = lower(
-            names,
-            found,
-            word(row, k as usize - 1, NULL),
-            word(row, k as usize, NULL),
-        );
-        k += 1;
+fn lowest_fall(names: &[u64], row: &[u32]) -> Option<Two> {
+    let mut found = None;
+    for (slot, other) in row.iter().zip(row.iter().skip(1)) {
+        found = lower(names, found, *slot, *other);
     }
     found
 }
 
 // T4 has two slots.
-fn fourth_rule(names: &[u64], cells: &[u32], head: &[u32]) -> [u32; 9] {
+fn fourth_rule(names: &[u64], cells: &[u32], head: &[u32]) -> Option<[u32; 9]> {
     let row = below(cells, word(head, ROOT, NULL));
-    let slots = row.slots;
-    let found = lowest_fall(names, &slots, row.len);
-    if found.slot == NULL {
-        return tells(0, NULL);
-    }
-    [
-        4,
-        found.slot,
-        found.other,
-        NULL,
-        NULL,
-        NULL,
-        NULL,
-        NULL,
-        NULL,
-    ]
+    let Two { slot, other } = lowest_fall(names, row.slots())?;
+    Some([4, slot, other, NULL, NULL, NULL, NULL, NULL, NULL])
 }
 
 // T6 has two ways.
@@ -168,30 +144,33 @@ fn with_ways(told: [u32; 9], cells: &[u32], head: &[u32]) -> [u32; 9] {
     ]
 }
 
-// What is told of one rule: its number and what shows it where it is broken, else 0.
-fn asked(rule: u32, names: &[u64], cells: &[u32], head: &[u32], sizes: &[u32], n: u32) -> [u32; 9] {
-    if rule == 1 {
-        return first_rule(names, cells, head, sizes, n);
+// What is told of one rule where it is broken: its number and what shows it.
+fn asked(
+    rule: u32,
+    names: &[u64],
+    cells: &[u32],
+    head: &[u32],
+    sizes: &[u32],
+    n: u32,
+) -> Option<[u32; 9]> {
+    match rule {
+        1 => first_rule(names, cells, head, sizes, n),
+        2 => second_rule(head),
+        4 => fourth_rule(names, cells, head),
+        _ => {
+            let shown = lowest(rule, names, cells, head, sizes, n);
+            let told = told_by(rule, cells, head, n, shown)?;
+            Some(with_ways(told, cells, head))
+        }
     }
-    if rule == 2 {
-        return second_rule(head);
-    }
-    if rule == 4 {
-        return fourth_rule(names, cells, head);
-    }
-    let i = lowest(rule, names, cells, head, sizes, n);
-    with_ways(told_by(rule, cells, head, n, i), cells, head)
 }
 
 // The number told and the eight words of shown, of a tree of n slots.
 pub fn found(names: &[u64], cells: &[u32], head: &[u32], sizes: &[u32], n: u32) -> [u32; 9] {
-    let mut rule: u32 = 1;
-    while rule < 9 {
-        let told = asked(rule, names, cells, head, sizes, n);
-        if told[0] != 0 {
+    for rule in 1..9 {
+        if let Some(told) = asked(rule, names, cells, head, sizes, n) {
             return told;
         }
-        rule += 1;
     }
     tells(0, NULL)
 }

@@ -11,6 +11,16 @@ pub struct Row {
     pub len: u32,
 }
 
+impl Row {
+    // The slots alone.
+    pub fn slots(&self) -> &[u32] {
+        match self.slots.get(..self.len as usize) {
+            Some(slots) => slots,
+            None => &self.slots,
+        }
+    }
+}
+
 // The sum of two counts, which do not come near 32 bits.
 pub fn sum(a: u32, b: u32) -> u32 {
     std::num::wrapping_add_u32(a, b)
@@ -18,18 +28,12 @@ pub fn sum(a: u32, b: u32) -> u32 {
 
 // 1 if the two are the same, 0 if not.
 pub fn same(a: u32, b: u32) -> u32 {
-    if a == b {
-        return 1;
-    }
-    0
+    (a == b) as u32
 }
 
-// 1 if slot i is not free, 0 if it is.
-pub fn used(cells: &[u32], i: u32) -> u32 {
-    if get(cells, i, STATE) == FREE {
-        return 0;
-    }
-    1
+// Slot i is not free.
+pub fn is_used(cells: &[u32], i: u32) -> bool {
+    get(cells, i, STATE) != FREE
 }
 
 // Writes the slots below a link, read left, self, right, into the row from a position on: the position behind them. No further than so
@@ -62,37 +66,30 @@ pub fn below(cells: &[u32], link: u32) -> Row {
 pub fn chain(cells: &[u32], first: u32) -> Row {
     let mut slots = [NULL; 16];
     let mut at = first;
-    let mut len: u32 = 0;
-    while len <= MOST {
+    for len in 0..=MOST {
         if at == NULL {
             return Row { slots, len };
         }
         put_word(&mut slots, len as usize, at);
         at = get(cells, at, NEXT);
-        len += 1;
     }
-    Row { slots, len }
+    Row {
+        slots,
+        len: MOST + 1,
+    }
 }
 
 // How many times slot i stands in a row.
-fn times(row: &[u32], len: u32, i: u32) -> u32 {
-    let mut count: u32 = 0;
-    let mut k: u32 = 0;
-    while k < len {
-        count = sum(count, same(word(row, k as usize, NULL), i));
-        k += 1;
-    }
-    count
+fn times(row: &[u32], i: u32) -> usize {
+    row.iter().filter(|slot| **slot == i).count()
 }
 
 // The slots of a row are the used ones of n, each once.
-pub fn each_once(cells: &[u32], n: u32, row: &[u32], len: u32) -> bool {
-    let mut i: u32 = 0;
-    while i < n {
-        if times(row, len, i) != used(cells, i) {
+pub fn each_once(cells: &[u32], n: u32, row: &[u32]) -> bool {
+    for i in 0..n {
+        if times(row, i) != is_used(cells, i) as usize {
             return false;
         }
-        i += 1;
     }
     true
 }
@@ -107,10 +104,8 @@ fn mark_slot(cells: &[u32], f: u32, marks: &mut [u32], i: u32) {
 
 // Marks each slot at which the field f names a marked one.
 fn mark_slots(cells: &[u32], f: u32, marks: &mut [u32]) {
-    let mut i: u32 = 0;
-    while i < MOST {
+    for i in 0..MOST {
         mark_slot(cells, f, marks, i);
-        i += 1;
     }
 }
 
@@ -118,10 +113,8 @@ fn mark_slots(cells: &[u32], f: u32, marks: &mut [u32]) {
 pub fn leading(cells: &[u32], f: u32, x: u32) -> [u32; 7] {
     let mut marks = [0u32; 7];
     put_word(&mut marks, x as usize, 1);
-    let mut rounds: u32 = 0;
-    while rounds < MOST {
+    for _ in 0..MOST {
         mark_slots(cells, f, &mut marks);
-        rounds += 1;
     }
     marks
 }

@@ -1,5 +1,5 @@
 // The rules as section 2 has them, and what shows each broken at a slot as section 13 has it.
-use crate::rows::{below, chain, each_once, leading, same, sum, used};
+use crate::rows::{below, chain, each_once, is_used, leading, same, sum};
 use slots::{
     COUNT, FIRST, FREE, HASH, KEY, LEFT, NEXT, NULL, PARENT, PLACE, PREV, RED, RIGHT, ROOT, STATE,
     get, name, word,
@@ -12,12 +12,10 @@ fn link_fine(link: u32, n: u32) -> bool {
 
 // The five links of slot i. Of no slots, they are null.
 fn links_fine(cells: &[u32], i: u32, n: u32) -> bool {
-    let mut f = PARENT;
-    while f <= NEXT {
+    for f in PARENT..=NEXT {
         if !link_fine(get(cells, i, f), n) {
             return false;
         }
-        f += 1;
     }
     true
 }
@@ -42,10 +40,8 @@ pub fn shows1(names: &[u64], cells: &[u32], n: u32, i: u32) -> bool {
 // How many of n slots are used.
 fn used_slots(cells: &[u32], n: u32) -> u32 {
     let mut count: u32 = 0;
-    let mut i: u32 = 0;
-    while i < n {
-        count = sum(count, used(cells, i));
-        i += 1;
+    for i in 0..n {
+        count = sum(count, is_used(cells, i) as u32);
     }
     count
 }
@@ -79,13 +75,11 @@ fn has_children(cells: &[u32], i: u32) -> bool {
 }
 
 // The children of each slot of a row point back.
-fn all_point_back(cells: &[u32], row: &[u32], len: u32) -> bool {
-    let mut k: u32 = 0;
-    while k < len {
-        if !has_children(cells, word(row, k as usize, NULL)) {
+fn all_point_back(cells: &[u32], row: &[u32]) -> bool {
+    for slot in row {
+        if !has_children(cells, *slot) {
             return false;
         }
-        k += 1;
     }
     true
 }
@@ -93,10 +87,8 @@ fn all_point_back(cells: &[u32], row: &[u32], len: u32) -> bool {
 // T3: the root's parent is null, each child points back, and the slots reached from the root are the used ones, each once.
 pub fn is_tree(cells: &[u32], n: u32, root: u32) -> bool {
     let row = below(cells, root);
-    let slots = row.slots;
-    get(cells, root, PARENT) == NULL
-        && each_once(cells, n, &slots, row.len)
-        && all_point_back(cells, &slots, row.len)
+    let slots = row.slots();
+    get(cells, root, PARENT) == NULL && each_once(cells, n, slots) && all_point_back(cells, slots)
 }
 
 // How many of the two children of slot p are slot i.
@@ -151,16 +143,14 @@ pub fn shows5(cells: &[u32], root: u32, i: u32) -> bool {
         && (i == root || is_red(cells, get(cells, i, LEFT)) || is_red(cells, get(cells, i, RIGHT)))
 }
 
-// The prev of each slot of a row is the one before it, null at the first. There is none before the first, and so no word.
-fn is_reverse(cells: &[u32], row: &[u32], len: u32) -> bool {
-    let mut k: u32 = 0;
-    while k < len {
-        let i = word(row, k as usize, NULL);
-        let before = word(row, std::num::wrapping_sub_u32(k, 1) as usize, NULL);
-        if get(cells, i, PREV) != before {
+// The prev of each slot of a row is the one before it, null at the first.
+fn is_reverse(cells: &[u32], row: &[u32]) -> bool {
+    let mut before = NULL;
+    for slot in row {
+        if get(cells, *slot, PREV) != before {
             return false;
         }
-        k += 1;
+        before = *slot;
     }
     true
 }
@@ -168,8 +158,8 @@ fn is_reverse(cells: &[u32], row: &[u32], len: u32) -> bool {
 // T7: from first, next visits each used slot once, prev is its reverse, null at first.
 pub fn is_chain(cells: &[u32], n: u32, first: u32) -> bool {
     let row = chain(cells, first);
-    let slots = row.slots;
-    each_once(cells, n, &slots, row.len) && is_reverse(cells, &slots, row.len)
+    let slots = row.slots();
+    each_once(cells, n, slots) && is_reverse(cells, slots)
 }
 
 // T7 at slot i, which is used.
@@ -183,7 +173,7 @@ pub fn shows7(cells: &[u32], first: u32, i: u32) -> bool {
 // T8 at slot i: its number is that of the slots in its row.
 pub fn shows8(cells: &[u32], sizes: &[u32], i: u32) -> bool {
     let size = word(sizes, i as usize, 0);
-    if used(cells, i) == 0 {
+    if !is_used(cells, i) {
         return size != 0;
     }
     let row = below(cells, i);

@@ -5,7 +5,7 @@ use crate::words::{try_names, try_words};
 use index::fresh::fresh;
 use index::insert::insert;
 use index::remove::remove;
-use slots::{NULL, put_word, wide, word};
+use slots::put_word;
 
 // The hash of a name by its number. Two neighbours have one, and none is 0.
 fn hash_of(x: u64) -> u64 {
@@ -27,11 +27,8 @@ fn put_in(
     order: &[u64],
     used: u32,
 ) {
-    let mut k: u32 = 0;
-    while k < used {
-        let x = wide(order, k as usize);
-        insert(names, cells, head, sizes, lines, hash_of(x), key_of(x), k);
-        k += 1;
+    for (k, x) in (0..used).zip(order) {
+        let _ = insert(names, cells, head, sizes, lines, hash_of(*x), key_of(*x), k);
     }
 }
 
@@ -45,20 +42,15 @@ fn take_out(
     order: &[u64],
     taken: u32,
 ) {
-    let mut k: u32 = 0;
-    while k < taken {
-        let x = wide(order, k as usize);
-        remove(names, cells, head, sizes, lines, hash_of(x), key_of(x));
-        k += 1;
+    for x in order.iter().take(taken as usize) {
+        let _ = remove(names, cells, head, sizes, lines, hash_of(*x), key_of(*x));
     }
 }
 
 // Writes words behind the first so many of others: how many there are then.
 fn lay(from: &[u32], to: &mut [u32], at: usize) -> usize {
-    let mut k = 0;
-    while k < from.len() {
-        put_word(to, std::num::wrapping_add_usize(at, k), word(from, k, NULL));
-        k += 1;
+    for (k, x) in from.iter().enumerate() {
+        put_word(to, std::num::wrapping_add_usize(at, k), *x);
     }
     std::num::wrapping_add_usize(at, from.len())
 }
@@ -86,7 +78,7 @@ fn try_four(counts: &mut [u32], order: &[u64], used: u32) {
     let mut sizes = [0u32; 4];
     let mut lines = [0u64; 97];
     let mut words = [0u32; 35];
-    fresh(&mut names, &mut cells, &mut head, &mut sizes, &mut lines);
+    let _ = fresh(&mut names, &mut cells, &mut head, &mut sizes, &mut lines);
     put_in(
         &mut names, &mut cells, &mut head, &mut sizes, &mut lines, order, used,
     );
@@ -102,7 +94,7 @@ fn try_seven(counts: &mut [u32], order: &[u64], used: u32, taken: u32) {
     let mut sizes = [0u32; 7];
     let mut lines = [0u64; 97];
     let mut words = [0u32; 59];
-    fresh(&mut names, &mut cells, &mut head, &mut sizes, &mut lines);
+    let _ = fresh(&mut names, &mut cells, &mut head, &mut sizes, &mut lines);
     put_in(
         &mut names, &mut cells, &mut head, &mut sizes, &mut lines, order, used,
     );
@@ -115,10 +107,8 @@ fn try_seven(counts: &mut [u32], order: &[u64], used: u32, taken: u32) {
 
 // No name, one, two, three and four in four slots.
 pub fn try_small(counts: &mut [u32]) {
-    let mut used: u32 = 0;
-    while used < 5 {
+    for used in 0..5 {
         try_four(counts, &[3, 5, 1, 6], used);
-        used += 1;
     }
 }
 

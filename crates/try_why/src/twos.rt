@@ -205,10 +205,8 @@ fn twist(words: &mut [u32], n: u32, i: u32, j: u32, way: u32) {
 
 // Writes words over as many others.
 fn copy(from: &[u32], to: &mut [u32]) {
-    let mut k = 0;
-    while k < to.len() {
-        put_word(to, k, word(from, k, NULL));
-        k += 1;
+    for (to, from) in to.iter_mut().zip(from) {
+        *to = *from;
     }
 }
 
@@ -242,27 +240,21 @@ fn try_two(
 
 // Damages slot i with every other in a way.
 fn try_with(counts: &mut [u32], names: &mut [u64], words: &mut [u32], n: u32, i: u32, way: u32) {
-    let mut j: u32 = 0;
-    while j < n {
+    for j in 0..n {
         try_two(counts, names, words, n, i, j, way);
-        j += 1;
     }
 }
 
 // Every two slots, in both orders, damaged in a way.
 fn try_way(counts: &mut [u32], names: &mut [u64], words: &mut [u32], n: u32, way: u32) {
-    let mut i: u32 = 0;
-    while i < n {
+    for i in 0..n {
         try_with(counts, names, words, n, i, way);
-        i += 1;
     }
 }
 
 // Every two slots damaged in each way.
 pub fn try_twos(counts: &mut [u32], names: &mut [u64], words: &mut [u32], n: u32) {
-    let mut way: u32 = 0;
-    while way < WAYS {
+    for way in 0..WAYS {
         try_way(counts, names, words, n, way);
-        way += 1;
     }
 }

@@ -18,10 +18,8 @@ pub fn met(cells: &[u32], link: u32, depth: u32, greatest: bool) -> u32 {
     if link == NULL {
         return 0;
     }
-    let left = get(cells, link, LEFT);
-    let a = met(cells, left, depth - 1, greatest);
-    let right = get(cells, link, RIGHT);
-    let b = met(cells, right, depth - 1, greatest);
+    let a = met(cells, get(cells, link, LEFT), depth - 1, greatest);
+    let b = met(cells, get(cells, link, RIGHT), depth - 1, greatest);
     sum(either(a, b, greatest), same(get(cells, link, STATE), BLACK))
 }
 
@@ -39,8 +37,16 @@ pub fn parts(cells: &[u32], i: u32) -> bool {
         && met(cells, left, 8, false) != met(cells, right, 8, false)
 }
 
+// Whether a way goes as it should.
+#[derive(Clone, Copy, PartialEq, Eq)]
+enum Going {
+    NotYet,
+    SoFar,
+    Astray,
+}
+
 // A way as far as it has been gone: the link where it is, the sides to go on by as the bits of a number, the last slot and the side that it
-// was left by, the black slots met, and whether it goes as it should: 0 not yet, 1 so far, 2 not at all.
+// was left by, the black slots met, and whether it goes as it should.
 #[derive(Clone, Copy)]
 struct Trail {
     at: u32,
@@ -48,19 +54,19 @@ struct Trail {
     last: u32,
     side: u32,
     blacks: u32,
-    goes: u32,
+    goes: Going,
 }
 
 // Whether a trail goes as it should, by slot i and its side and from there on by left links, where slot at is left by a turn.
-fn goes_on(goes: u32, at: u32, turn: u32, i: u32, side: u32) -> u32 {
+fn goes_on(goes: Going, at: u32, turn: u32, i: u32, side: u32) -> Going {
     if at == i && turn == side {
-        return 1;
+        return Going::SoFar;
     }
     if at == i {
-        return 2;
+        return Going::Astray;
     }
-    if goes == 1 && turn == 1 {
-        return 2;
+    if goes == Going::SoFar && turn == 1 {
+        return Going::Astray;
     }
     goes
 }
@@ -86,28 +92,24 @@ fn followed(cells: &[u32], root: u32, sides: u32, i: u32, side: u32) -> Trail {
         last: NULL,
         side: NULL,
         blacks: 0,
-        goes: 0,
+        goes: Going::NotYet,
     };
-    let mut steps: u32 = 0;
-    while steps < 8 {
+    for _ in 0..8 {
         if t.at == NULL {
             return t;
         }
         t = step(cells, t, i, side);
-        steps += 1;
     }
     t
 }
 
 // Of all ways from the root the one by slot i and its side, and from there on by left links: its last slot, side, blacks.
 pub fn way_by(cells: &[u32], root: u32, i: u32, side: u32) -> [u32; 3] {
-    let mut sides: u32 = 0;
-    while sides < 256 {
+    for sides in 0..256 {
         let t = followed(cells, root, sides, i, side);
-        if t.goes == 1 {
+        if t.goes == Going::SoFar {
             return [t.last, t.side, t.blacks];
         }
-        sides += 1;
     }
     [NULL; 3]
 }

@@ -1,6 +1,6 @@
 // Every word of a tree set to each of several values, one at a time.
 use crate::ask::ask;
-use slots::{NULL, put_wide, put_word, wide, word};
+use slots::{NULL, put_word, word};
 
 // How many values a word is set to.
 const VALUES: usize = 10;
@@ -34,10 +34,10 @@ fn damaged_name(old: u64, n: u32, value: usize) -> u64 {
 
 // Damages word k of the names, asks, and restores it.
 fn try_name(counts: &mut [u32], names: &mut [u64], words: &[u32], n: u32, k: usize, value: usize) {
-    let old = wide(names, k);
-    put_wide(names, k, damaged_name(old, n, value));
+    let old = word(names, k, 0);
+    put_word(names, k, damaged_name(old, n, value));
     ask(counts, 1, names, words, n);
-    put_wide(names, k, old);
+    put_word(names, k, old);
 }
 
 // The line of word k: a field of a slot, a part of the header, or a size.
@@ -62,20 +62,18 @@ fn try_word(counts: &mut [u32], names: &[u64], words: &mut [u32], n: u32, k: usi
 
 // Damages each word of the names in each way.
 pub fn try_names(counts: &mut [u32], names: &mut [u64], words: &[u32], n: u32) {
-    let trials = 2 * n as usize * VALUES;
-    let mut trial: usize = 0;
-    while trial < trials {
-        try_name(counts, names, words, n, trial / VALUES, trial % VALUES);
-        trial += 1;
+    for k in 0..2 * n as usize {
+        for value in 0..VALUES {
+            try_name(counts, names, words, n, k, value);
+        }
     }
 }
 
 // Damages each other word in each way.
 pub fn try_words(counts: &mut [u32], names: &[u64], words: &mut [u32], n: u32) {
-    let trials = (8 * n as usize + 3) * VALUES;
-    let mut trial: usize = 0;
-    while trial < trials {
-        try_word(counts, names, words, n, trial / VALUES, trial % VALUES);
-        trial += 1;
+    for k in 0..8 * n as usize + 3 {
+        for value in 0..VALUES {
+            try_word(counts, names, words, n, k, value);
+        }
     }
 }

@@ -26,17 +26,17 @@ module _ (calls : List ℕ) where
 pub loop-k-init : goal.loop-k-init
 loop-k-init c = refl
 
-pub returns-then-not-fits : goal.returns-then-not-fits
-returns-then-not-fits c =
+pub returns-then-not-call_fits : goal.returns-then-not-call_fits
+returns-then-not-call_fits c =
     let a = c.args in
-    fit_not a.calls.now c.loop-k.k c.loop-k-test.true c.call_fits-fits.ensures
-    c.if-not-fits.true
+    fit_not a.calls.now c.loop-k.k c.loop-k-test.true c.call_fits.ensures
+    c.if-not-call_fits.true
     ∙ c.loop-k.invariant
 
 pub loop-k-preserved : goal.loop-k-preserved
 loop-k-preserved c =
     let a = c.args in
-    fit_on a.calls.now c.loop-k.k c.loop-k-test.true c.call_fits-fits.ensures c.if-not-fits.false
+    fit_on a.calls.now c.loop-k.k c.loop-k-test.true c.call_fits.ensures c.if-not-call_fits.false
     ∙ c.loop-k.invariant
 
 pub returns : goal.returns

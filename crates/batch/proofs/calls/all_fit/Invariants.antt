@@ -5,6 +5,3 @@ use Rattle.batch.proofs.calls.all_fit.Given as goal
 
 abbrev pub invariant-loop-k : goal.invariant-loop-k
 invariant-loop-k l = all_fit l.k l.calls ≡ all_fit l.m l.calls
-
-abbrev pub decreases-loop-k : goal.decreases-loop-k
-decreases-loop-k l = l.k

@@ -8,5 +8,5 @@ returns c =
     let a = c.args in
     made c.requires (insert_call a.hash a.key a.place) a.k
     (insert_is c.requires a.hash a.key a.place c.insert_sound-inserted.ensures) c.answer.ensures c.answer_word.ensures
-    c.put_wide.ensures
+    c.put_word.ensures
     c.raise.ensures

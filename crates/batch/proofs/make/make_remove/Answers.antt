@@ -8,5 +8,5 @@ returns c =
     let a = c.args in
     made c.requires (remove_call a.hash a.key) a.k (remove_is c.requires a.hash a.key c.remove_sound-removed.ensures)
     c.answer.ensures c.answer_word.ensures
-    c.put_wide.ensures
+    c.put_word.ensures
     c.lower.ensures

@@ -9,5 +9,5 @@ returns c =
     let a = c.args in
     made c.requires (replace_call a.hash a.key a.place) a.k
     (replace_is c.requires a.hash a.key a.place c.replace_sound-replaced.ensures) c.answer.ensures c.answer_word.ensures
-    c.put_wide.ensures
+    c.put_word.ensures
     refl

@@ -1,6 +1,6 @@
 -- The loop's invariant: the rest of the chunk, fed from here, comes to what the whole of it comes to.
 use mathlib.Core.Path.{◌≡◌}
-use Prim.Native.Nat.{◌-◌, ◌^◌, ◌<◌, ◌≤◌}
+use Prim.Native.Nat.{◌^◌, ◌<◌, ◌≤◌}
 use lib.ListN.{length, drop}
 use Rattle.script_rules.specs.Feeding.{lent_desk, feeding}
 use Rattle.console.specs.Meanings.{held_line}
@@ -13,15 +13,4 @@ invariant-loop-i l =
     (lent_desk
     (held_line l.initial.kept) l.initial.names l.initial.cells l.initial.head l.initial.sizes l.initial.lines l.initial.out 0))
     × (l.written ≤ length l.out)
-    × (l.i ≤ length l.chunk)
-    × (length l.names ≡ length l.initial.names)
-    × (length l.cells ≡ length l.initial.cells)
-    × (length l.head ≡ length l.initial.head)
-    × (length l.sizes ≡ length l.initial.sizes)
-    × (length l.lines ≡ length l.initial.lines)
-    × (length l.out ≡ length l.initial.out)
     × (l.written < 2 ^ 64)
-
-abbrev pub decreases-loop-i : goal.decreases-loop-i
-decreases-loop-i l =
-    length l.chunk - l.i

@@ -6,8 +6,8 @@ use Rattle.dump.proofs.answer.tell_index.Goals as goal
 
 pub returns-then-length-c : goal.returns-then-length-c
 returns-then-length-c c =
-    c.tell_tree.ensures ∙ ap (typed _) (within_lines _ _ c.wide-length.ensures c.if-length-c.true)
+    c.tell_tree.ensures ∙ ap (typed _) (within_lines _ _ c.word-length.ensures c.if-length-c.true)
 
 pub returns : goal.returns
 returns c =
-    c.fill.ensures ∙ ap (typed _) (past_lines _ _ c.wide-length.ensures c.if-length-c.false)
+    c.fill.ensures ∙ ap (typed _) (past_lines _ _ c.word-length.ensures c.if-length-c.false)

@@ -2,7 +2,7 @@
 use mathlib.Core.Path.{ap}
 use native.Mathlib.Omega.{arith}
 use Rattle.index_rules.specs.Index.{Outcome}
-use Rattle.dump.proofs.Writing.{dumped_saved, told-saved}
+use Rattle.dump.proofs.Writing.{dumped_saved, told-saved, kept_is}
 use Rattle.dump.proofs.rescue.save_into.Goals as goal
 
 pub shape_of-names2 : goal.shape_of-names2
@@ -24,9 +24,9 @@ shape_of-sizes2 c =
 pub returns : goal.returns
 returns c =
     let a = c.args in
-    let made = ap (λ (o : Outcome). o.left) c.fresh-made.ensures in (
-      dumped_saved a.names.now a.cells.now _ _ a.report.now _ made c.salvage-saved.ensures _ a.n a.c
+    let made = ap (λ (o : Outcome). o.left) c.fresh.ensures in (
+      dumped_saved a.names.now a.cells.now _ _ a.report.now _ made c.salvage.ensures _ a.n a.c
           c.write-dumped.ensures,
-      told-saved a.names.now a.cells.now _ _ a.report.now _ made c.salvage-saved.ensures _ a.n c.kept_of-kept.ensures
+      told-saved a.names.now a.cells.now _ _ a.report.now _ made c.salvage.ensures _ a.n (kept_is c.salvage.result c.unwrap_or-kept.ensures)
           c.tell_saved-said.ensures,
     )

@@ -11,6 +11,3 @@ invariant-loop-i l =
     (typed (lent_paper l.out l.end) (loss_texts (l.n - l.i) l.cells l.report l.i) ≡ typed (lent_paper l.initial.out l.at)
     (loss_texts l.n l.cells l.report 0))
     × (length l.out ≡ length l.initial.out)
-
-abbrev pub decreases-loop-i : goal.decreases-loop-i
-decreases-loop-i l = l.n - l.i

@@ -4,5 +4,5 @@ use Rattle.dump.proofs.write.write.Goals as goal
 
 pub returns : goal.returns
 returns c =
-    dump_written _ _ _ _ c.put_little-counted.ensures c.put_little-lined.ensures c.put_wides-named.ensures c.put_words-linked.ensures
-    c.put_words-headed.ensures c.put_words-sized.ensures c.put_wides.ensures
+    dump_written _ _ _ _ c.put_little-counted.ensures c.put_little-lined.ensures c.put_words-named.ensures c.put_words-linked.ensures
+    c.put_words-headed.ensures c.put_words-sized.ensures c.put_words.ensures

@@ -10,12 +10,12 @@ pub returns-in_default : goal.returns-in_default
 returns-in_default c =
     let a = c.args in
     let s = lent_set a.lengths.now a.bins.now a.heads.now a.names.now a.cells.now in
-    chunk_none s a.loader.now c.read_loader-said.ensures a.chunk.now (ap loader_at_of c.in_default.is)
+    chunk_none s a.loader.now c.read_loader.ensures a.chunk.now (ap loader_at_of c.in_default.is)
     c.packed.ensures
 
 pub returns : goal.returns
 returns c =
     let a = c.args in
     let s = lent_set a.lengths.now a.bins.now a.heads.now a.names.now a.cells.now in
-    chunk_some s a.loader.now c.read_loader-said.ensures (ap loader_at_of c.in-Known.is)
+    chunk_some s a.loader.now c.read_loader.ensures (ap loader_at_of c.in-Some.is)
     (c.answer_word.ensures ∙ ap answer_word c.answer.ensures) c.write_loader.ensures a.chunk.now c.chunk-load.ensures

@@ -5,7 +5,7 @@ use Rattle.exports.proofs.files.write_loader.Goals as goal
 
 pub returns : goal.returns
 returns c =
-    loader_put c.args.words.now (loader_words c.args.loader) c.put_wide.ensures c.put_wide-2.ensures
-    c.put_wide-3.ensures
-    c.put_wide-4.ensures c.put_wide-5.ensures c.put_wide-6.ensures c.put_wide-7.ensures c.word.ensures
-    c.put_wide-8.ensures
+    loader_put c.args.words.now (loader_words c.args.loader) c.put_word.ensures c.put_word-2.ensures
+    c.put_word-3.ensures
+    c.put_word-4.ensures c.put_word-5.ensures c.put_word-6.ensures c.put_word-7.ensures c.word.ensures
+    c.put_word-8.ensures

@@ -11,7 +11,7 @@ use Rattle.exports.proofs.frozen.oz_lookup.Goals as goal
 
 pub search_word-requires : goal.search_word-requires
 search_word-requires c =
-    let is = c.counted.ensures ∙ c.lookup-looked.ensures in
+    let is = c.counted_by.ensures ∙ c.lookup-looked.ensures in
     let a = c.args in
     let s = lent_set a.lengths.now a.bins.now a.heads.now a.names.now a.cells.now in
     record {
@@ -21,4 +21,4 @@ search_word-requires c =
     }
 
 pub returns : goal.returns
-returns c = c.search_word.ensures ∙ ap search_word (c.counted.ensures ∙ c.lookup-looked.ensures)
+returns c = c.search_word.ensures ∙ ap search_word (c.counted_by.ensures ∙ c.lookup-looked.ensures)

@@ -1,7 +1,7 @@
 -- A cursor of another length is refused; else the library starts a walk, and what it made is kept.
 use mathlib.Core.Path.{ap, ◌∙◌}
 use Rattle.word_rules.specs.Cursors.{started_cursor}
-use Rattle.exports.proofs.Keeping.{short, long}
+use Rattle.exports.proofs.Keeping.{short, long, start_kept}
 use Rattle.slots.specs.Answers.{answer_word}
 use Rattle.exports.proofs.frozen.oz_start.Goals as goal
 
@@ -14,4 +14,4 @@ unfolding started_cursor
 returns c =
     let a = c.args in
     long a.cursor.now c.if-cursor-ne11.false (c.answer_word-told.ensures ∙ ap answer_word c.answer.ensures)
-    c.start-start.ensures c.keep.ensures
+    (start_kept c.start-started.result c.blank.ensures c.unwrap_or.ensures ∙ c.start-started.ensures) c.keep.ensures

@@ -11,7 +11,7 @@ use Rattle.exports.proofs.reads.oz_find.Goals as goal
 
 pub search_word-requires : goal.search_word-requires
 search_word-requires c =
-    let is = c.counted.ensures ∙ c.find-found.ensures in
+    let is = c.counted_by.ensures ∙ c.find-found.ensures in
     let a = c.args in
     let t = unsized a.names.now a.cells.now a.head.now in
     record {
@@ -20,4 +20,4 @@ search_word-requires c =
     }
 
 pub returns : goal.returns
-returns c = c.search_word.ensures ∙ ap search_word (c.counted.ensures ∙ c.find-found.ensures)
+returns c = c.search_word.ensures ∙ ap search_word (c.counted_by.ensures ∙ c.find-found.ensures)

@@ -7,9 +7,9 @@ use Rattle.exports.proofs.uploads.oz_read_end.Goals as goal
 
 pub returns-in_default : goal.returns-in_default
 returns-in_default c =
-    end_none _ _ c.read_words-said.ensures (ap reader_at_of c.in_default.is) c.packed.ensures
+    end_none _ _ c.read_words.ensures (ap reader_at_of c.in_default.is) c.packed.ensures
 
 pub returns : goal.returns
 returns c =
-    end_some _ _ c.read_words-said.ensures (ap reader_at_of c.in-Known.is)
+    end_some _ _ c.read_words.ensures (ap reader_at_of c.in-Some.is)
     (c.answer_word.ensures ∙ ap answer_word c.answer.ensures) c.write_words.ensures c.end-read.ensures

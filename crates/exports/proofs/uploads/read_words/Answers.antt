@@ -3,6 +3,7 @@ use mathlib.Core.Path.{ap, ◌∙◌}
 use Prim.Native.Nat.{ℕ, ◌-◌}
 use Rattle.reader.specs.Meanings.{note_of}
 use Rattle.reader.specs.Notes.{note_at_of, note_at}
+use Rattle.exports.specs.Coded.{reader_at_of}
 use Rattle.exports.proofs.Reading.{not_eight, not_marked, wide_mark, no_note, has_note, eight_read}
 use Rattle.exports.proofs.uploads.read_words.Goals as goal
 
@@ -10,21 +11,22 @@ pub returns-then-words-ne8 : goal.returns-then-words-ne8
 returns-then-words-ne8 c = not_eight _ c.if-words-ne8.true
 
 pub returns-then-marked-eq0 : goal.returns-then-marked-eq0
-returns-then-marked-eq0 c = not_marked _ c.if-words-ne8.false c.wide-marked.ensures c.if-marked-eq0.true
+returns-then-marked-eq0 c = not_marked _ c.if-words-ne8.false c.word-marked.ensures c.if-marked-eq0.true
 
 pub returns-then-marked-gt4294967296 : goal.returns-then-marked-gt4294967296
 returns-then-marked-gt4294967296 c =
-    wide_mark _ c.if-words-ne8.false c.wide-marked.ensures c.if-marked-eq0.false c.if-marked-gt4294967296.true
+    wide_mark _ c.if-words-ne8.false c.word-marked.ensures c.if-marked-eq0.false c.if-marked-gt4294967296.true
 
-pub returns-in_default : goal.returns-in_default
-returns-in_default c =
-    no_note _ c.if-words-ne8.false c.wide-marked.ensures c.if-marked-eq0.false c.if-marked-gt4294967296.false
-    (c.of_word-said.ensures ∙ ap note_at c.wide.ensures) (ap note_at_of c.in_default.is)
+pub returns-in_err-note : goal.returns-in_err-note
+returns-in_err-note c =
+    ap reader_at_of c.from_residual.ensures
+    ∙ no_note _ c.if-words-ne8.false c.word-marked.ensures c.if-marked-eq0.false c.if-marked-gt4294967296.false
+    (c.of_word.ensures ∙ ap note_at c.word.ensures) (ap note_at_of c.in_err-note.was)
 
 pub returns : goal.returns
 returns c =
     let a = c.args in
-    has_note a.words.now c.if-words-ne8.false c.wide-marked.ensures c.if-marked-eq0.false c.if-marked-gt4294967296.false
-    (c.of_word-said.ensures ∙ ap note_at c.wide.ensures) (ap note_at_of c.in-Known.is)
-    (eight_read a.words.now (note_of c.in-Known.note) c.wide-2.ensures c.wide-3.ensures c.wide-4.ensures
-    c.wide-5.ensures c.wide-6.ensures (ap (λ (x : ℕ). x - 1) c.wide-marked.ensures) c.wide-7.ensures)
+    has_note a.words.now c.if-words-ne8.false c.word-marked.ensures c.if-marked-eq0.false c.if-marked-gt4294967296.false
+    (c.of_word.ensures ∙ ap note_at c.word.ensures) (ap note_at_of c.in_ok-note.was)
+    (eight_read a.words.now (note_of c.in_ok-note.note) c.word-2.ensures c.word-3.ensures c.word-4.ensures
+    c.word-5.ensures c.word-6.ensures (ap (λ (x : ℕ). x - 1) c.word-marked.ensures) c.word-7.ensures)

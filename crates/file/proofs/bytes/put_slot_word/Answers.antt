@@ -5,7 +5,7 @@ use Rattle.file.proofs.bytes.put_slot_word.Goals as goal
 
 pub returns-then-f-lt2 : goal.returns-then-f-lt2
 returns-then-f-lt2 c =
-    slot_name _ _ _ _ _ c.if-f-lt2.true c.put_wide.ensures
+    slot_name _ _ _ _ _ c.if-f-lt2.true c.put_word.ensures
 
 pub put_four-requires : goal.put_four-requires
 put_four-requires c =

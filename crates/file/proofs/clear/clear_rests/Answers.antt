@@ -22,5 +22,5 @@ pub returns : goal.returns
 returns c =
     let a = c.args in
     let s = lent_set a.lengths.now a.bins.now a.heads.now a.names.now a.cells.now in
-    rests_zeroed_lem (loader_words c.args.r) s c.clear_words.ensures c.clear_words-2.ensures c.clear_words-3.ensures
-    c.clear_wides.ensures c.clear_words-4.ensures
+    rests_zeroed_lem (loader_words c.args.r) s c.fill_from.ensures c.fill_from-2.ensures c.fill_from-3.ensures
+    c.fill_from-4.ensures c.fill_from-5.ensures

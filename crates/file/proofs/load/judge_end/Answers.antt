@@ -2,6 +2,7 @@
 use mathlib.Core.Path.{ap, sym, ◌∙◌}
 use Prim.Native.Nat.{ℕ}
 use Rattle.set_rules.specs.Words.{lent_set}
+use Rattle.slots.specs.Coded.{verdict}
 use Rattle.sets.specs.Verdicts.{accept_of}
 use Rattle.slots.specs.Answers.{given}
 use Rattle.file_rules.specs.Loader.{note_in}
@@ -15,8 +16,8 @@ returns-then-r-ne4 c =
     let s = lent_set a.lengths.now a.bins.now a.heads.now a.names.now a.cells.now in
     judged_short (loader_words a.r) s c.if-r-ne4.true c.refuse.ensures
 
-pub judge-judged-requires : goal.judge-judged-requires
-judge-judged-requires c =
+pub judge-requires : goal.judge-requires
+judge-requires c =
     (c.requires.0, c.requires.1)
 
 pub clear_rests-requires : goal.clear_rests-requires
@@ -27,24 +28,26 @@ pub taken_of-bytes-requires : goal.taken_of-bytes-requires
 taken_of-bytes-requires c =
     c.requires.0
 
-pub returns-in-Yes : goal.returns-in-Yes
-returns-in-Yes c =
+pub returns-in-Ok-true : goal.returns-in-Ok-true
+returns-in-Ok-true c =
     let a = c.args in
     let s = lent_set a.lengths.now a.bins.now a.heads.now a.names.now a.cells.now in
-    judged_yes (loader_words a.r) s c.if-r-ne4.false (ap accept_of (sym c.in-Yes.is) ∙ c.judge-judged.ensures)
+    judged_yes (loader_words a.r) s c.if-r-ne4.false
+    (ap verdict (sym c.in-Ok-true.field-0-test) ∙ ap accept_of (sym c.in-Ok-true.is) ∙ c.judge.ensures)
     c.clear_rests.ensures
     (c.note_in.ensures ∙ ap (λ (n : ℕ). note_in (loader_words a.r) (given n)) c.taken_of-bytes.ensures)
 
-pub returns-in-No : goal.returns-in-No
-returns-in-No c =
+pub returns-in-Ok-false : goal.returns-in-Ok-false
+returns-in-Ok-false c =
     let a = c.args in
     let s = lent_set a.lengths.now a.bins.now a.heads.now a.names.now a.cells.now in
-    judged_no (loader_words a.r) s c.if-r-ne4.false (ap accept_of (sym c.in-No.is) ∙ c.judge-judged.ensures)
-    c.refuse-in-No.ensures
+    judged_no (loader_words a.r) s c.if-r-ne4.false
+    (ap verdict (sym c.in-Ok-false.field-0-test) ∙ ap accept_of (sym c.in-Ok-false.is) ∙ c.judge.ensures)
+    c.refuse-in-Ok-false.ensures
 
-pub returns-in-Unfit : goal.returns-in-Unfit
-returns-in-Unfit c =
+pub returns-in-Err : goal.returns-in-Err
+returns-in-Err c =
     let a = c.args in
     let s = lent_set a.lengths.now a.bins.now a.heads.now a.names.now a.cells.now in
-    judged_unfit (loader_words a.r) s c.if-r-ne4.false (ap accept_of (sym c.in-Unfit.is) ∙ c.judge-judged.ensures)
-    c.refuse-in-Unfit.ensures
+    judged_unfit (loader_words a.r) s c.if-r-ne4.false (ap accept_of (sym c.in-Err.is) ∙ c.judge.ensures)
+    c.refuse-in-Err.ensures

@@ -1,7 +1,7 @@
 -- The ranges, then the note, then the room.
-use mathlib.Core.Path.{ap}
 use Rattle.set_rules.specs.Words.{lent_set}
-use Rattle.file.specs.Meanings.{load_note_of, loader_words}
+use Rattle.file.specs.Meanings.{loader_words}
+use Rattle.file.proofs.Stepping.{note_open, note_said}
 use Rattle.file.proofs.Ranging.{may_not, may_said, may_open, is_fit}
 use Rattle.file.proofs.load.may_go_on.Goals as goal
 
@@ -11,12 +11,12 @@ returns-then-not-fits c =
     let s = lent_set a.lengths.now a.bins.now a.heads.now a.names.now a.cells.now in
     may_not (loader_words c.args.r) s c.fits_loader-fits.ensures c.if-not-fits.true
 
-pub returns-in_default : goal.returns-in_default
-returns-in_default c =
+pub returns-then-is_some : goal.returns-then-is_some
+returns-then-is_some c =
     let a = c.args in
     let s = lent_set a.lengths.now a.bins.now a.heads.now a.names.now a.cells.now in
     may_said (loader_words c.args.r) s c.fits_loader-fits.ensures c.if-not-fits.false
-    (ap load_note_of c.in_default.is)
+    (note_said _ c.is_some.ensures c.if-is_some.true).1
 
 pub has_room-requires : goal.has_room-requires
 has_room-requires c =
@@ -29,4 +29,4 @@ returns c =
     let a = c.args in
     let s = lent_set a.lengths.now a.bins.now a.heads.now a.names.now a.cells.now in
     may_open (loader_words c.args.r) s c.fits_loader-fits.ensures c.if-not-fits.false
-    (ap load_note_of c.in-Unsaid.is) c.has_room.ensures
+    (note_open _ c.is_some.ensures c.if-is_some.false) c.has_room.ensures

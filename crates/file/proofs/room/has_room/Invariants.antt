@@ -1,7 +1,7 @@
 -- Each count is asked by itself.
 use mathlib.Core.Path.{◌≡◌}
 use mathlib.Core.Bool.{true}
-use Prim.Native.Nat.{ℕ, ◌-◌, ◌<◌}
+use Prim.Native.Nat.{ℕ, ◌<◌}
 use Rattle.set_rules.specs.Words.{lent_set}
 use Rattle.file_rules.specs.Layout.{can_hold}
 use Rattle.file_rules.specs.Loader.{count_taken}
@@ -11,6 +11,3 @@ use Rattle.file.proofs.room.has_room.Given as goal
 abbrev pub invariant-loop-s : goal.invariant-loop-s
 invariant-loop-s l =
     (k : ℕ) → k < l.s → can_hold (lent_set l.lengths l.bins l.heads l.names l.cells) k (count_taken (loader_words l.r) k) ≡ true
-
-abbrev pub decreases-loop-s : goal.decreases-loop-s
-decreases-loop-s l = 4 - l.s

@@ -1,6 +1,6 @@
 -- The pair, the place and the state, the links.
 use native.Mathlib.Omega.{arith}
-use Rattle.endian.proofs.Reading.{from_place}
+use Rattle.file.proofs.Running.{from_place}
 use Rattle.file.proofs.Running.{cells_put}
 use Rattle.file.proofs.runs.read_slot.Goals as goal
 

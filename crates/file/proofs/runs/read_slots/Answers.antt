@@ -1,36 +1,13 @@
-use mathlib.Core.Path.{◌≡◌, ap, ◌∙◌}
+use mathlib.Core.Path.{◌≡◌, ap}
 use Prim.Native.Nat.{ℕ, ◌+◌, ◌-◌, ◌*◌, ◌≤◌}
 use native.Mathlib.Omega.{arith}
 use lib.ListN.{length, take, drop, length-drop}
 use lib.Seq.{length-take-le}
-use Rattle.file.proofs.Running.{no_slots, slots-more, cells_more, names_long, cells_long}
+use Rattle.file.proofs.Running.{no_slots, slots-more, cells_more}
 use Rattle.file.proofs.runs.read_slots.Goals as goal
 
 pub loop-i-init : goal.loop-i-init
-loop-i-init c = (
-  (no_slots c.args.names.now 0 c.args.rest.now).0,
-  (no_slots c.args.cells.now 0 c.args.rest.now).1,
-  omega
-      arith,
-)
-
-pub overflow_mul-i : goal.overflow_mul-i
-overflow_mul-i c =
-    omega (arith, c.requires.0, c.loop-i-test.true)
-
-pub overflow_mul-i-in-loop-i : goal.overflow_mul-i-in-loop-i
-overflow_mul-i-in-loop-i c =
-    omega (arith, c.requires.0, c.loop-i-test.true)
-
-pub overflow_add-i : goal.overflow_add-i
-overflow_add-i c =
-    omega (arith, c.requires.0, c.loop-i-test.true)
-
-pub slice_bounds-read_slot-count : goal.slice_bounds-read_slot-count
-slice_bounds-read_slot-count c = omega arith
-
-pub slice_bounds-read_slot-start : goal.slice_bounds-read_slot-start
-slice_bounds-read_slot-start c = omega arith
+loop-i-init c = ((no_slots c.args.names.now 0 c.args.rest.now).0, (no_slots c.args.cells.now 0 c.args.rest.now).1)
 
 pub read_slot-requires : goal.read_slot-requires
 read_slot-requires c =
@@ -40,14 +17,6 @@ read_slot-requires c =
     let room : 41 ≤ length (drop (41 * i) rest) = omega (arith, c.requires.1, c.loop-i-test.true) in
     let z : 41 * i + 41 - 41 * i ≡ 41 = omega arith in
     (omega (arith, c.requires.0, c.loop-i-test.true), rw (z, length-take-le 41 (drop (41 * i) rest) room) (omega arith))
-
-pub overflow_add-i-in-loop-i : goal.overflow_add-i-in-loop-i
-overflow_add-i-in-loop-i c =
-    omega (arith, c.requires.0, c.loop-i-test.true)
-
-pub loop-i-smaller : goal.loop-i-smaller
-loop-i-smaller c =
-    omega (arith, c.loop-i-test.true)
 
 pub loop-i-preserved : goal.loop-i-preserved
 loop-i-preserved c =
@@ -60,18 +29,8 @@ loop-i-preserved c =
     let own = ap (λ (n : ℕ). take n (drop (41 * i) rest)) z in (
       slots-more a.names.now 0 rest 0 i i (omega arith) c.loop-i.invariant.0 room own c.read_slot.ensures.0,
       cells_more a.cells.now 0 rest 0 i i (omega arith) c.loop-i.invariant.1 room own c.read_slot.ensures.1,
-      omega (arith, c.loop-i-test.true),
     )
-
-pub shape_of-names : goal.shape_of-names
-shape_of-names c =
-    ap length c.loop-i.invariant.0 ∙ names_long _ _ 0 _
-
-pub shape_of-cells : goal.shape_of-cells
-shape_of-cells c =
-    ap length c.loop-i.invariant.1 ∙ cells_long _ _ 0 _
 
 pub returns : goal.returns
 returns c =
-    let e : c.loop-i.i ≡ c.args.n = omega (arith, c.loop-i-test.false, c.loop-i.invariant.2) in
-    (rw e at c.loop-i.invariant.0, rw e at c.loop-i.invariant.1)
+    let e : c.loop-i.i ≡ c.args.n = omega arith in (rw e at c.loop-i.invariant.0, rw e at c.loop-i.invariant.1)

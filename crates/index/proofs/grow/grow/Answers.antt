@@ -1,21 +1,7 @@
 -- What is read is read before a write, and the writes are those of `grown`, in order.
-use Rattle.index.proofs.Growing.{grow_wide, grow_null, grow, follower, top}
+use Rattle.index.proofs.Growing.{grow, follower, top}
 use Rattle.index_rules.specs.Live.{lent_tree}
 use Rattle.index.proofs.grow.grow.Goals as goal
-
-pub returns-then-names-gt-MOST_NAMES : goal.returns-then-names-gt-MOST_NAMES
-returns-then-names-gt-MOST_NAMES c =
-    let a = c.args in
-    grow_wide (lent_tree a.names.now a.cells.now a.head.now a.sizes.now) a.x a.y a.hash a.key a.place
-    c.if-names-gt-MOST_NAMES.true
-
-pub returns-then-count : goal.returns-then-count
-returns-then-count c =
-    let a = c.args in
-    grow_null (lent_tree a.names.now a.cells.now a.head.now a.sizes.now) a.x a.y a.hash a.key a.place
-    c.if-names-gt-MOST_NAMES.false
-    c.word-count.ensures
-    c.if-count.true
 
 pub returns : goal.returns
 returns c =

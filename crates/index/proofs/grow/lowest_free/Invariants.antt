@@ -6,6 +6,3 @@ use Rattle.index.proofs.grow.lowest_free.Given as goal
 
 abbrev pub invariant-loop-k : goal.invariant-loop-k
 invariant-loop-k l = free_from (l.n - l.k) l.cells l.k ≡ free_from (l.n - l.floor) l.cells l.floor
-
-abbrev pub decreases-loop-k : goal.decreases-loop-k
-decreases-loop-k l = l.n - l.k

@@ -2,7 +2,6 @@
 use Prim.{tt}
 use mathlib.Core.Path.{refl}
 use native.Mathlib.Omega.{arith}
-use borrow.Enum.Refused.{opened}
 use Rattle.index.proofs.Asking.{sought-at, sought-not}
 use Rattle.index.proofs.Undoing.{place_absent, place_other, place-done}
 use Rattle.index.proofs.lines.place_back.Goals as goal
@@ -11,7 +10,7 @@ pub returns-in_default : goal.returns-in_default
 returns-in_default c = record {
   sizes_after = place_absent _ _ _ _
       (sought-not _ _ _ c.word-root.ensures c.find_tree_node-found.result c.find_tree_node-found.ensures
-      (opened c.in_default.in_default-own.keys2));
+      c.in_default.not-At);
   freed_is = tt;
 }
 

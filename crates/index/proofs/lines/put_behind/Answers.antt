@@ -1,6 +1,5 @@
 -- The noted pair is not there, or the pair comes back behind it.
 use Prim.{tt}
-use borrow.Enum.Refused.{opened}
 use Rattle.index.proofs.Asking.{sought-at, sought-not}
 use Rattle.index.proofs.Undoing.{behind_none, behind_some}
 use Rattle.index.proofs.lines.put_behind.Goals as goal
@@ -9,7 +8,7 @@ pub returns-in_default : goal.returns-in_default
 returns-in_default c = record {
   by_index = λ kind. behind_none _ _ _ _ _ _
       (sought-not _ _ _ c.word-root.ensures c.find_tree_node-found.result c.find_tree_node-found.ensures
-      (opened c.in_default.in_default-own.keys2));
+      c.in_default.not-At);
   freed_is = tt;
 }
 

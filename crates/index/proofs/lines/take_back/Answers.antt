@@ -1,7 +1,6 @@
 -- Each way out closes by the search and the tests that led there; the slot found is the one that is freed.
 use Prim.{tt}
 use mathlib.Core.Path.{ap, sym, ◌∙◌}
-use borrow.Enum.Refused.{opened}
 use Rattle.index_rules.specs.Checked.{slot_in}
 use Rattle.index.proofs.Room.{shrunk-is}
 use Rattle.index.proofs.Asking.{sought-at, sought-not}
@@ -12,7 +11,7 @@ pub returns-in_default : goal.returns-in_default
 returns-in_default c = record {
   sizes_after = back_absent _ _ _ _
       (sought-not _ _ _ c.word-root.ensures c.find_tree_node-found.result c.find_tree_node-found.ensures
-      (opened c.in_default.in_default-own.keys2));
+      c.in_default.not-At);
   freed_is = tt;
 }
 

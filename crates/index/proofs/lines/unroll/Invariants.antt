@@ -7,6 +7,3 @@ abbrev pub invariant-loop-c : goal.invariant-loop-c
 invariant-loop-c l =
     Turn (lent_tree l.initial.names l.initial.cells l.initial.head l.initial.sizes) l.lines l.m l.count
     (lent_tree l.names l.cells l.head l.sizes) l.floor l.c
-
-abbrev pub decreases-loop-c : goal.decreases-loop-c
-decreases-loop-c l = l.c

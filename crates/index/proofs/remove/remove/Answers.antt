@@ -1,20 +1,22 @@
 -- What the full check answers goes up, or the call is made where it has said yes.
 use mathlib.Core.Path.{sym, ap, ◌∙◌}
-use Rattle.index.specs.Reads.{sound_of}
+use Rattle.slots.specs.Coded.{verdict}
+use Rattle.index.specs.declared.present.PairRefusal.TheVariants.{Unfit}
+use Rattle.index.proofs.Asking.{passed}
 use Rattle.index.proofs.Singly.{remove_unfit, remove_damaged, remove_goes}
 use Rattle.index.proofs.remove.remove.Goals as goal
 
-pub returns-in-Unfit : goal.returns-in-Unfit
-returns-in-Unfit c =
+pub returns-in_err-sound_index : goal.returns-in_err-sound_index
+returns-in_err-sound_index c =
     let a = c.args in
-    remove_unfit _ (ap sound_of (sym c.in-Unfit.is) ∙ c.sound_index-verdict.ensures) a.hash a.key
+    rw (passed Unfit _ c.from_residual.ensures.1) (remove_unfit _ c.in_err-sound_index.ensures a.hash a.key)
 
-pub returns-in-No : goal.returns-in-No
-returns-in-No c =
+pub returns-then-not-branch : goal.returns-then-not-branch
+returns-then-not-branch c =
     let a = c.args in
-    remove_damaged _ (ap sound_of (sym c.in-No.is) ∙ c.sound_index-verdict.ensures) a.hash a.key
+    remove_damaged _ (ap verdict (sym c.if-not-branch.true) ∙ c.in_ok-sound_index.ensures) a.hash a.key
 
-pub returns-in-Yes : goal.returns-in-Yes
-returns-in-Yes c =
+pub returns : goal.returns
+returns c =
     let a = c.args in
-    remove_goes _ (ap sound_of (sym c.in-Yes.is) ∙ c.sound_index-verdict.ensures) a.hash a.key c.remove_sound.ensures
+    remove_goes _ (ap verdict (sym c.if-not-branch.false) ∙ c.in_ok-sound_index.ensures) a.hash a.key c.remove_sound.ensures

@@ -1,27 +1,25 @@
 -- A refusal leaves all as it is; else the slot has the new place and the journal takes a line with both, as the model says.
-use mathlib.Core.Path.{sym, ap, ◌∙◌}
-use borrow.Enum.Refused.{opened}
+use mathlib.Core.Path.{◌∙◌}
 use Rattle.index_rules.specs.Checked.{replaces_sound}
 use Rattle.index.proofs.Room.{appended-is}
-use Rattle.index.specs.Calls.{presence_of}
-use Rattle.index.proofs.Asking.{kept, done, lines_most}
+use Rattle.index.proofs.Asking.{passed, kept, done, lines_most}
 use Rattle.index.proofs.Replacing.{settled, moved}
 use Rattle.index.proofs.Presenting.{not_at}
 use Rattle.index.proofs.replace.replace_sound.Goals as goal
 
-pub returns-in_default : goal.returns-in_default
+pub returns-in_err-x : goal.returns-in_err-x
 unfolding replaces_sound
-returns-in_default c =
+returns-in_err-x c =
     let a = c.args in
-    kept _ _ _ (settled _ a.hash a.key a.place) _ (not_at c.present-asked.result (opened c.in_default.in_default-own.keys2))
-    (c.present-asked.ensures _)
+    rw (passed _ _ c.from_residual.ensures.1)
+    (kept _ _ _ (settled _ a.hash a.key a.place) _ (not_at c.in_err-x.field-0.0) (c.in_err-x.ensures _))
 
 pub returns : goal.returns
 unfolding replaces_sound
 returns c =
     let a = c.args in
     let d =
-    done _ _ _ (settled _ a.hash a.key a.place) _ (ap presence_of (sym c.in-At.is) ∙ c.present-asked.ensures _) in
+    done _ _ _ (settled _ a.hash a.key a.place) _ (c.in_ok-x.ensures _) in
     moved _ _ _ _
     c.get-old.ensures
     c.put.ensures

@@ -1,20 +1,19 @@
 -- What the full check answers goes up, or the call is made where it has said yes.
 use mathlib.Core.Path.{sym, ap, ◌∙◌}
-use Rattle.index.specs.Reads.{sound_of}
+use Rattle.slots.specs.Coded.{verdict}
+use Rattle.index.specs.declared.rollback.RollbackRefusal.TheVariants.{Unfit}
+use Rattle.index.proofs.Asking.{passed}
 use Rattle.index.proofs.Singly.{rollback_unfit, rollback_damaged, rollback_goes}
 use Rattle.index.proofs.rollback.rollback.Goals as goal
 
-pub returns-in-Unfit : goal.returns-in-Unfit
-returns-in-Unfit c =
-    let a = c.args in
-    rollback_unfit _ (ap sound_of (sym c.in-Unfit.is) ∙ c.sound_index-verdict.ensures) a.mark
+pub returns-in_err-sound_index : goal.returns-in_err-sound_index
+returns-in_err-sound_index c =
+    rw (passed Unfit _ c.from_residual.ensures.1) (rollback_unfit _ c.in_err-sound_index.ensures c.args.mark)
 
-pub returns-in-No : goal.returns-in-No
-returns-in-No c =
-    let a = c.args in
-    rollback_damaged _ (ap sound_of (sym c.in-No.is) ∙ c.sound_index-verdict.ensures) a.mark
+pub returns-then-not-branch : goal.returns-then-not-branch
+returns-then-not-branch c =
+    rollback_damaged _ (ap verdict (sym c.if-not-branch.true) ∙ c.in_ok-sound_index.ensures) c.args.mark
 
-pub returns-in-Yes : goal.returns-in-Yes
-returns-in-Yes c =
-    let a = c.args in
-    rollback_goes _ (ap sound_of (sym c.in-Yes.is) ∙ c.sound_index-verdict.ensures) a.mark c.rollback_sound.ensures
+pub returns : goal.returns
+returns c =
+    rollback_goes _ (ap verdict (sym c.if-not-branch.false) ∙ c.in_ok-sound_index.ensures) c.args.mark c.rollback_sound.ensures

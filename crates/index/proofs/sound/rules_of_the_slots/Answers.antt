@@ -4,7 +4,7 @@ use mathlib.Core.List.{[]}
 use Prim.Native.Nat.{◌/◌}
 use lib.ListN.{length}
 use Rattle.slots.proofs.Laws.{and-next}
-use Rattle.tree.specs.Rules.{size_of}
+use Rattle.slots.specs.Coded.{value_of}
 use Rattle.tree_rules.specs.Check.{in_range}
 use Rattle.index.specs.Sound.{rule1_unlinked}
 use Rattle.index.proofs.Slots.{any_head, one_not, all_fine}
@@ -16,7 +16,7 @@ returns-in_default c =
     let a = c.args in
     rw (
       any_head a.names.now a.cells.now a.head.now [] a.sizes.now,
-      one_not _ _ (ap size_of (sym c.in_default.is) ∙ c.used_if_fine-pass.ensures),
+      one_not _ _ (ap value_of (sym c.in_default.is) ∙ c.used_if_fine.ensures),
     )
 
 pub returns-then-in_range-2 : goal.returns-then-in_range-2
@@ -24,7 +24,7 @@ unfolding rule1_unlinked
 returns-then-in_range-2 c =
     let a = c.args in
     let n = length a.names.now / 2 in
-    let fine = all_fine _ _ (ap size_of (sym c.in-Slots.is) ∙ c.used_if_fine-pass.ensures) in
+    let fine = all_fine _ _ (ap value_of (sym c.in-Some.is) ∙ c.used_if_fine.ensures) in
     rw (
       any_head a.names.now a.cells.now a.head.now [] a.sizes.now,
       fine.0,
@@ -43,7 +43,7 @@ unfolding rule1_unlinked
 returns-else-in_range-2 c =
     let a = c.args in
     let n = length a.names.now / 2 in
-    let fine = all_fine _ _ (ap size_of (sym c.in-Slots.is) ∙ c.used_if_fine-pass.ensures) in
+    let fine = all_fine _ _ (ap value_of (sym c.in-Some.is) ∙ c.used_if_fine.ensures) in
     rw (
       any_head a.names.now a.cells.now a.head.now [] a.sizes.now,
       fine.0,

@@ -9,12 +9,12 @@ pub returns-in_default : goal.returns-in_default
 returns-in_default c =
     let a = c.args in
     no_size (lent_tree a.names.now a.cells.now a.head.now a.sizes.now) c.word-root.ensures
-    (ap size_of (sym c.in_default.is) ∙ c.tree_size-size.ensures)
+    (ap size_of (sym c.in_default.is) ∙ c.tree_size.ensures)
 
 pub returns : goal.returns
 returns c =
     let a = c.args in
     by_count (lent_tree a.names.now a.cells.now a.head.now a.sizes.now)
     c.word-root.ensures
-    (ap size_of (sym c.in-Slots.is) ∙ c.tree_size-size.ensures)
+    (ap size_of (sym c.in-Some.is) ∙ c.tree_size.ensures)
     c.word-count.ensures

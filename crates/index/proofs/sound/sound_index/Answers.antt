@@ -2,9 +2,8 @@
 use Rattle.index.proofs.Asking.{unfit_journal, fit_journal}
 use Rattle.index.proofs.sound.sound_index.Goals as goal
 
-pub returns-then-not-journal : goal.returns-then-not-journal
-returns-then-not-journal c = unfit_journal _ c.fit_journal-journal.ensures c.if-not-journal.true-raw
+pub returns-then-not-fit_journal : goal.returns-then-not-fit_journal
+returns-then-not-fit_journal c = unfit_journal _ c.fit_journal.ensures c.if-not-fit_journal.true
 
 pub returns : goal.returns
-returns c =
-    fit_journal _ c.fit_journal-journal.ensures c.if-not-journal.false-raw c.sound.ensures
+returns c = fit_journal _ c.fit_journal.ensures c.if-not-fit_journal.false c.sound.ensures

@@ -9,24 +9,16 @@ use Rattle.index.specs.Sound.{state_fine, states_fine}
 use Rattle.index.proofs.Slots.{fine_none, fine-not, fine_on, tally_on, tally_none, used_one}
 use Rattle.index.proofs.sound.used_if_fine.Goals as goal
 
-pub loop-k-init : goal.loop-k-init
-loop-k-init c = (refl, omega arith, omega arith)
-
-pub returns-then-not-fine : goal.returns-then-not-fine
+pub returns-then-not-state_fine : goal.returns-then-not-state_fine
 unfolding states_fine
-returns-then-not-fine c =
+returns-then-not-state_fine c =
     let a = c.args in
     let t = lent_tree a.names.now a.cells.now [] a.sizes.now in
     rw (
       ← c.loop-k.invariant.0,
       ← fine-not (state_fine t) (λ k. states_fine k t) refl (λ k. refl) c.loop-k.k c.loop-k-test.true
-          c.state_fine-fine.ensures c.if-not-fine.true,
+          c.state_fine.ensures c.if-not-state_fine.true,
     )
-
-pub overflow_add-count : goal.overflow_add-count
-overflow_add-count c =
-    let a = c.args in
-    omega (arith, used_one a.cells.now (c.loop-k.k - 1), c.used_slot-one.ensures)
 
 pub loop-k-preserved : goal.loop-k-preserved
 unfolding states_fine
@@ -35,11 +27,11 @@ loop-k-preserved c =
     let t = lent_tree a.names.now a.cells.now [] a.sizes.now in
     let k = c.loop-k.k in
     let some_left = c.loop-k-test.true in
-    let one = c.used_slot-one.ensures in
+    let one = c.used_slot-count.ensures in
     let most = used_one a.cells.now (k - 1) in
     let step = tally_on (used a.cells.now) k some_left in (
-      fine_on (state_fine t) (λ k. states_fine k t) refl (λ k. refl) k some_left c.state_fine-fine.ensures
-          c.if-not-fine.false
+      fine_on (state_fine t) (λ k. states_fine k t) refl (λ k. refl) k some_left c.state_fine.ensures
+          c.if-not-state_fine.false
           ∙ c.loop-k.invariant.0,
       omega (arith, step, one),
       omega (arith, most, one),

@@ -12,6 +12,3 @@ abbrev pub invariant-loop-k : goal.invariant-loop-k
 invariant-loop-k l =
     (states_fine l.k (lent_tree l.names l.cells [] l.sizes) ≡ states_fine l.n (lent_tree l.names l.cells [] l.sizes))
     × (l.count + tally l.k (used l.cells) ≡ tally l.n (used l.cells)) × (l.count + l.k ≤ l.n)
-
-abbrev pub decreases-loop-k : goal.decreases-loop-k
-decreases-loop-k l = l.k

@@ -7,6 +7,3 @@ use Rattle.index.proofs.sound.used_slots.Given as goal
 
 abbrev pub invariant-loop-k : goal.invariant-loop-k
 invariant-loop-k l = (l.count + tally l.k (used l.cells) ≡ tally l.n (used l.cells)) × (l.count + l.k ≤ l.n)
-
-abbrev pub decreases-loop-k : goal.decreases-loop-k
-decreases-loop-k l = l.k

@@ -1,19 +1,11 @@
-use Rattle.std.proofs.Common.{rules}
 use Rattle.links.proofs.Balancing.{deletion, over, ends, goes_on}
 use Rattle.links.proofs.balance.balance_deletion.Goals as goal
 
-pub returns-in-Done : goal.returns-in-Done
-returns-in-Done c =
-    ends deletion c.loop-turns.invariant.0 c.loop-turns-test.true c.deletion_turn-step.ensures c.in-Done.is
+pub returns-in_default : goal.returns-in_default
+returns-in_default c = ends deletion c.loop.invariant c.loop-test.true c.deletion_turn-low.ensures c.in_default.is
 
-pub loop-turns-preserved : goal.loop-turns-preserved
-loop-turns-preserved c = (
-  goes_on deletion c.loop-turns.invariant.0 c.loop-turns-test.true c.deletion_turn-step.ensures c.in-More.is,
-  search rules,
-  search rules,
-  search rules,
-  search rules,
-)
+pub loop-preserved : goal.loop-preserved
+loop-preserved c = goes_on deletion c.loop.invariant c.loop-test.true c.deletion_turn-low.ensures c.in-Some.is
 
 pub returns : goal.returns
-returns c = over deletion c.loop-turns.invariant.0 c.loop-turns-test.false
+returns c = over deletion c.loop.invariant c.loop-test.false

@@ -1,12 +1,7 @@
--- The loop's invariant: the model from here equals the model from the start, and the steps left fall by one a turn.
-use Rattle.std.proofs.Common.{◌≡◌, ◌^◌, ◌<◌, length}
+-- The loop's invariant: the model from here, with the steps that are left, equals the model from the start.
+use Rattle.std.proofs.Common.{◌≡◌, ◌-◌}
 use Rattle.redblack.specs.Climbing.{climbed}
 use Rattle.links.proofs.sizes.climb.Given as goal
 
-abbrev pub invariant-loop-rest : goal.invariant-loop-rest
-invariant-loop-rest l =
-    (climbed l.rest l.cells l.sizes l.at l.d ≡ climbed l.budget l.cells l.initial.sizes l.p l.d) × (l.at < 2 ^ 32) ×
-    (length l.sizes ≡ length l.initial.sizes)
-
-abbrev pub decreases-loop-rest : goal.decreases-loop-rest
-decreases-loop-rest l = l.rest
+abbrev pub invariant-loop : goal.invariant-loop
+invariant-loop l = climbed (l.budget - l.counter) l.cells l.sizes l.at l.d ≡ climbed l.budget l.cells l.initial.sizes l.p l.d

@@ -1,4 +1,4 @@
-use Rattle.std.proofs.Common.{refl, rules}
+use Rattle.std.proofs.Common.{refl}
 use Rattle.redblack.specs.Links.{lent_links}
 use Rattle.links.proofs.Unlinking.{leftward}
 use Rattle.links.proofs.Walks.{bottom, ended, down}
@@ -7,18 +7,16 @@ use Rattle.links.proofs.unlink.leftmost.Goals as goal
 pub returns-then-next : goal.returns-then-next
 returns-then-next c =
     let a = c.args in
-    λ root sizes. ended (leftward (lent_links a.cells.now root sizes)) (c.loop-rest.invariant.0 root sizes) c.loop-rest-test.true refl
+    λ root sizes. ended (leftward (lent_links a.cells.now root sizes)) (c.loop.invariant root sizes) c.loop-test.true refl
     c.get-next.ensures c.if-next.true
 
-pub loop-rest-preserved : goal.loop-rest-preserved
-loop-rest-preserved c =
-    let a = c.args in (
-      λ root sizes. down (leftward (lent_links a.cells.now root sizes)) (c.loop-rest.invariant.0 root sizes) c.loop-rest-test.true refl
-          c.get-next.ensures c.if-next.false,
-      search rules,
-    )
+pub loop-preserved : goal.loop-preserved
+loop-preserved c =
+    let a = c.args in
+    λ root sizes. down (leftward (lent_links a.cells.now root sizes)) (c.loop.invariant root sizes) c.loop-test.true refl
+    c.get-next.ensures c.if-next.false
 
 pub returns : goal.returns
 returns c =
     let a = c.args in
-    λ root sizes. bottom (leftward (lent_links a.cells.now root sizes)) (c.loop-rest.invariant.0 root sizes) c.loop-rest-test.false refl
+    λ root sizes. bottom (leftward (lent_links a.cells.now root sizes)) (c.loop.invariant root sizes) c.loop-test.false refl

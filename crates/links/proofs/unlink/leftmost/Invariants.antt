@@ -1,14 +1,10 @@
--- The loop's invariant: the model from here equals the model from the start, and the steps left fall by one a turn.
-use Rattle.std.proofs.Common.{◌≡◌, ℕ, ◌^◌, ◌<◌, List}
+-- The loop's invariant: the model from here, with the steps that are left, equals the model from the start.
+use Rattle.std.proofs.Common.{◌≡◌, ℕ, ◌-◌, List}
 use Rattle.redblack.specs.Removal.{leftmost}
 use Rattle.redblack.specs.Links.{lent_links}
 use Rattle.links.proofs.unlink.leftmost.Given as goal
 
-abbrev pub invariant-loop-rest : goal.invariant-loop-rest
-invariant-loop-rest l =
-    ((root : ℕ) (sizes : List ℕ)
-    → leftmost l.rest (lent_links l.cells root sizes) l.at ≡ leftmost l.budget (lent_links l.cells root sizes) l.q)
-    × (l.at < 2 ^ 32)
-
-abbrev pub decreases-loop-rest : goal.decreases-loop-rest
-decreases-loop-rest l = l.rest
+abbrev pub invariant-loop : goal.invariant-loop
+invariant-loop l =
+    (root : ℕ) (sizes : List ℕ)
+    → leftmost (l.budget - l.counter) (lent_links l.cells root sizes) l.at ≡ leftmost l.budget (lent_links l.cells root sizes) l.q

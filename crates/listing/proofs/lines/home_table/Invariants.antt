@@ -1,16 +1,12 @@
 -- The table from here on is that from table 0 on.
 use mathlib.Core.Path.{◌≡◌}
 use mathlib.Core.List.{List}
-use Prim.Native.Nat.{ℕ, ◌-◌, ◌≤◌}
+use Prim.Native.Nat.{ℕ, ◌-◌}
 use Rattle.set_rules.specs.Words.{lent_set}
 use Rattle.listing_rules.specs.Lines.{home_table}
 use Rattle.listing.proofs.lines.home_table.Given as goal
 
 abbrev pub invariant-loop-k : goal.invariant-loop-k
 invariant-loop-k l =
-    (l.k ≤ 7)
-    × ((heads names cells : List ℕ) → home_table (7 - l.k) (lent_set l.lengths l.bins heads names cells) l.k l.hash
-    ≡ home_table 7 (lent_set l.lengths l.bins heads names cells) 0 l.hash)
-
-abbrev pub decreases-loop-k : goal.decreases-loop-k
-decreases-loop-k l = 7 - l.k
+    (heads names cells : List ℕ) → home_table (7 - l.k) (lent_set l.lengths l.bins heads names cells) l.k l.hash
+    ≡ home_table 7 (lent_set l.lengths l.bins heads names cells) 0 l.hash

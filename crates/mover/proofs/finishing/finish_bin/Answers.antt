@@ -1,28 +1,35 @@
--- It was stopped before, or the bin has its move.
-use native.Mathlib.Omega.{arith}
+-- What a move comes to is what the model says.
+use mathlib.Core.Path.{ap, ◌∙◌}
+use borrow.Author.Rules.{rules}
+use Rattle.std.specs.Prelude.{Err}
 use Rattle.set_rules.specs.Words.{lent_set}
-use Rattle.mover.proofs.Turns.{move_stays, move_most, bin-told, bin_stays, gone_most}
+use Rattle.mover.proofs.Turns.{move_stays, went_on, passed_over, stopped, most_moved}
 use Rattle.mover.proofs.finishing.finish_bin.Goals as goal
 
-pub returns-then-told-ne0 : goal.returns-then-told-ne0
-returns-then-told-ne0 c =
+pub returns-in-Ok : goal.returns-in-Ok
+returns-in-Ok c =
     let a = c.args in
     let s = lent_set a.lengths.now a.bins.now a.heads.now a.names.now a.cells.now in
-    (bin_stays s a.told a.k a.i c.if-told-ne0.true, c.requires.0, omega arith)
+    let e = c.move_accepted.ensures in (
+      λ gone. went_on s _ a.k a.i _ e c.in-Ok.entries gone c.in-Ok.is,
+      move_stays s _ a.k a.i _ e c.requires.0,
+      most_moved s _ a.k a.i _ e c.in-Ok.entries c.requires.0 c.in-Ok.is,
+    )
 
-pub tell_move-requires : goal.tell_move-requires
-tell_move-requires c =
+pub returns-in-CannotMove : goal.returns-in-CannotMove
+returns-in-CannotMove c =
     let a = c.args in
     let s = lent_set a.lengths.now a.bins.now a.heads.now a.names.now a.cells.now in
-    omega (arith, c.requires.2, move_most s _ a.k a.i c.move_accepted-reply.ensures c.requires.0)
+    let e = c.move_accepted.ensures in
+    let z = c.in-Err.is ∙ ap Err c.in-CannotMove.is in
+    (λ gone. passed_over s _ a.k a.i _ e gone z, move_stays s _ a.k a.i _ e c.requires.0, search rules)
 
-pub returns : goal.returns
-returns c =
+pub returns-in_default : goal.returns-in_default
+returns-in_default c =
     let a = c.args in
     let s = lent_set a.lengths.now a.bins.now a.heads.now a.names.now a.cells.now in
-    let moved = c.move_accepted-reply.ensures in
-    let told = c.tell_move.ensures _ in (
-      bin-told s _ a.k a.i moved a.told c.if-told-ne0.false told,
-      move_stays s _ a.k a.i moved c.requires.0,
-      gone_most _ a.told _ a.k a.i _ told (move_most s _ a.k a.i moved c.requires.0),
+    let e = c.move_accepted.ensures in (
+      λ gone. stopped s _ a.k a.i _ e c.in-Err.refusal gone c.in-Err.is c.in_default.not-CannotMove,
+      move_stays s _ a.k a.i _ e c.requires.0,
+      search rules,
     )

@@ -1,16 +1,8 @@
 -- The tables before have no bin.
 use mathlib.Core.Path.{◌≡◌}
-use Prim.Native.Nat.{◌-◌, ◌≤◌}
-use lib.ListN.{length}
-use Rattle.set_rules.specs.Words.{Set}
-use Rattle.move_rules.specs.Finishing.{finish_begun, tables_finished}
-use Rattle.mover.specs.Finished.{AllRefused}
+use Prim.Native.Nat.{ℕ, ◌<◌}
+use lib.ListN.{get_or}
 use Rattle.mover.proofs.finishing.stop_first.Given as goal
 
-abbrev pub invariant-loop-k : goal.invariant-loop-k
-invariant-loop-k l =
-    ((s : Set) → s.lengths ≡ l.lengths → AllRefused s l.number → tables_finished l.k (finish_begun s) ≡ finish_begun s)
-    × (l.k ≤ length l.lengths - 1)
-
-abbrev pub decreases-loop-k : goal.decreases-loop-k
-decreases-loop-k l = length l.lengths - l.k
+abbrev pub invariant-loop-table : goal.invariant-loop-table
+invariant-loop-table l = (j : ℕ) → j < l.table → get_or l.lengths j 0 ≡ 0

@@ -1,25 +1,15 @@
 use native.Mathlib.Omega.{arith}
-use borrow.Author.Rules.{rules}
 use Rattle.mover.proofs.Passing.{one_most, count-null, count_spent, count_on}
 use Rattle.mover.proofs.halves.home_count.Goals as goal
 
-pub loop-p-init : goal.loop-p-init
-loop-p-init c = search rules
-
-pub returns-then-left-eq0 : goal.returns-then-left-eq0
-returns-then-left-eq0 c = count_spent _ _ _ _ _ _ _ c.loop-p.invariant.0 c.if-left-eq0.true
-
-pub overflow_add-count : goal.overflow_add-count
-overflow_add-count c =
-    omega (arith, one_most c.is_home-home.result c.one_if-count.ensures, c.loop-p.invariant.2, c.if-left-eq0.false)
-
-pub loop-p-preserved : goal.loop-p-preserved
-loop-p-preserved c = (
-  count_on _ _ _ _ _ _ _ c.loop-p.invariant.0 c.loop-p-test.true c.if-left-eq0.false c.is_home-home.ensures
-      c.one_if-count.ensures c.get-next.ensures,
-  search rules,
-  omega (arith, one_most c.is_home-home.result c.one_if-count.ensures, c.loop-p.invariant.2, c.if-left-eq0.false),
+pub loop-preserved : goal.loop-preserved
+loop-preserved c = (
+  count_on _ _ _ _ _ c.args.most c.loop.counter _ c.loop.invariant.0 c.if-p.false c.loop-test.true c.is_home.ensures c.get-next.ensures,
+  omega (arith, one_most c.is_home.result, c.loop.invariant.1),
 )
 
-pub returns : goal.returns
-returns c = count-null _ _ _ _ _ _ _ c.loop-p.invariant.0 c.loop-p-test.false
+pub returns-after-loop : goal.returns-after-loop
+returns-after-loop c = count_spent _ _ _ _ _ c.args.most c.loop.counter _ c.loop.invariant.0 c.loop-test.false
+
+pub returns-then-p : goal.returns-then-p
+returns-then-p c = count-null _ _ _ _ _ _ _ c.loop.invariant.0 c.if-p.true

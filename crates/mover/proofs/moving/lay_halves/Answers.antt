@@ -11,7 +11,7 @@ pub returns : goal.returns
 returns c =
     let a = c.args in
     let s = lent_set a.lengths.now a.bins.now a.heads.now a.names.now a.cells.now in
-    both s a.k a.i a.j a.g a.h a.low a.high c.half_first-a.ensures c.half_first-b.ensures
+    λ under over e f. both s a.k a.i a.j under over a.low a.high c.half_first-a.ensures c.half_first-b.ensures
     c.take_bin.ensures
-    c.lay.ensures
-    c.lay-2.ensures
+    (c.lay.ensures under e)
+    (c.lay-2.ensures over f)

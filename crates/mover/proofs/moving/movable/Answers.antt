@@ -15,15 +15,15 @@ returns-then-length-i c =
     let s = lent_set a.lengths.now a.bins.now a.heads.now a.names.now a.cells.now in
     no_bin s a.k a.i c.if-lengths-k.false c.length_at-length.ensures c.if-length-i.true
 
-pub returns-then-gone : goal.returns-then-gone
-returns-then-gone c =
+pub returns-then-says_moved : goal.returns-then-says_moved
+returns-then-says_moved c =
     let a = c.args in
     let s = lent_set a.lengths.now a.bins.now a.heads.now a.names.now a.cells.now in
-    gone s a.k a.i c.if-lengths-k.false c.length_at-length.ensures c.if-length-i.false c.says_moved-gone.ensures c.if-gone.true
+    gone s a.k a.i c.if-lengths-k.false c.length_at-length.ensures c.if-length-i.false c.says_moved.ensures c.if-says_moved.true
 
 pub returns : goal.returns
 returns c =
     let a = c.args in
     let s = lent_set a.lengths.now a.bins.now a.heads.now a.names.now a.cells.now in
-    may s a.k a.i c.if-lengths-k.false c.length_at-length.ensures c.if-length-i.false c.says_moved-gone.ensures c.if-gone.false
+    may s a.k a.i c.if-lengths-k.false c.length_at-length.ensures c.if-length-i.false c.says_moved.ensures c.if-says_moved.false
     c.parent_moved.ensures

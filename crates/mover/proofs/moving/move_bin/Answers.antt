@@ -1,37 +1,33 @@
 -- Each way out is one of the model's.
 use mathlib.Core.Path.{ap, sym, ◌∙◌}
-use borrow.Author.Tests.{not-false, not-true}
-use borrow.Enum.Refused.{opened}
+use mathlib.Core.Bool.{true, false}
+use Rattle.slots.specs.Coded.{verdict}
 use Rattle.set_rules.specs.Words.{lent_set}
-use Rattle.sets.specs.Verdicts.{accept_of}
-use Rattle.mover.proofs.Moves.{unfit_moves, table_moves, damaged_moves, yes_accepts}
+use Rattle.mover.proofs.Moves.{passed, judged, judged_unfit, unfit_moves, table_moves, damaged_moves}
 use Rattle.mover.proofs.moving.move_bin.Goals as goal
 
-pub returns-then-not-fit : goal.returns-then-not-fit
-returns-then-not-fit c =
+pub returns-in_err-accepted : goal.returns-in_err-accepted
+returns-in_err-accepted c =
     let a = c.args in
     let s = lent_set a.lengths.now a.bins.now a.heads.now a.names.now a.cells.now in
-    unfit_moves s a.table a.bin (sym c.fit_set-fit.ensures ∙ not-true c.fit_set-fit.result c.if-not-fit.true-raw)
+    rw (passed _ _ c.from_residual.ensures.1) (unfit_moves s a.table a.bin (judged_unfit s c.in_err-accepted.ensures))
 
 pub returns-then-lengths-table : goal.returns-then-lengths-table
 returns-then-lengths-table c =
     let a = c.args in
     let s = lent_set a.lengths.now a.bins.now a.heads.now a.names.now a.cells.now in
-    table_moves s a.table a.bin (sym c.fit_set-fit.ensures ∙ not-false c.fit_set-fit.result c.if-not-fit.false-raw) c.if-lengths-table.true
+    table_moves s a.table a.bin (judged s _ c.in_ok-accepted.ensures).0 c.if-lengths-table.true
 
-pub returns-in_default : goal.returns-in_default
-returns-in_default c =
+pub returns-then-not-accepted : goal.returns-then-not-accepted
+returns-then-not-accepted c =
     let a = c.args in
     let s = lent_set a.lengths.now a.bins.now a.heads.now a.names.now a.cells.now in
-    damaged_moves s a.table a.bin
-    (sym c.fit_set-fit.ensures ∙ not-false c.fit_set-fit.result c.if-not-fit.false-raw) c.if-lengths-table.false
-    c.accept-judged.result
-    c.accept-judged.ensures
-    (opened c.in_default.in_default-own.keys2)
+    let both = judged s false (ap verdict (sym c.if-not-accepted.true) ∙ c.in_ok-accepted.ensures) in
+    damaged_moves s a.table a.bin both.0 c.if-lengths-table.false both.1
 
 pub move_accepted-requires : goal.move_accepted-requires
 move_accepted-requires c =
     let a = c.args in
     let s = lent_set a.lengths.now a.bins.now a.heads.now a.names.now a.cells.now in
-    let fit = sym c.fit_set-fit.ensures ∙ c.if-not-fit.false in
-    (yes_accepts s a.table a.bin fit (sym (ap accept_of c.in-Yes.is) ∙ c.accept-judged.ensures), c.if-lengths-table.false)
+    let both = judged s true (ap verdict (sym c.if-not-accepted.false) ∙ c.in_ok-accepted.ensures) in
+    (record { fit = both.0; accepts = both.1 }, c.if-lengths-table.false)

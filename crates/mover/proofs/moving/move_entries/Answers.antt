@@ -1,9 +1,11 @@
 -- Each way out is one of the model's. A bin that may be moved keeps every number within its word.
-use mathlib.Core.Path.{refl, sym, ◌∙◌}
+use mathlib.Core.Path.{refl, ap, ◌∙◌}
 use Prim.Native.Nat.{◌+◌}
 use native.Mathlib.Omega.{arith}
 use Rattle.set_rules.specs.Words.{lent_set}
-use Rattle.mover.proofs.Moves.{half_most, within, low_short, high_short, moved}
+use Rattle.mover.specs.Moved.{header_after}
+use Rattle.mover.proofs.Heading.{headed_err, headed_ok, after_is, real}
+use Rattle.mover.proofs.Moves.{half_most, within, low_short, high_short, moved, passed}
 use Rattle.mover.proofs.moving.move_entries.Goals as goal
 
 pub overflow_cast-n : goal.overflow_cast-n
@@ -37,30 +39,26 @@ half_count-high-requires c =
     let s = lent_set a.lengths.now a.bins.now a.heads.now a.names.now a.cells.now in
     (refl, (within s a.k a.i c.requires.0 c.requires.1).table)
 
-pub returns-then-none : goal.returns-then-none
-returns-then-none c =
+pub returns-in_err-g : goal.returns-in_err-g
+returns-in_err-g c =
     let a = c.args in
     let s = lent_set a.lengths.now a.bins.now a.heads.now a.names.now a.cells.now in
-    low_short s a.k a.i c.half_count-low.ensures c.length_at-length.ensures c.half_count-high.ensures c.header_of-own.ensures
-    c.header_for-g.ensures
-    c.lacks-none.ensures
-    c.if-none.true
+    let lack = headed_err _ _ c.in_err-g.ensures in
+    rw (passed _ _ c.from_residual.ensures.1, lack.1)
+    (low_short s a.k a.i c.half_count-low.ensures c.length_at-length.ensures c.half_count-high.ensures c.header_of-own.ensures refl lack.0)
 
-pub after_low-from-requires : goal.after_low-from-requires
-after_low-from-requires c = sym c.lacks-none.ensures ∙ c.if-none.false
+pub after_low-requires : goal.after_low-requires
+after_low-requires c = let has = headed_ok _ _ c.in_ok-g.ensures in rw has.1 (real _ _ has.0)
 
-pub returns-then-short : goal.returns-then-short
-returns-then-short c =
+pub returns-in_err-h : goal.returns-in_err-h
+returns-in_err-h c =
     let a = c.args in
     let s = lent_set a.lengths.now a.bins.now a.heads.now a.names.now a.cells.now in
-    high_short s a.k a.i c.half_count-low.ensures c.length_at-length.ensures c.half_count-high.ensures c.header_of-own.ensures
-    c.header_for-g.ensures
-    c.lacks-none.ensures
-    c.if-none.false
-    c.after_low-from.ensures
-    c.header_for-h.ensures
-    c.lacks-short.ensures
-    c.if-short.true
+    let has = headed_ok _ _ c.in_ok-g.ensures in
+    let lack = headed_err _ _ c.in_err-h.ensures in
+    rw (passed _ _ c.from_residual-in_err-h.ensures.1, lack.1)
+    (high_short s a.k a.i c.half_count-low.ensures c.length_at-length.ensures c.half_count-high.ensures c.header_of-own.ensures refl
+    has.0 (c.after_low.ensures ∙ ap header_after has.1 ∙ after_is _ _) refl lack.0)
 
 pub lay_halves-requires : goal.lay_halves-requires
 lay_halves-requires c =
@@ -85,12 +83,8 @@ pub returns : goal.returns
 returns c =
     let a = c.args in
     let s = lent_set a.lengths.now a.bins.now a.heads.now a.names.now a.cells.now in
-    moved s a.k a.i c.half_count-low.ensures c.length_at-length.ensures c.half_count-high.ensures c.header_of-own.ensures
-    c.header_for-g.ensures
-    c.lacks-none.ensures
-    c.if-none.false
-    c.after_low-from.ensures
-    c.header_for-h.ensures
-    c.lacks-short.ensures
-    c.if-short.false
-    c.lay_halves.ensures
+    let low = headed_ok _ _ c.in_ok-g.ensures in
+    let high = headed_ok _ _ c.in_ok-h.ensures in
+    moved s a.k a.i c.half_count-low.ensures c.length_at-length.ensures c.half_count-high.ensures c.header_of-own.ensures refl
+    low.0 (c.after_low.ensures ∙ ap header_after low.1 ∙ after_is _ _) refl high.0
+    (c.lay_halves.ensures _ _ low.1 high.1)

@@ -1,21 +1,12 @@
-use borrow.Author.Rules.{rules}
 use Rattle.mover.proofs.Passing.{plain-null, plain_spent, plain_on}
 use Rattle.mover.proofs.passes.plain.Goals as goal
 
-pub loop-p-init : goal.loop-p-init
-loop-p-init c = search rules
+pub loop-preserved : goal.loop-preserved
+loop-preserved c =
+    plain_on _ c.args.most c.loop.counter _ c.loop.invariant c.if-p.false c.loop-test.true c.get-next.ensures c.plain_slot.ensures
 
-pub returns-then-left-eq0 : goal.returns-then-left-eq0
-returns-then-left-eq0 c = plain_spent _ _ _ c.loop-p.invariant.0 c.if-left-eq0.true
+pub returns-after-loop : goal.returns-after-loop
+returns-after-loop c = plain_spent _ c.args.most c.loop.counter _ c.loop.invariant c.loop-test.false
 
-pub loop-p-preserved : goal.loop-p-preserved
-loop-p-preserved c = (
-  plain_on _ _ _ c.loop-p.invariant.0 c.loop-p-test.true c.if-left-eq0.false c.get-next.ensures
-      c.plain_slot.ensures,
-  search rules,
-  search rules,
-  search rules,
-)
-
-pub returns : goal.returns
-returns c = plain-null _ _ _ c.loop-p.invariant.0 c.loop-p-test.false
+pub returns-then-p : goal.returns-then-p
+returns-then-p c = plain-null _ _ _ c.loop.invariant c.if-p.true

@@ -13,27 +13,27 @@ pub returns-then-depth-eq0 : goal.returns-then-depth-eq0
 returns-then-depth-eq0 t c =
     level_out c.args.cells.now c.args.i c.args.depth c.if-i-eq-NULL.false c.if-depth-eq0.true
 
-pub returns-in_default : goal.returns-in_default
-returns-in_default t c = search (rules, level_no_left)
+pub returns-in_err-a : goal.returns-in_err-a
+returns-in_err-a t c = search (rules, level_no_left)
 
-pub returns-in_default-rights : goal.returns-in_default-rights
-returns-in_default-rights t c = search (rules, level_no_right)
+pub returns-in_err-b : goal.returns-in_err-b
+returns-in_err-b t c = search (rules, level_no_right)
 
 pub returns-then-a-b : goal.returns-then-a-b
 returns-then-a-b t c =
-    level_differ c.args.cells.now c.args.i c.args.depth c.if-i-eq-NULL.false c.if-depth-eq0.false c.get-l.ensures
-    c.in-Even.ensures c.get-r.ensures c.in-Even-rights.ensures c.if-a-b.true
+    level_differ c.args.cells.now c.args.i c.args.depth c.if-i-eq-NULL.false c.if-depth-eq0.false c.get.ensures
+    c.in_ok-a.ensures c.get-2.ensures c.in_ok-b.ensures c.if-a-b.true
 
-pub returns-then-red : goal.returns-then-red
-returns-then-red t c =
-    level_red c.args.cells.now c.args.i c.args.depth c.if-i-eq-NULL.false c.if-depth-eq0.false c.get-l.ensures
-    c.in-Even.ensures c.get-r.ensures c.in-Even-rights.ensures c.if-a-b.false c.is_red-red.ensures c.if-red.true
+pub returns-then-is_red : goal.returns-then-is_red
+returns-then-is_red t c =
+    level_red c.args.cells.now c.args.i c.args.depth c.if-i-eq-NULL.false c.if-depth-eq0.false c.get.ensures
+    c.in_ok-a.ensures c.get-2.ensures c.in_ok-b.ensures c.if-a-b.false c.is_red.ensures c.if-is_red.true
 
 pub overflow_add-result : goal.overflow_add-result
 overflow_add-result t c =
-    omega (arith, level_bound _ _ _ _ (sym c.in-Even.ensures), c.if-depth-eq0.false, c.ranges.depth)
+    omega (arith, level_bound _ _ _ _ (sym c.in_ok-a.ensures), c.if-depth-eq0.false, c.ranges.depth)
 
 pub returns : goal.returns
 returns t c =
-    level_black c.args.cells.now c.args.i c.args.depth c.if-i-eq-NULL.false c.if-depth-eq0.false c.get-l.ensures
-    c.in-Even.ensures c.get-r.ensures c.in-Even-rights.ensures c.if-a-b.false c.is_red-red.ensures c.if-red.false
+    level_black c.args.cells.now c.args.i c.args.depth c.if-i-eq-NULL.false c.if-depth-eq0.false c.get.ensures
+    c.in_ok-a.ensures c.get-2.ensures c.in_ok-b.ensures c.if-a-b.false c.is_red.ensures c.if-is_red.false

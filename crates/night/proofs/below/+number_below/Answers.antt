@@ -18,5 +18,5 @@ overflow_add-a-2 t c = omega (arith, held_fits _ c.number_below-b.ensures, held_
 
 pub returns : goal.returns
 returns t c =
-    number_on c.args.cells.now c.args.i c.args.depth c.if-depth-eq0.false c.if-i-eq-NULL.false c.get-l.ensures
-    c.number_below-a.ensures c.get-r.ensures c.number_below-b.ensures c.held.ensures
+    number_on c.args.cells.now c.args.i c.args.depth c.if-depth-eq0.false c.if-i-eq-NULL.false c.get.ensures
+    c.number_below-a.ensures c.get-2.ensures c.number_below-b.ensures c.held.ensures

@@ -6,6 +6,3 @@ use Rattle.night.proofs.breach.set_link.Given as goal
 
 abbrev pub invariant-loop-f : goal.invariant-loop-f
 invariant-loop-f l = lowest_with (7 - l.f) (is_set l.cells l.i) l.f ≡ link_with (is_set l.cells l.i)
-
-abbrev pub decreases-loop-f : goal.decreases-loop-f
-decreases-loop-f l = 7 - l.f

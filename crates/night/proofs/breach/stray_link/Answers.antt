@@ -1,4 +1,4 @@
-use mathlib.Core.Path.{refl, ap, ◌∙◌}
+use mathlib.Core.Path.{ap, ◌∙◌}
 use Prim.Native.Nat.{ℕ}
 use mathlib.Core.Bool.{Bool}
 use native.Mathlib.Omega.{arith}
@@ -8,24 +8,19 @@ use Rattle.night_rules.specs.Why.{neg}
 use Rattle.night.proofs.Sought.{low_here, low_on, low_end}
 use Rattle.night.proofs.breach.stray_link.Goals as goal
 
-pub loop-f-init : goal.loop-f-init
-loop-f-init c = refl
-
-pub returns-then-not-named : goal.returns-then-not-named
-returns-then-not-named c =
+pub returns-then-not-in_range : goal.returns-then-not-in_range
+returns-then-not-in_range c =
     let a = c.args in
     let test : ℕ → Bool = λ g. neg (in_range a.n (cell a.cells.now a.i g)) in
-    let read = ap neg (c.in_range-named.ensures ∙ ap (in_range a.n) c.get-link.ensures) in
-    low_here test 7 c.loop-f.f read c.loop-f-test.true (ap neg c.if-not-named.true) ∙ c.loop-f.invariant
+    let read = ap neg (c.in_range.ensures ∙ ap (in_range a.n) c.get.ensures) in
+    low_here test 7 _ read c.loop-f-test.true (ap neg c.if-not-in_range.true) ∙ c.loop-f.invariant
 
 pub loop-f-preserved : goal.loop-f-preserved
 loop-f-preserved c =
     let a = c.args in
     let test : ℕ → Bool = λ g. neg (in_range a.n (cell a.cells.now a.i g)) in
-    let read = ap neg (c.in_range-named.ensures ∙ ap (in_range a.n) c.get-link.ensures) in
-    low_on test 7 c.loop-f.f read c.loop-f-test.true (ap neg c.if-not-named.false) ∙ c.loop-f.invariant
+    let read = ap neg (c.in_range.ensures ∙ ap (in_range a.n) c.get.ensures) in
+    low_on test 7 _ read c.loop-f-test.true (ap neg c.if-not-in_range.false) ∙ c.loop-f.invariant
 
 pub returns : goal.returns
-returns c =
-    let a = c.args in
-    low_end (λ g. neg (in_range a.n (cell a.cells.now a.i g))) _ _ (omega (arith, c.loop-f-test.false)) ∙ c.loop-f.invariant
+returns c = low_end _ _ _ (omega arith) ∙ c.loop-f.invariant

@@ -10,6 +10,3 @@ abbrev pub invariant-loop-f : goal.invariant-loop-f
 invariant-loop-f l =
     lowest_with (7 - l.f) (λ g. neg (in_range l.n (cell l.cells l.i g))) l.f
     ≡ link_with (λ g. neg (in_range l.n (cell l.cells l.i g)))
-
-abbrev pub decreases-loop-f : goal.decreases-loop-f
-decreases-loop-f l = 7 - l.f

@@ -1,7 +1,6 @@
 -- The search says whether the pair is there; then the slot that it came from is told, or the second tree grows by one slot.
 use mathlib.Core.Path.{◌∙◌}
 use native.Mathlib.Omega.{arith}
-use borrow.Enum.Refused.{opened}
 use Rattle.index.proofs.Asking.{sought-at, sought-not}
 use Rattle.index.proofs.Room.{grown-is}
 use Rattle.night.proofs.Saving.{sources_stay, sources_more, repeat_most, pair_repeats, pair-kept, came_source}
@@ -36,7 +35,7 @@ returns c =
     let ready = c.requires.slot_ready in (
       pair-kept _ _ _ _ _ _ c.name-hash.ensures c.name-key.ensures
           (sought-not _ _ _ c.word-root.ensures c.find_tree_node-found.result c.find_tree_node-found.ensures
-          (opened c.in_default.in_default-own.keys2))
+          c.in_default.not-At)
           c.get-place.ensures
           (c.grow.ensures ∙ grown-is _ c.requires.names2_len_bound _ _ _ _ _ c.requires.null_bound)
           c.put_word-2.ensures,

@@ -1,15 +1,10 @@
--- The loop's invariant: the search from here finds what the search from the start finds.
+-- The loop's invariant: whatever the test decides, the search from here finds what the search from the start finds.
 use mathlib.Core.Path.{◌≡◌}
-use Prim.Native.Nat.{◌-◌}
-use Rattle.index_rules.specs.Live.{lent_tree}
+use mathlib.Core.Bool.{Bool}
+use Prim.Native.Nat.{ℕ, ◌-◌, ◌<◌}
 use Rattle.night_rules.specs.Why.{lowest_with}
-use Rattle.night.specs.Shown.{shows_rule}
 use Rattle.night.proofs.search.lowest.Given as goal
 
 abbrev pub invariant-loop-i : goal.invariant-loop-i
-invariant-loop-i l =
-    lowest_with (l.n - l.i) (shows_rule l.rule (lent_tree l.names l.cells l.head l.sizes)) l.i
-    ≡ lowest_with l.n (shows_rule l.rule (lent_tree l.names l.cells l.head l.sizes)) 0
-
-abbrev pub decreases-loop-i : goal.decreases-loop-i
-decreases-loop-i l = l.n - l.i
+invariant-loop-i g l = (f : ℕ → Bool) → ((i : ℕ) → i < l.n → (b : Bool) → goal.F-post g l.shows i b → b ≡ f i) → lowest_with (l.n - l.i) f
+    l.i ≡ lowest_with l.n f 0

@@ -33,4 +33,4 @@ pub returns : goal.returns
 returns c =
     rw (← c.blacks_to-k.ensures)
     (c.lefts.ensures
-    ∙ way_on_lem _ _ rightward _ c.get-q.ensures _ (omega (arith, c.if-n-eq0.false)) c.if-q.false c.one_if_black-one.ensures)
+    ∙ way_on_lem _ _ rightward _ c.get-q.ensures _ _ (omega (arith, c.if-n-eq0.false)) c.if-q.false c.one_if_black-one.ensures)

@@ -1,16 +1,13 @@
-use mathlib.Core.Path.{refl, ◌∙◌}
-use Rattle.night.proofs.Stepping.{leads_there, leads_out, leads_on}
+use mathlib.Core.Path.{◌∙◌}
+use native.Mathlib.Omega.{arith}
+use Rattle.night.proofs.Stepping.{leads_there, leads_end, leads_on}
 use Rattle.night.proofs.ways.leads_to.Goals as goal
 
-pub loop-at-init : goal.loop-at-init
-loop-at-init c = refl
+pub returns-then-at-x : goal.returns-then-at-x
+returns-then-at-x c = leads_there _ _ _ _ _ c.if-at-x.true ∙ c.loop.invariant
 
-pub returns-then-left-eq0 : goal.returns-then-left-eq0
-returns-then-left-eq0 c = leads_out _ _ _ _ _ c.loop-at-test.true c.if-left-eq0.true ∙ c.loop-at.invariant
-
-pub loop-at-preserved : goal.loop-at-preserved
-loop-at-preserved c =
-    leads_on _ _ _ _ _ c.loop-at-test.true c.if-left-eq0.false c.get-at.ensures ∙ c.loop-at.invariant
+pub loop-preserved : goal.loop-preserved
+loop-preserved c = leads_on _ _ _ _ _ _ (omega arith) c.if-at-x.false c.get-at.ensures ∙ c.loop.invariant
 
 pub returns : goal.returns
-returns c = leads_there _ _ _ _ _ c.loop-at-test.false ∙ c.loop-at.invariant
+returns c = leads_end _ _ _ _ _ (omega arith) ∙ c.loop.invariant

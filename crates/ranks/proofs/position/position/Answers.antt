@@ -1,26 +1,32 @@
 -- The full check's answer settles the tests; then the way down decides.
-use Rattle.std.proofs.Common.{sym, ap, ◌∙◌, arith}
-use Rattle.index.specs.Reads.{sound_of}
-use Rattle.ranks.specs.Ways.{rank_of}
+use Rattle.std.proofs.Common.{◌≡◌, ℕ, refl, sym, ap, ◌∙◌, arith}
+use Rattle.std.specs.Prelude.{Option, None, Some}
+use Rattle.std.specs.Option.{ok_or}
+use Rattle.slots.specs.Coded.{value_of, verdict}
+use Rattle.index_rules.specs.Ranks.{ranked}
+use Rattle.index.proofs.Asking.{passed}
+use Rattle.ranks.specs.declared.position.PositionRefusal.TheVariants.{Unfit, Absent}
 use Rattle.ranks.proofs.Calls.{few, position_unfit, position_damaged, position_done}
+use Rattle.ranks.specs.Calls.{position_of}
 use Rattle.ranks.proofs.position.position.Goals as goal
 
-pub overflow_cast-names : goal.overflow_cast-names
-overflow_cast-names c =
-    omega (arith, few _ (ap sound_of (sym c.in-Yes.is) ∙ c.sound-verdict.ensures))
+-- A position, or that the pair is absent.
+ranked_so : (r : Option ℕ) → position_of (ok_or r Absent) ≡ ranked (value_of r)
+ranked_so None = refl
+ranked_so (Some k) = refl
 
-pub returns-in-Unfit : goal.returns-in-Unfit
-returns-in-Unfit c = position_unfit _ _ _ (ap sound_of (sym c.in-Unfit.is) ∙ c.sound-verdict.ensures)
+pub returns-in_err-sound : goal.returns-in_err-sound
+returns-in_err-sound c = rw (passed Unfit _ c.from_residual.ensures.1) (position_unfit _ _ _ c.in_err-sound.ensures)
 
-pub returns-in-No : goal.returns-in-No
-returns-in-No c = position_damaged _ _ _ (ap sound_of (sym c.in-No.is) ∙ c.sound-verdict.ensures)
+pub returns-then-not-branch : goal.returns-then-not-branch
+returns-then-not-branch c = position_damaged _ _ _ (ap verdict (sym c.if-not-branch.true) ∙ c.in_ok-sound.ensures)
 
-pub returns-in-At : goal.returns-in-At
-returns-in-At c =
-    position_done _ _ _ (ap sound_of (sym c.in-Yes.is) ∙ c.sound-verdict.ensures) c.word-root.ensures
-    (ap rank_of (sym c.in-At.is) ∙ c.pair_rank-rank.ensures)
+pub overflow_cast-n : goal.overflow_cast-n
+overflow_cast-n c =
+    omega (arith, few _ (ap verdict (sym c.if-not-branch.false) ∙ c.in_ok-sound.ensures))
 
-pub returns-in-Absent : goal.returns-in-Absent
-returns-in-Absent c =
-    position_done _ _ _ (ap sound_of (sym c.in-Yes.is) ∙ c.sound-verdict.ensures) c.word-root.ensures
-    (ap rank_of (sym c.in-Absent.is) ∙ c.pair_rank-rank.ensures)
+pub returns : goal.returns
+returns c =
+    rw c.ok_or.ensures.value
+    (ranked_so c.pair_rank.result
+    ∙ position_done _ _ _ (ap verdict (sym c.if-not-branch.false) ∙ c.in_ok-sound.ensures) c.word-root.ensures c.pair_rank.ensures)

@@ -1,32 +1,20 @@
 -- What was checked is ready; else the full check says whether it is.
 use mathlib.Core.Path.{sym, ap, ◌∙◌}
-use Rattle.index.specs.Reads.{sound_of}
+use Rattle.slots.specs.Coded.{verdict}
 use Rattle.index.proofs.Singly.{ready}
 use Rattle.reader.proofs.Trusting.{entry_unfit, entry_damaged}
 use Rattle.reader.proofs.enter.enter.Goals as goal
 
-pub enter_sound-requires : goal.enter_sound-requires
-enter_sound-requires c =
-    c.requires c.if-checked.true
+pub enter_sound-requires-in-Ok-true : goal.enter_sound-requires-in-Ok-true
+enter_sound-requires-in-Ok-true c =
+    ready _ (ap verdict (sym c.in-Ok-true.field-0-test) ∙ c.in-Ok-true.ensures)
 
-pub returns-then-checked : goal.returns-then-checked
-returns-then-checked c =
-    c.enter_sound.ensures
-
-pub enter_sound-requires-in-Yes : goal.enter_sound-requires-in-Yes
-enter_sound-requires-in-Yes c =
-    ready _ (ap sound_of (sym c.in-Yes.is) ∙ c.sound_index-verdict.ensures)
-
-pub returns-in-Unfit : goal.returns-in-Unfit
-returns-in-Unfit c =
+pub returns-in-Err : goal.returns-in-Err
+returns-in-Err c =
     let a = c.args in
-    entry_unfit _ a.hash a.key a.place (ap sound_of (sym c.in-Unfit.is) ∙ c.sound_index-verdict.ensures)
+    rw c.into.ensures (entry_unfit _ a.hash a.key a.place c.in-Err.ensures)
 
-pub returns-in-No : goal.returns-in-No
-returns-in-No c =
+pub returns-in-Ok-false : goal.returns-in-Ok-false
+returns-in-Ok-false c =
     let a = c.args in
-    entry_damaged _ a.hash a.key a.place (ap sound_of (sym c.in-No.is) ∙ c.sound_index-verdict.ensures)
-
-pub returns-in-Yes : goal.returns-in-Yes
-returns-in-Yes c =
-    c.enter_sound-in-Yes.ensures
+    entry_damaged _ a.hash a.key a.place (ap verdict (sym c.in-Ok-false.field-0-test) ∙ c.in-Ok-false.ensures)

@@ -4,4 +4,4 @@ use Rattle.reader.proofs.enter.enter_sound.Goals as goal
 
 pub returns : goal.returns
 returns c =
-    entry_made _ c.args.hash c.args.key c.args.place c.requires c.insert_sound-inserted.ensures c.raise-raised.ensures
+    entry_made _ c.args.hash c.args.key c.args.place c.requires c.insert_sound-inserted.ensures c.raise.ensures

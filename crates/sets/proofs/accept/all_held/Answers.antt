@@ -25,9 +25,9 @@ overflow_sub-result c =
       heads = c.args.heads.now;
       names = c.args.names.now;
       cells = c.args.cells.now;
-    }) c.requires _ _ _ (sym c.table_fine-walk.ensures ∙ ap rest_of c.in-Left.is)
+    }) c.requires _ _ _ (sym c.table_fine-walk.ensures ∙ ap rest_of c.in-Some.is)
 
 pub returns : goal.returns
 unfolding all_held
 returns c =
-    rw (← c.table_fine-walk.ensures, c.in-Left.is, ← c.used_slots-used.ensures)
+    rw (← c.table_fine-walk.ensures, c.in-Some.is, ← c.used_slots-used.ensures)

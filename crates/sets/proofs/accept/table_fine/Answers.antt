@@ -32,8 +32,8 @@ loop-i-init c =
       search rules,
     )
 
-pub bin_fine-walk-requires : goal.bin_fine-walk-requires
-bin_fine-walk-requires c =
+pub bin_fine-requires : goal.bin_fine-requires
+bin_fine-requires c =
     room_first (record {
       lengths = c.args.lengths.now;
       bins = c.args.bins.now;
@@ -42,14 +42,15 @@ bin_fine-walk-requires c =
       cells = c.args.cells.now;
     }) c.requires c.loop-i.i c.loop-i.invariant.1
 
-pub returns-in_default : goal.returns-in_default
-returns-in_default c =
+pub returns-in_err-rest : goal.returns-in_err-rest
+returns-in_err-rest c =
     let a = c.args in
-    table_wrong
+    rw c.from_residual.ensures
+    (table_wrong
     (record { lengths = a.lengths.now; bins = a.bins.now; heads = a.heads.now; names = a.names.now; cells = a.cells.now })
     c.loop-i.i c.loop-i.rest c.loop-i-test.true
-    (sym (ap rest_of c.in_default.is) ∙ c.bin_fine-walk.ensures)
-    ∙ c.loop-i.invariant.0
+    (sym (ap rest_of c.in_err-rest.was) ∙ c.bin_fine.ensures)
+    ∙ c.loop-i.invariant.0)
 
 pub loop-i-preserved : goal.loop-i-preserved
 loop-i-preserved c =
@@ -61,7 +62,7 @@ loop-i-preserved c =
         names = a.names.now;
         cells = a.cells.now;
       }) c.loop-i.i c.loop-i.rest c.loop-i-test.true
-          (sym (ap rest_of c.in-Left.is) ∙ c.bin_fine-walk.ensures)
+          (sym (ap rest_of c.in_ok-rest.was) ∙ c.bin_fine.ensures)
           ∙ c.loop-i.invariant.0,
       search rules,
       search rules,

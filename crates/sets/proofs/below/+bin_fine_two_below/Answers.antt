@@ -14,19 +14,21 @@ bin_fine-returns-then-not-stands t c =
     bin_astray s a.left a.k a.i a.may a.visits (bin-read s c.requires c.bin_from-bin.ensures) c.may_stand-stands.ensures
     c.if-not-stands.true
 
-pub bin_fine-returns-in_default : goal.bin_fine-returns-in_default
-bin_fine-returns-in_default t c =
+pub bin_fine-returns-in_err-rest : goal.bin_fine-returns-in_err-rest
+bin_fine-returns-in_err-rest t c =
     let a = c.args in
     let s : Set = record { lengths = a.lengths.now; bins = a.bins.now; heads = a.heads.now; names = a.names.now; cells = a.cells.now } in
-    bin_wrong s a.left a.k a.i a.may a.visits (bin-read s c.requires c.bin_from-bin.ensures) c.may_stand-stands.ensures
-    c.if-not-stands.false c.length_at-length.ensures (ap rest_of (sym c.in_default.is) ∙ c.own_fine-own.ensures)
+    rw c.from_residual.ensures
+    (bin_wrong s a.left a.k a.i a.may a.visits (bin-read s c.requires c.bin_from-bin.ensures) c.may_stand-stands.ensures
+    c.if-not-stands.false c.length_at-length.ensures (ap rest_of (sym c.in_err-rest.was) ∙ c.own_fine.ensures))
 
 pub bin_fine-returns : goal.bin_fine-returns
 bin_fine-returns t c =
     let a = c.args in
     let s : Set = record { lengths = a.lengths.now; bins = a.bins.now; heads = a.heads.now; names = a.names.now; cells = a.cells.now } in
     bin_on s a.left a.k a.i a.may a.visits (bin-read s c.requires c.bin_from-bin.ensures) c.may_stand-stands.ensures
-    c.if-not-stands.false c.length_at-length.ensures c.in-Left.ensures c.is_moved-opened.ensures c.two_below.ensures
+    c.if-not-stands.false c.length_at-length.ensures
+    (ap rest_of (sym c.in_ok-rest.was) ∙ c.own_fine.ensures) c.is_moved-opened.ensures c.two_below.ensures
 
 pub two_below-returns-then-left-eq0 : goal.two_below-returns-then-left-eq0
 two_below-returns-then-left-eq0 t c =
@@ -54,22 +56,24 @@ two_below-overflow_add-i t c =
     let r = c.requires in
     omega (arith, room_from r, r.tables, r.index, r.lengths_most c.args.k, c.length_at-length.ensures)
 
-pub two_below-bin_fine-near-requires : goal.two_below-bin_fine-near-requires
-two_below-bin_fine-near-requires t c =
-    (omega (arith, c.decreases, c.if-left-eq0.false), room_near c.requires c.if-left-eq0.false c.length_at-length.ensures refl)
-
-pub two_below-returns-in_default : goal.two_below-returns-in_default
-two_below-returns-in_default t c =
-    let a = c.args in
-    let s : Set = record { lengths = a.lengths.now; bins = a.bins.now; heads = a.heads.now; names = a.names.now; cells = a.cells.now } in
-    below_wrong s a.left a.k a.i a.may a.visits c.if-left-eq0.false (ap rest_of (sym c.in_default.is) ∙ c.bin_fine-near.ensures)
-
 pub two_below-bin_fine-requires : goal.two_below-bin_fine-requires
 two_below-bin_fine-requires t c =
+    (omega (arith, c.decreases, c.if-left-eq0.false), room_near c.requires c.if-left-eq0.false c.length_at-length.ensures refl)
+
+pub two_below-returns-in_err-rest : goal.two_below-returns-in_err-rest
+two_below-returns-in_err-rest t c =
+    let a = c.args in
+    let s : Set = record { lengths = a.lengths.now; bins = a.bins.now; heads = a.heads.now; names = a.names.now; cells = a.cells.now } in
+    rw c.from_residual.ensures
+    (below_wrong s a.left a.k a.i a.may a.visits c.if-left-eq0.false (ap rest_of (sym c.in_err-rest.was) ∙ c.bin_fine.ensures))
+
+pub two_below-bin_fine-requires-2 : goal.two_below-bin_fine-requires-2
+two_below-bin_fine-requires-2 t c =
     (omega (arith, c.decreases, c.if-left-eq0.false), room_far c.requires c.if-left-eq0.false c.length_at-length.ensures refl)
 
 pub two_below-returns : goal.two_below-returns
 two_below-returns t c =
     let a = c.args in
     let s : Set = record { lengths = a.lengths.now; bins = a.bins.now; heads = a.heads.now; names = a.names.now; cells = a.cells.now } in
-    below_both s a.left a.k a.i a.may a.visits c.if-left-eq0.false c.length_at-length.ensures c.in-Left.ensures c.bin_fine.ensures
+    below_both s a.left a.k a.i a.may a.visits c.if-left-eq0.false c.length_at-length.ensures
+    (ap rest_of (sym c.in_ok-rest.was) ∙ c.bin_fine.ensures) c.bin_fine-2.ensures

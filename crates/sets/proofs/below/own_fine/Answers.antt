@@ -1,7 +1,14 @@
 -- Each way out closes by the kind of bin that led there.
+use mathlib.Core.Path.{◌≡◌}
+use mathlib.Core.Logic.{◌⊎◌, inl, inr}
 use mathlib.Core.List.{[]}
+use Prim.Native.Nat.{ℕ}
+use Rattle.slots.specs.Answers.{some}
 use Rattle.set_rules.specs.Words.{Set}
 use Rattle.set_rules.specs.Accepting.{own_fine}
+use Rattle.sets.specs.Bins.{bin_as}
+use Rattle.sets.specs.declared.bin.Bin.{Bin}
+use Rattle.sets.specs.declared.bin.Bin.TheVariants.{Empty, Moved, Bad}
 use Rattle.sets.proofs.Steps.{own_tree}
 use Rattle.sets.proofs.below.own_fine.Goals as goal
 
@@ -18,14 +25,11 @@ returns-in-Tree c =
     (own_tree s a.length a.i c.in-Tree.h a.visits c.header-root.ensures c.header-first.ensures
     c.header-count.ensures c.tree_fine.ensures)
 
+none_own : (s : Set) (len i : ℕ) (b : Bin) (v : ℕ) → (b ≡ Empty) ⊎ ((b ≡ Moved) ⊎ (b ≡ Bad)) → some v ≡ own_fine s len i (bin_as b) v
+unfolding own_fine
+none_own s len i b v (inl e) = rw e
+none_own s len i b v (inr (inl e)) = rw e
+none_own s len i b v (inr (inr e)) = rw e
+
 pub returns-in-Empty : goal.returns-in-Empty
-unfolding own_fine
-returns-in-Empty c = rw c.in-Empty.is
-
-pub returns-in-Moved : goal.returns-in-Moved
-unfolding own_fine
-returns-in-Moved c = rw c.in-Moved.is
-
-pub returns-in-Bad : goal.returns-in-Bad
-unfolding own_fine
-returns-in-Bad c = rw c.in-Bad.is
+returns-in-Empty c = none_own _ _ _ _ _ c.in-Empty.is

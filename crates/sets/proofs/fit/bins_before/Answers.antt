@@ -1,27 +1,26 @@
-use mathlib.Core.Path.{◌≡◌, ◌∙◌, ap, sym}
-use borrow.Author.Rules.{rules}
+use mathlib.Core.Path.{◌≡◌, refl, ◌∙◌, ap}
+use Prim.Native.Nat.{◌<◌}
 use native.Mathlib.Omega.{arith}
+use lib.ListN.{get_or, take}
+use Rattle.std.proofs.lemmas.List.{get_or-take, length-take}
 use Rattle.set_rules.specs.Words.{bins_before}
-use Rattle.sets.proofs.Sized.{begins_on, begins_past}
+use Rattle.sets.proofs.Sized.{begins_on, begins_within}
 use Rattle.sets.proofs.fit.bins_before.Goals as goal
 
-pub loop-j-init : goal.loop-j-init
+pub loop-length-init : goal.loop-length-init
 unfolding bins_before
-loop-j-init c = search rules
+loop-length-init c = (refl, omega arith)
 
-pub returns-then-lengths-j : goal.returns-then-lengths-j
-returns-then-lengths-j c =
-    let a = c.args in
-    c.loop-j.invariant.0 ∙ sym (begins_past a.lengths.now c.loop-j.j c.if-lengths-j.true a.k c.loop-j.invariant.2)
-
-pub loop-j-preserved : goal.loop-j-preserved
-loop-j-preserved c =
-    let a = c.args in
-    let step = begins_on a.lengths.now c.loop-j.j in
-    (omega (arith, step, c.length_at-length.ensures), search rules, search rules)
+pub loop-length-preserved : goal.loop-length-preserved
+loop-length-preserved c =
+    let l = c.args.lengths.now in
+    let k = c.loop-length.length-index in
+    let inside : k < c.min-tables.result = omega (arith, length-take c.min-tables.result l) in
+    let here : get_or (take c.min-tables.result l) k 0 ≡ get_or l k 0 = get_or-take c.min-tables.result l k 0 inside in
+    (omega (arith, here, begins_on l k), omega (arith, here, c.type_inv.lengths k))
 
 pub returns : goal.returns
 returns c =
-    let a = c.args in
-    let z : c.loop-j.j ≡ a.k = omega (arith, c.loop-j-test.false) in
-    c.loop-j.invariant.0 ∙ ap (bins_before a.lengths.now) z
+    let l = c.args.lengths.now in
+    let z : c.loop-length.length-index ≡ c.min-tables.result = omega (arith, length-take c.min-tables.result l) in
+    c.loop-length.invariant.0 ∙ ap (bins_before l) z ∙ begins_within l c.args.k _ c.min-tables.ensures

@@ -17,7 +17,7 @@ returns-then-long-short c =
     let l = c.args.lengths.now in
     let k = c.loop-k.k in
     let i = c.loop-k.invariant in
-    let n : get_or l k 0 ≢ 2 * get_or l (k - 1) 0 = omega (arith, c.if-long-short.true, c.word-long.ensures, i.1) in
+    let n : get_or l k 0 ≢ 2 * get_or l (k - 1) 0 = omega (arith, c.if-long-short.true, i.1) in
     sym (doubled_no l k i.2 n (length l - 1) (omega (arith, c.loop-k-test.true)))
 
 pub loop-k-preserved : goal.loop-k-preserved
@@ -25,9 +25,9 @@ loop-k-preserved c =
     let l = c.args.lengths.now in
     let k = c.loop-k.k in
     let i = c.loop-k.invariant in
-    let e : get_or l k 0 ≡ 2 * get_or l (k - 1) 0 = omega (arith, c.if-long-short.false, c.word-long.ensures, i.1) in
+    let e : get_or l k 0 ≡ 2 * get_or l (k - 1) 0 = omega (arith, c.if-long-short.false, i.1) in
     let z : k + 1 - 1 ≡ k = omega arith in
-    rw z (doubled_on l k i.2 i.0 e, c.word-long.ensures, search rules, search rules, search rules)
+    rw z (doubled_on l k i.2 i.0 e, search rules, search rules, search rules, search rules)
 
 pub returns : goal.returns
 returns c =

@@ -1,14 +1,13 @@
--- The loop's invariant: the count so far and what is left of the words make the whole.
+-- The loop's invariant: the count is that of the words so far, each counted once at most.
 use mathlib.Core.Path.{◌≡◌}
-use Prim.Native.Nat.{◌+◌, ◌≤◌}
+use Prim.Native.Nat.{◌≤◌, ◌-◌}
 use lib.ListN.{length}
 use Rattle.tree_rules.specs.Chain.{tally}
 use Rattle.set_rules.specs.Accepting.{naming}
 use Rattle.sets.proofs.headers.naming_bins.Given as goal
 
-abbrev pub invariant-loop-p : goal.invariant-loop-p
-invariant-loop-p l =
-    (l.count + tally l.p (naming l.n l.h l.bins) ≡ tally (length l.bins) (naming l.n l.h l.bins)) × (l.count + l.p ≤ length l.bins)
+abbrev pub invariant-loop-word : goal.invariant-loop-word
+invariant-loop-word l = (l.count ≡ tally l.word-index (naming l.n l.h l.bins)) × (l.count ≤ l.word-index)
 
-abbrev pub decreases-loop-p : goal.decreases-loop-p
-decreases-loop-p l = l.p
+abbrev pub decreases-loop-word : goal.decreases-loop-word
+decreases-loop-word l = length l.bins - l.word-index

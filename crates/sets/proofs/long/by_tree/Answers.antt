@@ -1,7 +1,6 @@
 use mathlib.Core.Path.{sym, ◌∙◌}
 use borrow.Author.Rules.{rules}
 use borrow.Author.Tests.{not-false, not-true}
-use borrow.Enum.Refused.{opened}
 use Rattle.sets.proofs.Hanging.{begun, passed, spent, not_home, answer_none, answer_else, repeated, hung}
 use Rattle.sets.proofs.long.by_tree.Goals as goal
 
@@ -28,12 +27,12 @@ returns-then-not-home c =
     c.loop-x-test.true c.if-left-eq0.false
     (sym c.slot_home-home.ensures ∙ not-true c.slot_home-home.result c.if-not-home.true-raw)
 
-pub returns-in_default : goal.returns-in_default
-returns-in_default c =
+pub returns-in-At : goal.returns-in-At
+returns-in-At c =
     let a = c.args in
     repeated a.names.now a.cells.now a.bins a.i a.first a.visits c.requires c.loop-x.invariant.0
     c.loop-x-test.true c.if-left-eq0.false c.name-hash.ensures c.name-key.ensures
-    (answer_else c.find_tree_node-found.result c.find_tree_node-found.ensures (opened c.in_default.in_default-own.keys2))
+    (answer_else c.find_tree_node.result c.find_tree_node.ensures c.in-At.is)
 
 pub loop-x-preserved : goal.loop-x-preserved
 loop-x-preserved c =
@@ -42,7 +41,7 @@ loop-x-preserved c =
           (hung a.names.now a.cells.now a.bins a.i a.first a.visits c.requires c.loop-x.invariant.0
           c.loop-x-test.true c.if-left-eq0.false c.name-hash.ensures c.name-key.ensures
           (sym c.slot_home-home.ensures ∙ not-false c.slot_home-home.result c.if-not-home.false-raw)
-          (answer_none c.find_tree_node-found.result c.find_tree_node-found.ensures c.in-Nothing.is)
+          (answer_none c.find_tree_node.result c.find_tree_node.ensures c.in-Nothing.is)
           c.hang_slot-top.ensures),
       search rules,
       search rules,

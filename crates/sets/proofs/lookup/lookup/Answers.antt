@@ -1,10 +1,11 @@
--- The tests of fitness and of the table decide between 1, 10 and the search, whose three answers are handed on; its looks are few enough
--- for a word.
-use mathlib.Core.Path.{sym, ap, ◌∙◌}
+-- The tests of fitness and of the table decide between 1, 10 and the search, whose looks are few enough for a word.
+use mathlib.Core.Path.{sym, ◌∙◌}
+use Prim.Native.Nat.{◌<◌}
 use native.Mathlib.Omega.{arith}
 use borrow.Author.Tests.{not-false}
-use Rattle.sets.proofs.Sized.{fits_few}
 use Rattle.tree.specs.Find.{searched_of}
+use Rattle.tree.proofs.Claims.{few_looks}
+use Rattle.sets.proofs.Sized.{fits_few}
 use Rattle.sets.proofs.Looking.{unfit, unknown, searched, looks_word}
 use Rattle.sets.proofs.lookup.lookup.Goals as goal
 
@@ -18,70 +19,14 @@ returns-then-lengths-table c =
 
 pub search-found-requires : goal.search-found-requires
 search-found-requires c =
-    (fits_few _ (sym c.fit_set-fits.ensures ∙ not-false c.fit_set-fits.result c.if-not-fits.false-raw), c.if-lengths-table.false)
+    fits_few _ (sym c.fit_set-fits.ensures ∙ not-false c.fit_set-fits.result c.if-not-fits.false-raw)
 
-pub overflow_cast-count : goal.overflow_cast-count
-overflow_cast-count c =
+pub returns : goal.returns
+returns c =
     let fine = c.if-not-fits.false in
-    omega (
+    let found = searched _ _ _ _ c.fit_set-fits.ensures fine c.if-lengths-table.false c.search-found.ensures in
+    let few : (searched_of c.search-found.result).looks < 4294967296 = omega (
       arith,
-      looks_word _ _ _ _ c.fit_set-fits.ensures fine
-          (searched _ _ _ _ c.fit_set-fits.ensures fine c.if-lengths-table.false
-          (ap searched_of (sym c.in-At.is) ∙ c.search-found.ensures)),
-    )
-
-pub overflow_cast-count-in-Nothing : goal.overflow_cast-count-in-Nothing
-overflow_cast-count-in-Nothing c =
-    let fine = c.if-not-fits.false in
-    omega (
-      arith,
-      looks_word _ _ _ _ c.fit_set-fits.ensures fine
-          (searched _ _ _ _ c.fit_set-fits.ensures fine c.if-lengths-table.false
-          (ap searched_of (sym c.in-Nothing.is) ∙ c.search-found.ensures)),
-    )
-
-pub overflow_cast-count-in-Lost : goal.overflow_cast-count-in-Lost
-overflow_cast-count-in-Lost c =
-    let fine = c.if-not-fits.false in
-    omega (
-      arith,
-      looks_word _ _ _ _ c.fit_set-fits.ensures fine
-          (searched _ _ _ _ c.fit_set-fits.ensures fine c.if-lengths-table.false
-          (ap searched_of (sym c.in-Lost.is) ∙ c.search-found.ensures)),
-    )
-
-pub returns-in-At : goal.returns-in-At
-returns-in-At c =
-    searched
-    _
-    _
-    _
-    _
-    c.fit_set-fits.ensures
-    c.if-not-fits.false
-    c.if-lengths-table.false
-    (ap searched_of (sym c.in-At.is) ∙ c.search-found.ensures)
-
-pub returns-in-Nothing : goal.returns-in-Nothing
-returns-in-Nothing c =
-    searched
-    _
-    _
-    _
-    _
-    c.fit_set-fits.ensures
-    c.if-not-fits.false
-    c.if-lengths-table.false
-    (ap searched_of (sym c.in-Nothing.is) ∙ c.search-found.ensures)
-
-pub returns-in-Lost : goal.returns-in-Lost
-returns-in-Lost c =
-    searched
-    _
-    _
-    _
-    _
-    c.fit_set-fits.ensures
-    c.if-not-fits.false
-    c.if-lengths-table.false
-    (ap searched_of (sym c.in-Lost.is) ∙ c.search-found.ensures)
+      looks_word _ _ _ _ c.fit_set-fits.ensures fine found,
+    ) in
+    c.in_a_word.ensures ∙ few_looks _ few ∙ found

@@ -2,7 +2,7 @@ use mathlib.Core.Path.{◌≡◌, refl, sym, ap, ◌∙◌}
 use native.Mathlib.Omega.{arith}
 use borrow.Author.Rules.{rules}
 use Rattle.sets.proofs.Sized.{begins_on, begins_most}
-use Rattle.sets.proofs.Looking.{at-empty, at_bad, at_list, at_tree, at_last, at_moved}
+use Rattle.sets.proofs.Looking.{at-empty, at_bad, at_list, at_tree, at_end, at_moved}
 use Rattle.set_rules.specs.Words.{Set}
 use Rattle.set_rules.specs.Lookup.{home_bin}
 use Rattle.sets.specs.Bins.{bin_as}
@@ -12,17 +12,16 @@ pub loop-k-init : goal.loop-k-init
 loop-k-init c =
     let a = c.args in
     let most = begins_most 4294967295 a.lengths.now (λ j. omega (arith, c.type_inv.lengths j)) a.table in
-    (refl, search rules, search rules, search rules, c.bins_before-from.ensures, omega (arith, most, c.bins_before-from.ensures))
+    (refl, search rules, search rules, c.bins_before-from.ensures, omega (arith, most, c.bins_before-from.ensures))
 
 pub loop-k-preserved : goal.loop-k-preserved
 loop-k-preserved c =
     let a = c.args in
     let s : Set = record { lengths = a.lengths.now; bins = a.bins.now; heads = a.heads.now; names = a.names.now; cells = a.cells.now } in
     let told : bin_as c.home_bin-bin.result ≡ home_bin s c.loop-k.k a.hash
-    = rw (c.home_bin-bin.ensures, c.length_at-length.ensures, c.loop-k.invariant.4) refl in (
-      at_moved s a.hash a.key c.loop-k.k c.loop-k.invariant.0 c.loop-k.invariant.1
+    = rw (c.home_bin-bin.ensures, c.length_at-length.ensures, c.loop-k.invariant.3) refl in (
+      at_moved s a.hash a.key c.loop-k.k c.loop-k.invariant.0 c.loop-k-test.true
           (ap bin_as (sym c.in-Moved.is) ∙ told),
-      omega (arith, c.if-lengths-k.false),
       search rules,
       search rules,
       omega (arith, begins_on a.lengths.now c.loop-k.k, c.length_at-length.ensures),
@@ -34,26 +33,17 @@ returns-in-Empty c =
     let a = c.args in
     let s : Set = record { lengths = a.lengths.now; bins = a.bins.now; heads = a.heads.now; names = a.names.now; cells = a.cells.now } in
     let told : bin_as c.home_bin-bin.result ≡ home_bin s c.loop-k.k a.hash
-    = rw (c.home_bin-bin.ensures, c.length_at-length.ensures, c.loop-k.invariant.4) refl in
-    at-empty s a.hash a.key c.loop-k.k c.loop-k.invariant.0 c.loop-k.invariant.1
+    = rw (c.home_bin-bin.ensures, c.length_at-length.ensures, c.loop-k.invariant.3) refl in
+    at-empty s a.hash a.key c.loop-k.k c.loop-k.invariant.0 c.loop-k-test.true
     (ap bin_as (sym c.in-Empty.is) ∙ told)
-
-pub returns-then-lengths-k : goal.returns-then-lengths-k
-returns-then-lengths-k c =
-    let a = c.args in
-    let s : Set = record { lengths = a.lengths.now; bins = a.bins.now; heads = a.heads.now; names = a.names.now; cells = a.cells.now } in
-    let told : bin_as c.home_bin-bin.result ≡ home_bin s c.loop-k.k a.hash
-    = rw (c.home_bin-bin.ensures, c.length_at-length.ensures, c.loop-k.invariant.4) refl in
-    at_last s a.hash a.key c.loop-k.k c.loop-k.invariant.0 c.loop-k.invariant.1
-    (ap bin_as (sym c.in-Moved.is) ∙ told) c.if-lengths-k.true
 
 pub returns-in-List : goal.returns-in-List
 returns-in-List c =
     let a = c.args in
     let s : Set = record { lengths = a.lengths.now; bins = a.bins.now; heads = a.heads.now; names = a.names.now; cells = a.cells.now } in
     let told : bin_as c.home_bin-bin.result ≡ home_bin s c.loop-k.k a.hash
-    = rw (c.home_bin-bin.ensures, c.length_at-length.ensures, c.loop-k.invariant.4) refl in
-    at_list s a.hash a.key c.loop-k.k c.loop-k.invariant.0 c.loop-k.invariant.1
+    = rw (c.home_bin-bin.ensures, c.length_at-length.ensures, c.loop-k.invariant.3) refl in
+    at_list s a.hash a.key c.loop-k.k c.loop-k.invariant.0 c.loop-k-test.true
     (ap bin_as (sym c.in-List.is) ∙ told) c.find_in_list.ensures
 
 pub returns-in-Tree : goal.returns-in-Tree
@@ -61,8 +51,8 @@ returns-in-Tree c =
     let a = c.args in
     let s : Set = record { lengths = a.lengths.now; bins = a.bins.now; heads = a.heads.now; names = a.names.now; cells = a.cells.now } in
     let told : bin_as c.home_bin-bin.result ≡ home_bin s c.loop-k.k a.hash
-    = rw (c.home_bin-bin.ensures, c.length_at-length.ensures, c.loop-k.invariant.4) refl in
-    at_tree s a.hash a.key c.loop-k.k c.loop-k.invariant.0 c.loop-k.invariant.1
+    = rw (c.home_bin-bin.ensures, c.length_at-length.ensures, c.loop-k.invariant.3) refl in
+    at_tree s a.hash a.key c.loop-k.k c.loop-k.invariant.0 c.loop-k-test.true
     (ap bin_as (sym c.in-Tree.is) ∙ told) c.header-root.ensures c.find_tree_node.ensures
 
 pub returns-in-Bad : goal.returns-in-Bad
@@ -70,6 +60,12 @@ returns-in-Bad c =
     let a = c.args in
     let s : Set = record { lengths = a.lengths.now; bins = a.bins.now; heads = a.heads.now; names = a.names.now; cells = a.cells.now } in
     let told : bin_as c.home_bin-bin.result ≡ home_bin s c.loop-k.k a.hash
-    = rw (c.home_bin-bin.ensures, c.length_at-length.ensures, c.loop-k.invariant.4) refl in
-    at_bad s a.hash a.key c.loop-k.k c.loop-k.invariant.0 c.loop-k.invariant.1
+    = rw (c.home_bin-bin.ensures, c.length_at-length.ensures, c.loop-k.invariant.3) refl in
+    at_bad s a.hash a.key c.loop-k.k c.loop-k.invariant.0 c.loop-k-test.true
     (ap bin_as (sym c.in-Bad.is) ∙ told)
+
+pub returns : goal.returns
+returns c =
+    let a = c.args in
+    let s : Set = record { lengths = a.lengths.now; bins = a.bins.now; heads = a.heads.now; names = a.names.now; cells = a.cells.now } in
+    at_end s a.hash a.key c.loop-k.k c.loop-k.invariant.0 c.loop-k-test.false

@@ -12,9 +12,9 @@ returns-in_default c =
 pub overflow_sub-result : goal.overflow_sub-result
 overflow_sub-result c =
     let a = c.args in
-    chained_within a.n a.cells.now a.n null a.first c.in-Left.rest
-    (sym c.chain-walk.ensures ∙ ap rest_of c.in-Left.is)
+    chained_within a.n a.cells.now a.n null a.first c.in-Some.rest
+    (sym c.chain-walk.ensures ∙ ap rest_of c.in-Some.is)
 
 pub returns : goal.returns
 returns c =
-    rw (← c.chain-walk.ensures, c.in-Left.is)
+    rw (← c.chain-walk.ensures, c.in-Some.is)

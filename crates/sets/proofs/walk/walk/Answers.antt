@@ -2,8 +2,9 @@
 use mathlib.Core.Path.{sym, ap, ◌∙◌}
 use Rattle.set_rules.specs.Words.{Set}
 use Rattle.sets.specs.Cursors.{sought_of, cursor_of}
-use Rattle.sets.proofs.Walking.{link_stray, link_next, from_bins}
-use Rattle.sets.specs.declared.walk.Sought.{Sought}
+use Rattle.sets.proofs.Walking.{link_stray, link_next, from_bins, lost_told}
+use Rattle.std.specs.Prelude.{Option, Result, Ok, ℕ}
+use Rattle.sets.specs.declared.walk.Lost.{Lost}
 use Rattle.sets.proofs.walk.walk.Goals as goal
 
 pub returns-then-names-link : goal.returns-then-names-link
@@ -20,16 +21,16 @@ returns-then-link c =
     record { lengths = a.lengths.now; bins = a.bins.now; heads = a.heads.now; names = a.names.now; cells = a.cells.now } in
     link_next s (cursor_of a.cursor) c.get-link.ensures c.trim-kept.ensures c.if-link.true c.if-names-link.false
 
-pub seek-sought-requires : goal.seek-sought-requires
-seek-sought-requires c =
+pub seek-requires : goal.seek-requires
+seek-requires c =
     let a = c.args in
     let s : Set =
     record { lengths = a.lengths.now; bins = a.bins.now; heads = a.heads.now; names = a.names.now; cells = a.cells.now } in
     let pre = c.requires in
     rw c.trim-indexes.ensures pre
 
-pub returns-in-At : goal.returns-in-At
-returns-in-At c =
+pub returns-in-Some : goal.returns-in-Some
+returns-in-Some c =
     let a = c.args in
     let s : Set =
     record { lengths = a.lengths.now; bins = a.bins.now; heads = a.heads.now; names = a.names.now; cells = a.cells.now } in
@@ -39,10 +40,12 @@ returns-in-At c =
     c.get-link.ensures
     c.trim-indexes.ensures
     c.if-link.false
-    (ap (λ (o : Sought). sought_of o c.seek-sought.new.indexes) (sym c.in-At.is) ∙ c.seek-sought.ensures)
+    (ap (λ (o : Result (Option (ℕ × ℕ)) Lost). sought_of o c.seek.new.indexes)
+    (sym (c.in_ok-sought.was ∙ ap (λ (o : Option (ℕ × ℕ)). Ok o) c.in-Some.is))
+    ∙ c.seek.ensures)
 
-pub returns-in-Ended : goal.returns-in-Ended
-returns-in-Ended c =
+pub returns-in-None : goal.returns-in-None
+returns-in-None c =
     let a = c.args in
     let s : Set =
     record { lengths = a.lengths.now; bins = a.bins.now; heads = a.heads.now; names = a.names.now; cells = a.cells.now } in
@@ -53,18 +56,20 @@ returns-in-Ended c =
     c.get-link.ensures
     c.trim-indexes.ensures
     c.if-link.false
-    (ap (λ (o : Sought). sought_of o c.seek-sought.new.indexes) (sym c.in-Ended.is)
-    ∙ c.seek-sought.ensures))
+    (ap (λ (o : Result (Option (ℕ × ℕ)) Lost). sought_of o c.seek.new.indexes)
+    (sym (c.in_ok-sought.was ∙ ap (λ (o : Option (ℕ × ℕ)). Ok o) c.in-None.is))
+    ∙ c.seek.ensures))
 
-pub returns-in-Lost : goal.returns-in-Lost
-returns-in-Lost c =
+pub returns-in_err-sought : goal.returns-in_err-sought
+returns-in_err-sought c =
     let a = c.args in
     let s : Set =
     record { lengths = a.lengths.now; bins = a.bins.now; heads = a.heads.now; names = a.names.now; cells = a.cells.now } in
-    from_bins
+    lost_told s (cursor_of a.cursor) c.from_residual.result c.from_residual.ensures.0 c.from_residual.ensures.1
+    ∙ from_bins
     s
     (cursor_of a.cursor)
     c.get-link.ensures
     c.trim-indexes.ensures
     c.if-link.false
-    (ap (λ (o : Sought). sought_of o c.seek-sought.new.indexes) (sym c.in-Lost.is) ∙ c.seek-sought.ensures)
+    c.in_err-sought.ensures

@@ -1,15 +1,8 @@
 -- The loop's invariant: the totals are those of the slots so far.
 use mathlib.Core.Path.{◌≡◌}
-use Prim.Native.Nat.{◌-◌, ◌/◌, ◌≤◌}
-use lib.ListN.{length}
 use Rattle.set_rules.specs.Words.{lent_set}
 use Rattle.figure_rules.specs.Tally.{slots_tallied}
 use Rattle.tally.proofs.add.add_slots.Given as goal
 
 abbrev pub invariant-loop-x : goal.invariant-loop-x
-invariant-loop-x l =
-    (l.totals ≡ slots_tallied (lent_set l.lengths l.bins l.heads l.names l.cells) l.x l.initial.totals) × (l.x ≤ l.n) ×
-    (l.n ≡ length l.names / 2)
-
-abbrev pub decreases-loop-x : goal.decreases-loop-x
-decreases-loop-x l = l.n - l.x
+invariant-loop-x l = l.totals ≡ slots_tallied (lent_set l.lengths l.bins l.heads l.names l.cells) l.x l.initial.totals

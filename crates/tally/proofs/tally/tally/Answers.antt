@@ -1,6 +1,5 @@
 -- Each way out is one of the model's.
 use native.Mathlib.Omega.{arith}
-use borrow.Enum.Refused.{opened}
 use Rattle.set_rules.specs.Words.{lent_set}
 use Rattle.tally.proofs.Tallied.{unfit_tallies, in_range_lem, wide_room, counted-word, many_tallies, turned-tallies, taken-tallies}
 use Rattle.tally.proofs.Tallied.{yes_fits, not-fits}
@@ -18,26 +17,26 @@ overflow_add-sets c =
     let s = lent_set a.lengths.now a.bins.now a.heads.now a.names.now a.cells.now in
     omega (
       arith,
-      counted-word s a.totals.now c.fit_totals-fit.ensures c.if-not-fit.false c.wide-sets.ensures
-          c.wide-refused.ensures,
+      counted-word s a.totals.now c.fit_totals-fit.ensures c.if-not-fit.false c.word-sets.ensures
+          c.word-refused.ensures,
     )
 
 pub returns-then-sets-refused-ge-MOST_SETS : goal.returns-then-sets-refused-ge-MOST_SETS
 returns-then-sets-refused-ge-MOST_SETS c =
     let a = c.args in
     let s = lent_set a.lengths.now a.bins.now a.heads.now a.names.now a.cells.now in
-    many_tallies s a.totals.now c.fit_totals-fit.ensures c.if-not-fit.false c.wide-sets.ensures
-    c.wide-refused.ensures
+    many_tallies s a.totals.now c.fit_totals-fit.ensures c.if-not-fit.false c.word-sets.ensures
+    c.word-refused.ensures
     c.if-sets-refused-ge-MOST_SETS.true
 
-pub returns-in_default : goal.returns-in_default
-returns-in_default c =
+pub returns-then-not-accepted : goal.returns-then-not-accepted
+returns-then-not-accepted c =
     let a = c.args in
     let s = lent_set a.lengths.now a.bins.now a.heads.now a.names.now a.cells.now in
-    turned-tallies s a.totals.now c.fit_totals-fit.ensures c.if-not-fit.false c.wide-sets.ensures
-    c.wide-refused.ensures
+    turned-tallies s a.totals.now c.fit_totals-fit.ensures c.if-not-fit.false c.word-sets.ensures
+    c.word-refused.ensures
     c.if-sets-refused-ge-MOST_SETS.false
-    (not-fits s c.accept-judged.result c.accept-judged.ensures (opened c.in_default.in_default-own.keys2))
+    (not-fits s c.accept.result c.accept.ensures c.unwrap_or-accepted.ensures c.if-not-accepted.true)
     c.add_to.ensures
 
 pub add_set-requires : goal.add_set-requires
@@ -45,7 +44,7 @@ add_set-requires c =
     let a = c.args in
     let s = lent_set a.lengths.now a.bins.now a.heads.now a.names.now a.cells.now in
     let fine = c.if-not-fit.false in (
-      (yes_fits s c.accept-judged.result c.accept-judged.ensures c.in-Yes.is).0,
+      (yes_fits s c.accept.result c.accept.ensures c.unwrap_or-accepted.ensures c.if-not-accepted.false).0,
       (in_range_lem s a.totals.now c.fit_totals-fit.ensures fine).long,
       wide_room s a.totals.now c.fit_totals-fit.ensures fine,
     )
@@ -54,9 +53,9 @@ pub returns : goal.returns
 returns c =
     let a = c.args in
     let s = lent_set a.lengths.now a.bins.now a.heads.now a.names.now a.cells.now in
-    let both = yes_fits s c.accept-judged.result c.accept-judged.ensures c.in-Yes.is in
-    taken-tallies s a.totals.now c.fit_totals-fit.ensures c.if-not-fit.false c.wide-sets.ensures
-    c.wide-refused.ensures
+    let both = yes_fits s c.accept.result c.accept.ensures c.unwrap_or-accepted.ensures c.if-not-accepted.false in
+    taken-tallies s a.totals.now c.fit_totals-fit.ensures c.if-not-fit.false c.word-sets.ensures
+    c.word-refused.ensures
     c.if-sets-refused-ge-MOST_SETS.false
     both.0
     both.1

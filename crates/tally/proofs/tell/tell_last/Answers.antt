@@ -7,4 +7,4 @@ pub returns : goal.returns
 returns c =
     let a = c.args in
     last_told a.totals.now _ c.tell_word-more.ensures
-    (c.fill.ensures ∙ mean_told a.totals.now _ c.wide.ensures c.wide-2.ensures)
+    (c.fill.ensures ∙ mean_told a.totals.now _ c.word.ensures c.word-2.ensures)

@@ -5,26 +5,16 @@ use Rattle.tally.proofs.Telling.{row_told, rows_turn, rows_over}
 use Rattle.tally.proofs.tell.tell_rows.Goals as goal
 
 pub loop-i-init : goal.loop-i-init
-loop-i-init c = (refl, refl, omega arith)
-
-pub loop-i-smaller : goal.loop-i-smaller
-loop-i-smaller c = omega (arith, c.loop-i-test.true)
+loop-i-init c = refl
 
 pub loop-i-preserved : goal.loop-i-preserved
 loop-i-preserved c =
     let l = c.loop-i in
-    let t = c.args.totals.now in (
-      rows_turn t (lent_paper l.out l.end) l.i c.loop-i-test.true (c.fill-end.ensures ∙ row_told t _ l.i c.wide.ensures)
-          ∙ l.invariant.0,
-      c.fill-end.auto.out ∙ l.invariant.1,
-      omega arith,
-    )
-
-pub shape_of-out : goal.shape_of-out
-shape_of-out c = c.loop-i.invariant.1
+    let t = c.args.totals.now in
+    rows_turn t (lent_paper l.out l.end) l.i (omega arith) (c.fill-end.ensures ∙ row_told t _ l.i c.word.ensures) ∙ l.invariant
 
 pub returns : goal.returns
 returns c =
     let l = c.loop-i in
     let t = c.args.totals.now in
-    rows_over t (lent_paper l.out l.end) l.i c.loop-i-test.false ∙ l.invariant.0
+    rows_over t (lent_paper l.out l.end) l.i (omega arith) ∙ l.invariant

@@ -10,4 +10,4 @@ pub returns : goal.returns
 returns c =
     let a = c.args in
     c.fill.ensures
-    ∙ ap (λ (v : ℕ). typed (lent_paper a.out.now a.at) (blanks_filled a.sentence.now (v ∷ []))) c.wide.ensures
+    ∙ ap (λ (v : ℕ). typed (lent_paper a.out.now a.at) (blanks_filled a.sentence.now (v ∷ []))) c.word.ensures

@@ -5,4 +5,4 @@ use Rattle.tally.proofs.totals.add_to.Goals as goal
 pub returns : goal.returns
 returns c =
     let a = c.args in
-    more-is a.totals.now a.j a.v c.wide-total.ensures c.put_wide.ensures
+    more-is a.totals.now a.j a.v c.word-total.ensures c.put_word.ensures

@@ -1,7 +1,7 @@
-use Prim.Native.Nat.{◌-◌}
 use native.Mathlib.Omega.{arith}
 use lib.ListN.{length-take}
-use borrow.Author.Tests.{not-true, not-false}
+use mathlib.Core.Path.{◌≡◌, refl, ap, sym, ◌∙◌}
+use Rattle.trials.specs.Playing.{all_same}
 use Rattle.trials.proofs.Steps.{left_start, left_over, left_other, left_stuck, left_on}
 use borrow.Author.Rules.{rules}
 use Rattle.trials.proofs.play.play.Goals as goal
@@ -24,23 +24,24 @@ pub slice_bounds-agrees-end-in-loop-at : goal.slice_bounds-agrees-end-in-loop-at
 slice_bounds-agrees-end-in-loop-at c =
     simp length-take (omega (arith, c.feed_first-fed.ensures.bounds.0))
 
-pub returns-then-not-met : goal.returns-then-not-met
-returns-then-not-met c =
+pub returns-in_err-met : goal.returns-in_err-met
+returns-in_err-met c =
     let a = c.args in
+    let h : c.agrees.result ≡ c.from_residual.result = search rules in
     left_other a.cut a.expected.now a.input.now c.loop-at.at c.loop-at.said _ c.loop-at.invariant.0
-    c.loop-at-test.true c.feed_first-fed.ensures.out_after c.agrees-met.ensures (not-true _ c.if-not-met.true)
+    c.loop-at-test.true c.feed_first-fed.ensures.out_after (sym h ∙ c.agrees.ensures) (ap all_same (sym h ∙ c.in_err-met.was))
 
-pub returns-then-taken-eq0 : goal.returns-then-taken-eq0
-returns-then-taken-eq0 c =
+pub returns-then-fed-eq0 : goal.returns-then-fed-eq0
+returns-then-fed-eq0 c =
     let a = c.args in
     left_stuck a.cut a.expected.now a.input.now c.loop-at.at c.loop-at.said _ c.loop-at.invariant.0
-    c.loop-at-test.true c.feed_first-fed.ensures.out_after c.agrees-met.ensures (not-false _ c.if-not-met.false) c.if-taken-eq0.true
+    c.loop-at-test.true c.feed_first-fed.ensures.out_after (sym (c.in_ok-met.was) ∙ c.agrees.ensures) refl c.if-fed-eq0.true
 
 pub loop-at-preserved : goal.loop-at-preserved
 loop-at-preserved c =
     let a = c.args in (
       left_on a.cut a.expected.now a.input.now c.loop-at.at c.loop-at.said _ c.loop-at.invariant.0 c.loop-at-test.true
-          c.feed_first-fed.ensures.out_after c.agrees-met.ensures (not-false _ c.if-not-met.false) (omega (arith, c.if-taken-eq0.false)),
+          c.feed_first-fed.ensures.out_after (sym (c.in_ok-met.was) ∙ c.agrees.ensures) refl (omega (arith, c.if-fed-eq0.false)),
       omega (arith, simp length-take at c.feed_first-fed.ensures.bounds.1),
       search rules,
       omega (arith, c.loop-at.invariant, c.names-1.given),
@@ -59,4 +60,4 @@ pub returns : goal.returns
 returns c =
     let a = c.args in
     left_over a.cut a.expected.now a.input.now c.loop-at.at c.loop-at.said _ c.loop-at.invariant.0
-    c.loop-at-test.false c.finish-last.ensures.out_after c.agrees.ensures
+    c.loop-at-test.false c.finish-last.ensures.out_after c.agrees-2.ensures

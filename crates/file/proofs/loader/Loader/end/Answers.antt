@@ -1,5 +1,7 @@
 -- Where it may go on, what is noted is given again, and else the set is judged.
-use mathlib.Core.Path.{ap}
+use mathlib.Core.Path.{ap, sym}
+use Rattle.upload_rules.specs.Reader.{Note, note_answer}
+use Rattle.file_rules.specs.Loader.{taken_of}
 use Rattle.set_rules.specs.Words.{lent_set}
 use Rattle.file_rules.specs.Loading.{loading}
 use Rattle.file.specs.Meanings.{load_note_of, loader_words}
@@ -12,36 +14,31 @@ returns-then-not-may c =
     let s = lent_set a.lengths.now a.bins.now a.heads.now a.names.now a.cells.now in
     end_unfit (loading (loader_words a.self) s) c.may_go_on-may.ensures c.if-not-may.true
 
-pub reply_of-reply-requires : goal.reply_of-reply-requires
-reply_of-reply-requires c =
-    let a = c.args in
-    let s = lent_set a.lengths.now a.bins.now a.heads.now a.names.now a.cells.now in
-    (goes (loading (loader_words a.self) s) c.may_go_on-may.ensures c.if-not-may.false).fit
-
-pub returns-in_default : goal.returns-in_default
-returns-in_default c =
+pub returns-in-Some : goal.returns-in-Some
+returns-in-Some c =
     let a = c.args in
     let s = lent_set a.lengths.now a.bins.now a.heads.now a.names.now a.cells.now in
     end_noted (loading (loader_words a.self) s) c.may_go_on-may.ensures c.if-not-may.false
-    (ap load_note_of c.in_default.is) c.reply_of-reply.ensures
+    (ap load_note_of c.in-Some.is)
+    (ap (λ (n : Note). note_answer n (taken_of (loader_words a.self))) (sym (ap load_note_of c.in-Some.is)))
 
 pub judge_end-loader-requires : goal.judge_end-loader-requires
 judge_end-loader-requires c =
     let a = c.args in
     let s = lent_set a.lengths.now a.bins.now a.heads.now a.names.now a.cells.now in
     let h = goes (loading (loader_words a.self) s) c.may_go_on-may.ensures c.if-not-may.false in
-    (h.fit, h.room (ap load_note_of c.in-Unsaid.is))
+    (h.fit, h.room (ap load_note_of c.in_default.is))
 
-pub reply_of-reply-requires-2 : goal.reply_of-reply-requires-2
-reply_of-reply-requires-2 c =
+pub reply_of-reply-requires : goal.reply_of-reply-requires
+reply_of-reply-requires c =
     let a = c.args in
     let s = lent_set a.lengths.now a.bins.now a.heads.now a.names.now a.cells.now in
     end_fit (loading (loader_words a.self) s) c.may_go_on-may.ensures c.if-not-may.false
-    (ap load_note_of c.in-Unsaid.is) c.judge_end-loader.ensures
+    (ap load_note_of c.in_default.is) c.judge_end-loader.ensures
 
 pub returns : goal.returns
 returns c =
     let a = c.args in
     let s = lent_set a.lengths.now a.bins.now a.heads.now a.names.now a.cells.now in
     end_done (loading (loader_words a.self) s) c.may_go_on-may.ensures c.if-not-may.false
-    (ap load_note_of c.in-Unsaid.is) c.judge_end-loader.ensures c.reply_of-reply-2.ensures
+    (ap load_note_of c.in_default.is) c.judge_end-loader.ensures c.reply_of-reply.ensures

@@ -1,9 +1,0 @@
--- The measure is the calls that are left.
-use Rattle.std.proofs.Common.{◌-◌, ◌≤◌}
-use Rattle.drill.proofs.cuts.cut_all.Given as goal
-
-abbrev pub invariant-loop-k : goal.invariant-loop-k
-invariant-loop-k l = l.k ≤ l.n
-
-abbrev pub decreases-loop-k : goal.decreases-loop-k
-decreases-loop-k l = l.n - l.k

@@ -1,9 +1,0 @@
--- The loop's invariant: there are at most as many steps as slots; the slot climbed to and the count fit their type.
-use Rattle.std.proofs.Common.{◌-◌, ◌^◌, ◌<◌, ◌≤◌}
-use Rattle.try_damage.proofs.judge.blacks.Given as goal
-
-abbrev pub invariant-loop-steps : goal.invariant-loop-steps
-invariant-loop-steps l = (l.steps ≤ 64) × (l.at < 2 ^ 32) × (l.count < 2 ^ 32)
-
-abbrev pub decreases-loop-steps : goal.decreases-loop-steps
-decreases-loop-steps l = 64 - l.steps

@@ -1,9 +1,0 @@
--- The measure is the bytes that are left, whose length stays.
-use Rattle.std.proofs.Common.{◌≡◌, ◌-◌, length}
-use Rattle.try_files.proofs.trial.damage_all.Given as goal
-
-abbrev pub invariant-loop-k : goal.invariant-loop-k
-invariant-loop-k l = length l.bytes ≡ length l.initial.bytes
-
-abbrev pub decreases-loop-k : goal.decreases-loop-k
-decreases-loop-k l = length l.initial.bytes - l.k
