@@ -15,6 +15,7 @@ use index::replace::replace_sound;
 use slots::answer::{Answers, answer_word};
 use slots::put_word;
 
+// Form kept: a function for each kind, since the clause of each names its call, and what they share is one line.
 fn make_insert(
     names: &mut [u64],
     cells: &mut [u32],
@@ -39,6 +40,7 @@ fn make_insert(
     raise(inserted, floor)
 }
 
+// Form kept: a function for each kind, since the clause of each names its call, and what they share is one line.
 fn make_remove(
     names: &mut [u64],
     cells: &mut [u32],
@@ -62,6 +64,7 @@ fn make_remove(
     lower(removed, floor)
 }
 
+// Form kept: a function for each kind, since the clause of each names its call, and what they share is one line.
 fn make_replace(
     names: &[u64],
     cells: &mut [u32],

@@ -5,8 +5,8 @@ ghost use Rattle.index_rules.specs.Find.{finds};
 ghost use Rattle.index_rules.specs.Index.{lent};
 ghost use Rattle.slots.specs.Coded.{answer_of, value_of};
 ghost use Rattle.tree_rules.specs.Find.{counted as countedLooks};
-ghost use Rattle.tree.specs.Find.{counted_of};
-ghost use Rattle.script_rules.specs.Answers.{numbered, number_line, told, found_text, search_line};
+ghost use Rattle.tree.specs.Find.{searched_of};
+ghost use Rattle.script_rules.specs.Answers.{numbered, number_line, told, search_line};
 ghost use Rattle.script_rules.specs.Answers.{met, entry_line, entry_lines, list_text, marking};
 ghost use Rattle.script_rules.specs.Feeding.{typed, performed, lent_paper, lent_turn};
 ghost use Rattle.console.specs.Phrases.{command_of};
@@ -21,7 +21,7 @@ use index::remove::remove;
 use index::rollback::rollback;
 use slots::answer::{Answer, Answers};
 use slots::{FIRST, HASH, KEY, NEXT, NULL, PLACE, get, name, word};
-use tree::find::{Counted, counted_by};
+use tree::find::Found;
 
 // A word and a number, and the line ends.
 #[tactic(auto, using(script_rules::proofs::Typing::word_number_end))]
@@ -105,6 +105,8 @@ fn tell_entries(
     end
 }
 
+// The list of the index, or why there is none.
+// Form kept: 1 and 9 are numbers, since the script prints a refusal by its number, and list_text in script_rules is over it.
 #[tactic(auto, unfolding(script_rules::specs::Answers::list_text))]
 pub(crate) fn tell_list(
     out: &mut [u8],
@@ -129,6 +131,8 @@ pub(crate) fn tell_list(
     tell_entries(out, lines, names, cells, first, count)
 }
 
+// The mark, which is the journal's length, or that the slices do not fit.
+// Form kept: 1 is a number, since the script prints a refusal by its number, and marking in script_rules is over it.
 #[tactic(auto, unfolding(script_rules::specs::Answers::marking, index_rules::specs::Index::fits_index))]
 fn tell_mark(
     out: &mut [u8],
@@ -162,33 +166,28 @@ fn put_numbered(out: &mut [u8], at: usize, word: &[u8], v: u64) -> usize
     put_number(out, end, v)
 }
 
-// What a search came to, before its looks.
-#[tactic(auto, unfolding(script_rules::specs::Answers::found_text))]
-fn put_found(out: &mut [u8], at: usize, answer: Answer) -> usize
-    ensures { lent_paper out.new result ≡ typed (lent_paper out.old at) (found_text (answer_of answer)) }
+// A search's end, and last on the line how many slots were looked at.
+fn tell_search(out: &mut [u8], at: usize, found: Found<u32>) -> usize
+    ensures { lent_paper out.new result ≡ typed (lent_paper out.old at) (search_line (searched_of found)) }
 {
-    if answer.number != 0 {
-        return put_numbered(out, at, b"no ", answer.number as u64);
-    }
-    match answer.value {
-        Some(v) => put_numbered(out, at, b"at ", v as u64),
-        None => put_word(out, at, b"none"),
+    match found {
+        Found::At(slot, looks) => {
+            let end = put_numbered(out, at, b"at ", slot as u64);
+            tell(out, end, b" ", looks as u64)
+        }
+        Found::Nothing(looks) => {
+            let end = put_word(out, at, b"none");
+            tell(out, end, b" ", looks as u64)
+        }
+        Found::Lost(looks) => {
+            let end = put_numbered(out, at, b"no ", 9);
+            tell(out, end, b" ", looks as u64)
+        }
     }
 }
 
-// What a search came to, and last on the line how many slots were looked at; a refusal before the search has none.
-#[tactic(auto, using(script_rules::proofs::Typing::typed_append), unfolding(script_rules::specs::Answers::search_line))]
-fn tell_search(out: &mut [u8], at: usize, counted: Counted) -> usize
-    ensures { lent_paper out.new result ≡ typed (lent_paper out.old at) (search_line (counted_of counted)) }
-{
-    if counted.answer.number == 1 {
-        return tell(out, at, b"no ", 1);
-    }
-    let end = put_found(out, at, counted.answer);
-    tell(out, end, b" ", counted.looks as u64)
-}
-
-// `?`: only reads.
+// `?`: only reads. A refusal before the search has no looks.
+#[tactic(auto, unfolding(script_rules::specs::Answers::search_line))]
 fn tell_find(
     out: &mut [u8],
     at: usize,
@@ -202,7 +201,10 @@ fn tell_find(
         ≡ typed (lent_paper out.old at)
         (search_line (countedLooks (finds (unsized names.now cells.now head.now) hash key))) }
 {
-    tell_search(out, at, counted_by(find(names, cells, head, hash, key)))
+    match find(names, cells, head, hash, key) {
+        Err(_) => tell(out, at, b"no ", 1),
+        Ok(found) => tell_search(out, at, found),
+    }
 }
 
 // Does what a command asks, and writes its answer.

@@ -9,6 +9,7 @@ ghost use Rattle.console.specs.Phrases.{command_of};
 
 use crate::answer::obey;
 use crate::read::{Command, meaning};
+use slots::answer::Unfit;
 
 // No answer is longer: 4,096 entries of at most 63 bytes, and the line before them.
 pub const LONGEST: usize = 262144;
@@ -17,18 +18,18 @@ pub const LONGEST: usize = 262144;
 const WIDTH: usize = 81;
 
 // The line that has come so far.
+// Form kept: an array and a count, since a line is kept between two calls by value, and the library has no heap.
 #[derive(Clone, Copy)]
 pub struct Line {
-    pub bytes: [u8; 81],
+    pub bytes: [u8; WIDTH],
     pub count: usize,
 }
 
-// Form kept: the new form is no plainer: a refused call gives the line back too, which Result<Fed, Unfit> would leave to each caller.
-// What a call comes to: the number, the line, the bytes of the chunk that were taken and those of the buffer that were
+// What a call comes to: what it answers, the line, the bytes of the chunk that were taken and those of the buffer that were
 // written.
 #[derive(Clone, Copy)]
 pub struct Fed {
-    pub number: u32,
+    pub answer: Result<(), Unfit>,
     pub line: Line,
     pub taken: usize,
     pub written: usize,
@@ -39,7 +40,7 @@ pub fn blank() -> Line
     ensures { held_line result ≡ blank_line }
 {
     Line {
-        bytes: [0u8; 81],
+        bytes: [0u8; WIDTH],
         count: 0,
     }
 }
@@ -134,7 +135,7 @@ pub fn feed(
 {
     if out.len() < LONGEST {
         return Fed {
-            number: 1,
+            answer: Err(Unfit),
             line,
             taken: 0,
             written: 0,
@@ -145,7 +146,7 @@ pub fn feed(
     for (i, b) in chunk.iter().enumerate() {
         if out.len() - written < LONGEST {
             return Fed {
-                number: 0,
+                answer: Ok(()),
                 line: kept,
                 taken: i,
                 written,
@@ -156,7 +157,7 @@ pub fn feed(
         written = step.at;
     }
     Fed {
-        number: 0,
+        answer: Ok(()),
         line: kept,
         taken: chunk.len(),
         written,
@@ -182,7 +183,7 @@ pub fn finish(
 {
     if out.len() < LONGEST {
         return Fed {
-            number: 1,
+            answer: Err(Unfit),
             line,
             taken: 0,
             written: 0,
@@ -191,7 +192,7 @@ pub fn finish(
     let count = line.count;
     if count == 0 {
         return Fed {
-            number: 0,
+            answer: Ok(()),
             line,
             taken: 0,
             written: 0,
@@ -201,7 +202,7 @@ pub fn finish(
     let written = obey(command, names, cells, head, sizes, lines, out, 0);
     let next = blank();
     Fed {
-        number: 0,
+        answer: Ok(()),
         line: next,
         taken: 0,
         written,

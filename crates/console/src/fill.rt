@@ -18,6 +18,7 @@ fn put_link(out: &mut [u8], at: usize, i: u64) -> usize
 }
 
 // The name of a slot's field.
+// Form kept: the fields are numbers in a slot's words, and the numbers of a sentence are words of 64 bits.
 #[tactic(auto, unfolding(script_rules::specs::Blanks::field_text))]
 fn put_field(out: &mut [u8], at: usize, f: u64) -> usize
     ensures { lent_paper out.new result ≡ typed (lent_paper out.old at) (field_text f) }

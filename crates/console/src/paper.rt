@@ -1,4 +1,5 @@
 // A lent buffer, written from the front. A byte that has no room is not written.
+// Form kept: no Display, since a clause says byte for byte what stands in a lent slice, and the library has no heap.
 ghost use Rattle.std.specs.Prelude.{◌≡◌};
 ghost use Rattle.script_rules.specs.Text.{digits, decimal};
 ghost use Rattle.script_rules.specs.Feeding.{typed_one, typed, lent_paper};

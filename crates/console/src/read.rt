@@ -121,20 +121,6 @@ fn mark(line: &[u8], at: usize) -> Option<Command>
     alone_after(line, end, Command::Rollback(to as u32))
 }
 
-fn removal(line: &[u8], at: usize) -> Option<Command>
-    ensures { command_or_bad result ≡ pair_command_of removing (drop at line.now) }
-{
-    let (hash, key) = pair(line, at)?;
-    Some(Command::Remove(hash, key))
-}
-
-fn question(line: &[u8], at: usize) -> Option<Command>
-    ensures { command_or_bad result ≡ pair_command_of finding (drop at line.now) }
-{
-    let (hash, key) = pair(line, at)?;
-    Some(Command::Find(hash, key))
-}
-
 // The command of a line, by the word that it starts with.
 #[tactic(auto, unfolding(script_rules::specs::Commands::meant))]
 fn by_word(line: &[u8]) -> Option<Command>
@@ -144,10 +130,10 @@ fn by_word(line: &[u8]) -> Option<Command>
         return entry(line, 2);
     }
     if begins(line, b"- ") {
-        return removal(line, 2);
+        return pair(line, 2).map(|(hash, key)| Command::Remove(hash, key));
     }
     if begins(line, b"? ") {
-        return question(line, 2);
+        return pair(line, 2).map(|(hash, key)| Command::Find(hash, key));
     }
     if begins(line, b"r ") {
         return mark(line, 2);

@@ -8,6 +8,7 @@ use crate::feed::LONGEST;
 
 // Writes the refusal of this number, or for 0 the list of the index, and answers how many bytes were written: none where the
 // buffer has no room for the longest answer.
+// Form kept: numbers, since the script prints a refusal by its number, and receipts in script_rules is over it.
 #[tactic(auto, unfolding(script_rules::specs::Feeding::receipts, script_rules::specs::Answers::receipt_text))]
 pub fn receipt(
     number: u32,

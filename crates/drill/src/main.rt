@@ -111,6 +111,7 @@ fn drill_calls<R: Files>(rt: &R, stdout: Stdout, text: &mut [u8]) -> io::Result<
 }
 
 // Rooms for what is read from files and for the calls of a script, with lengths that a proof need not count.
+// Form kept: each program that needs such a room has its own, since a public one would owe a claim that counts its zeros.
 fn file_room() -> [u8; 65536] {
     [0; 65536]
 }

@@ -23,6 +23,7 @@ pub struct Tally {
 
 // A call of the short script, with what the tree then holds noted where the call wrote a line. After any other call the row of an
 // earlier call stands, so that a refusal that writes, and a rollback that brings back something else, are noticed too.
+// Form kept: the slices stand apart, as the library's calls take them; a struct of them would be taken apart again at each call.
 fn call_noted(
     line: &[u8],
     names: &mut [u64],

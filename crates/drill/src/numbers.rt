@@ -3,6 +3,7 @@ use crate::steps::{line_end, more};
 use slots::put_name;
 
 // The decimal numbers of a text, a word for each: a byte that is no digit ends one. How many there are.
+// Form kept: the room and how much of it is used stand side by side by the rule of no heap (nothing is allocated in the programs).
 pub fn read(text: &[u8], words: &mut [u64]) -> u32 {
     let mut count: u32 = 0;
     let mut value: u64 = 0;

@@ -25,6 +25,7 @@ pub enum Source<'a> {
 
 // Makes call k of a list and answers its word, value + 2^32 * number: a kind that is no line's is a rollback, to the mark that stands
 // for the place.
+// Form kept: the slices stand apart, as the library's calls take them; a struct of them would be taken apart again at each call.
 fn make(
     calls: &[u64],
     k: u32,
@@ -108,6 +109,7 @@ fn call(
 
 // A room for what the console says. Its length is large, and a proof that has the zeros before it counts them: here it only has that
 // there are so many.
+// Form kept: each program that needs such a room has its own, since a public one would owe a claim that counts its zeros.
 pub(crate) fn text_room() -> [u8; 524288] {
     [0; 524288]
 }

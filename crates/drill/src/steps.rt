@@ -33,6 +33,7 @@ pub fn mark_of(cut: u32, length: u32) -> u32 {
 }
 
 // Where the line that starts at a place ends, its newline with it.
+// Form kept: the two loops from end to end are no plainer by split_inclusive: starts wants each line's place, and both cut alike.
 pub(crate) fn line_end(script: &[u8], at: usize) -> usize
     requires { at < size script.now }
     ensures { (at < result) × (result ≤ size script.now) }

@@ -1,5 +1,6 @@
 // What a tree holds and lists: a row of 96 words. The first 48 are key by key, each the place of a key and one more, or 0 where the key is
 // not there; then come the keys along the chain, each one more than it is, and 0 past the last.
+// Form kept: 0 for none, since a row is 96 words of one slice by the rule of no heap, which are written and compared as they stand.
 use crate::steps::counted;
 use index::find::find;
 use slots::{KEY, NEXT, NULL, PLACE, get, name, put};

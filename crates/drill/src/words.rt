@@ -10,6 +10,7 @@ use trials::part::first;
 use trials::same::same_index;
 
 // The words of an index of so many slots and lines, which are the first of each array.
+// Form kept: the room and how much of it is used stand side by side by the rule of no heap (nothing is allocated in the programs).
 #[derive(Clone, Copy)]
 pub struct Words {
     pub names: [u64; 1024],

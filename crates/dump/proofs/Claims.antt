@@ -6,31 +6,32 @@ use native.Mathlib.Omega.{arith}
 use lib.ListN.{length, take}
 use Rattle.script_rules.specs.Feeding.{typed, lent_paper}
 use Rattle.script_rules.proofs.Room.{typed_whole}
-use Rattle.dump_rules.specs.Dump.{Measure as Measured, whole, stub, slots_out, lines_out, short, long}
+use Rattle.std.specs.Prelude.{Result, Ok, Err}
+use Rattle.dump_rules.specs.Dump.{Measure, whole, stub, slots_out, lines_out, short, long}
 use Rattle.dump_rules.specs.Sentence.{why_text}
 use Rattle.dump_rules.proofs.Claims as dump-rules
 use Rattle.dump.specs.Measures.{measure_of}
 use Rattle.dump.specs.Claims.{Claims}
-use Rattle.dump.specs.declared.measure.Measure.{Measure}
-use Rattle.dump.specs.declared.measure.Measure.TheVariants.{Whole, Stub, SlotsOut, LinesOut, Short, Long}
+use Rattle.dump.specs.declared.measure.NoDump.{NoDump}
+use Rattle.dump.specs.declared.measure.NoDump.TheVariants.{Stub, SlotsOut, LinesOut, Short, Long}
 
-abbrev measure_back : Measured → Measure
-measure_back (whole n c) = Whole n c
-measure_back (stub b) = Stub b
-measure_back (slots_out n) = SlotsOut n
-measure_back (lines_out c) = LinesOut c
-measure_back (short b n c) = Short b n c
-measure_back (long n c) = Long n c
+abbrev measure_back : Measure → Result (ℕ × ℕ) NoDump
+measure_back (whole n c) = Ok (n, c)
+measure_back (stub b) = Err (Stub b)
+measure_back (slots_out n) = Err (SlotsOut n)
+measure_back (lines_out c) = Err (LinesOut c)
+measure_back (short b n c) = Err (Short b n c)
+measure_back (long n c) = Err (Long n c)
 
-measure_back_lem : (m : Measure) → measure_back (measure_of m) ≡ m
-measure_back_lem (Whole n c) = refl
-measure_back_lem (Stub b) = refl
-measure_back_lem (SlotsOut n) = refl
-measure_back_lem (LinesOut c) = refl
-measure_back_lem (Short b n c) = refl
-measure_back_lem (Long n c) = refl
+measure_back_lem : (m : Result (ℕ × ℕ) NoDump) → measure_back (measure_of m) ≡ m
+measure_back_lem (Ok (n, c)) = refl
+measure_back_lem (Err (Stub b)) = refl
+measure_back_lem (Err (SlotsOut n)) = refl
+measure_back_lem (Err (LinesOut c)) = refl
+measure_back_lem (Err (Short b n c)) = refl
+measure_back_lem (Err (Long n c)) = refl
 
-measure_one_to_one : (a b : Measure) → measure_of a ≡ measure_of b → a ≡ b
+measure_one_to_one : (a b : Result (ℕ × ℕ) NoDump) → measure_of a ≡ measure_of b → a ≡ b
 measure_one_to_one a b e = sym (measure_back_lem a) ∙ ap measure_back e ∙ measure_back_lem b
 
 stands : (bytes out : List ℕ) → 524288 ≤ length out

@@ -28,9 +28,9 @@ use Rattle.dump_rules.specs.Sentence.{measure_text, why_text}
 use Rattle.dump_rules.specs.Rescue.{saved_into, loss_text, loss_texts, kept_of, rescue_text, saved_bytes, saved_text}
 use Rattle.dump_rules.specs.Rescue.{loaded_bytes, loaded_text, zeros, measure_bytes, measure_words, rescue_bytes, rescue_words, papers}
 use Rattle.dump_rules.specs.Rescue.{rescues}
-use Rattle.dump.specs.Measures.{measure_of}
-use Rattle.dump.specs.declared.measure.Measure.{Measure as MeasureCode}
-use Rattle.dump.specs.declared.measure.Measure.TheVariants.{Whole, Stub, SlotsOut, LinesOut, Short, Long}
+use Rattle.dump.specs.Measures.{no_dump_of}
+use Rattle.dump.specs.declared.measure.NoDump.{NoDump as NoDumpCode}
+use Rattle.dump.specs.declared.measure.NoDump.TheVariants.{Stub, SlotsOut, LinesOut, Short, Long}
 use Rattle.dump.proofs.Telling.{then, nothing-more, loaded_fronts}
 
 -- A number's bytes: the lowest, and then those of the rest.
@@ -183,13 +183,12 @@ NoDump (lines_out c) = Unit {0}
 NoDump (short b n c) = Unit {0}
 NoDump (long n c) = Unit {0}
 
-pub no_dump : (m : MeasureCode) → ((n c : ℕ) → m ≡ Whole n c → ⊥) → NoDump (measure_of m)
-no_dump (Whole n c) h = h n c refl
-no_dump (Stub b) h = tt
-no_dump (SlotsOut n) h = tt
-no_dump (LinesOut c) h = tt
-no_dump (Short b n c) h = tt
-no_dump (Long n c) h = tt
+pub no_dump : (wrong : NoDumpCode) → NoDump (no_dump_of wrong)
+no_dump (Stub b) = tt
+no_dump (SlotsOut n) = tt
+no_dump (LinesOut c) = tt
+no_dump (Short b n c) = tt
+no_dump (Long n c) = tt
 
 measure_none : (l : List ℕ) (m : Measure) → NoDump m → ([] ≡ measure_bytes l m) × (measure_text l m ≡ measure_words l m)
 measure_none l (whole n c) h = absurd h

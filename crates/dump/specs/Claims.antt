@@ -1,5 +1,5 @@
 -- What crate `dump` proves beside its contracts: a measure is told apart by what it says, and each public routine has one outcome.
-use Rattle.std.specs.Prelude.{◌≡◌, List, ℕ, ◌≤◌, length, take, drop}
+use Rattle.std.specs.Prelude.{◌≡◌, Result, List, ℕ, ◌≤◌, length, take, drop}
 use Rattle.slots.specs.Answers.{OneAnswer}
 use Rattle.index_rules.specs.Index.{Index}
 use Rattle.script_rules.specs.Feeding.{Paper, typed, lent_paper}
@@ -7,10 +7,10 @@ use Rattle.dump_rules.specs.Dump.{dump_bytes, measured, loaded_as}
 use Rattle.dump_rules.specs.Rescue.{rescues}
 use Rattle.dump_rules.specs.Sentence.{why_text}
 use Rattle.dump.specs.Measures.{measure_of}
-use Rattle.dump.specs.declared.measure.Measure.{Measure}
+use Rattle.dump.specs.declared.measure.NoDump.{NoDump}
 
 pub record Claims : Type 0 where
-  pub measure_one_to_one : (a b : Measure) → measure_of a ≡ measure_of b → a ≡ b
+  pub measure_one_to_one : (a b : Result (ℕ × ℕ) NoDump) → measure_of a ≡ measure_of b → a ≡ b
   pub gauge_one : (bytes : List ℕ) → OneAnswer (λ r. measure_of r ≡ measured bytes)
   pub load_one : (names cells head sizes lines bytes : List ℕ)
       → OneAnswer (λ r. r ≡ loaded_as (length names) (length cells) (length head) (length sizes) (length lines) (drop 8 bytes))

@@ -1,19 +1,21 @@
 // What is printed of the bytes of a dump.
-ghost use Rattle.std.specs.Prelude.{◌≡◌, ◌≤◌, length, drop};
+ghost use Rattle.std.specs.Prelude.{◌≡◌, List, ℕ, ◌≤◌, length, drop};
 ghost use Rattle.slots.specs.Words.{most_slots, most_lines};
 ghost use Rattle.index_rules.specs.Index.{lent};
 ghost use Rattle.script_rules.specs.Feeding.{typed, lent_paper};
-ghost use Rattle.dump_rules.specs.Dump.{loaded_as, loaded};
+ghost use Rattle.dump_rules.specs.Dump.{loaded_as, loaded, measured};
 ghost use Rattle.dump_rules.specs.Sentence.{index_text, why_text};
+ghost use Rattle.dump.specs.Measures.{no_dump_of};
 
 use crate::load::load;
-use crate::measure::{Measure, dump_size, gauge};
+use crate::measure::{NoDump, dump_size, gauge};
 use crate::say::tell_tree;
 use console::fill::fill;
-use slots::{MOST_CELLS, MOST_NAMES, MOST_SLOTS, word};
+use slots::{MOST_CELLS, MOST_LINES, MOST_NAMES, MOST_SLOTS, word};
 
 // The words of the longest journal.
-pub(crate) const MOST_JOURNAL: usize = 1 + 6 * 1024;
+// Form kept: intake names it too, for arrays of its own, and no crate below both has arrays of a journal.
+pub(crate) const MOST_JOURNAL: usize = 1 + 6 * MOST_LINES;
 
 // Of an index of c lines: a journal's length that passes them, or what is found of the tree.
 fn tell_index(
@@ -69,6 +71,7 @@ fn tell_dump(bytes: &[u8], n: u32, c: u32, out: &mut [u8]) -> usize
     ensures { lent_paper out.new result
         ≡ typed (lent_paper out.old 0) (index_text c (loaded n c bytes.now)) }
 {
+    // Form kept: arrays of the most words, of which the fronts are used, since the library has no heap.
     let mut names = [0u64; MOST_NAMES];
     let mut cells = [0u32; MOST_CELLS];
     let mut head = [0u32; 3];
@@ -88,14 +91,14 @@ fn tell_dump(bytes: &[u8], n: u32, c: u32, out: &mut [u8]) -> usize
     )
 }
 
-// What is printed of the bytes: of a dump what is found of its index, of other bytes what is wrong with them.
-pub(crate) fn tell_bytes(bytes: &[u8], out: &mut [u8]) -> usize
-    ensures { lent_paper out.new result ≡ typed (lent_paper out.old 0) (why_text bytes.now) }
+// What is wrong with bytes that are no dump.
+// Form kept: an arm for each, since the sentences have one to four numbers, and the clause of fill speaks of just these.
+fn tell_wrong(out: &mut [u8], wrong: NoDump) -> usize
+    ensures { (bytes : List ℕ) → no_dump_of wrong ≡ measured bytes
+        → lent_paper out.new result ≡ typed (lent_paper out.old 0) (why_text bytes) }
 {
-    let measure = gauge(bytes);
-    match measure {
-        Measure::Whole(n, c) => tell_dump(bytes, n, c, out),
-        Measure::Stub(b) => {
+    match wrong {
+        NoDump::Stub(b) => {
             let numbers = [b as u64];
             fill(
                 out,
@@ -104,7 +107,7 @@ pub(crate) fn tell_bytes(bytes: &[u8], out: &mut [u8]) -> usize
                 &numbers,
             )
         }
-        Measure::SlotsOut(n) => {
+        NoDump::SlotsOut(n) => {
             let numbers = [n as u64];
             fill(
                 out,
@@ -113,7 +116,7 @@ pub(crate) fn tell_bytes(bytes: &[u8], out: &mut [u8]) -> usize
                 &numbers,
             )
         }
-        Measure::LinesOut(c) => {
+        NoDump::LinesOut(c) => {
             let numbers = [c as u64];
             fill(
                 out,
@@ -122,7 +125,7 @@ pub(crate) fn tell_bytes(bytes: &[u8], out: &mut [u8]) -> usize
                 &numbers,
             )
         }
-        Measure::Short(b, n, c) => {
+        NoDump::Short(b, n, c) => {
             let numbers = [b as u64, n as u64, c as u64, dump_size(n, c)];
             fill(
                 out,
@@ -131,7 +134,7 @@ pub(crate) fn tell_bytes(bytes: &[u8], out: &mut [u8]) -> usize
                 &numbers,
             )
         }
-        Measure::Long(n, c) => {
+        NoDump::Long(n, c) => {
             let numbers = [dump_size(n, c), n as u64, c as u64];
             fill(
                 out,
@@ -140,6 +143,16 @@ pub(crate) fn tell_bytes(bytes: &[u8], out: &mut [u8]) -> usize
                 &numbers,
             )
         }
+    }
+}
+
+// What is printed of the bytes: of a dump what is found of its index, of other bytes what is wrong with them.
+pub(crate) fn tell_bytes(bytes: &[u8], out: &mut [u8]) -> usize
+    ensures { lent_paper out.new result ≡ typed (lent_paper out.old 0) (why_text bytes.now) }
+{
+    match gauge(bytes) {
+        Ok((n, c)) => tell_dump(bytes, n, c, out),
+        Err(wrong) => tell_wrong(out, wrong),
     }
 }
 

@@ -2,7 +2,6 @@
 #![tactic(auto)]
 
 pub mod answer;
-pub mod input;
 pub mod load;
 pub mod measure;
 pub mod rescue;

@@ -6,10 +6,9 @@ ghost use Rattle.dump.specs.Measures.{measure_of};
 use endian::word_at;
 use slots::{MOST_LINES, MOST_SLOTS};
 
-// A dump, or what is wrong with the bytes.
-#[derive(Clone, Copy)]
-pub enum Measure {
-    Whole(u32, u32), // a dump of so many slots and lines
+// What is wrong with bytes that are no dump.
+#[derive(Clone, Copy, PartialEq, Eq)]
+pub enum NoDump {
     Stub(usize), // too few bytes for the two counts
     SlotsOut(u32), // no capacity of an index
     LinesOut(u32), // none of a journal
@@ -25,33 +24,33 @@ pub(crate) fn dump_size(n: u32, c: u32) -> u64
 }
 
 // The two counts are within the limits: the number of bytes decides.
-fn weigh(len: usize, n: u32, c: u32) -> Measure
+fn weigh(len: usize, n: u32, c: u32) -> Result<(u32, u32), NoDump>
     ensures { measure_of result ≡ weighed len n c }
 {
     let size = dump_size(n, c);
     if (len as u64) < size {
-        return Measure::Short(len, n, c);
+        return Err(NoDump::Short(len, n, c));
     }
     if size < len as u64 {
-        return Measure::Long(n, c);
+        return Err(NoDump::Long(n, c));
     }
-    Measure::Whole(n, c)
+    Ok((n, c))
 }
 
-// Whether the bytes are a dump's, and else what is wrong with them.
-pub fn gauge(bytes: &[u8]) -> Measure
+// How many slots and lines the dump has that the bytes are, or what is wrong with them.
+pub fn gauge(bytes: &[u8]) -> Result<(u32, u32), NoDump>
     ensures { measure_of result ≡ measured bytes.now }
 {
     if bytes.len() < 8 {
-        return Measure::Stub(bytes.len());
+        return Err(NoDump::Stub(bytes.len()));
     }
     let n: u32 = word_at(bytes, 0);
     if n < 1 || MOST_SLOTS < n as usize {
-        return Measure::SlotsOut(n);
+        return Err(NoDump::SlotsOut(n));
     }
     let c: u32 = word_at(bytes, 1);
     if MOST_LINES < c as usize {
-        return Measure::LinesOut(c);
+        return Err(NoDump::LinesOut(c));
     }
     weigh(bytes.len(), n, c)
 }

@@ -11,7 +11,7 @@ ghost use Rattle.dump_rules.specs.Dump.{whole, loaded_as};
 
 use crate::answer::{MOST_JOURNAL, tell_bytes};
 use crate::load::load;
-use crate::measure::{Measure, gauge};
+use crate::measure::gauge;
 use crate::write::write;
 use console::fill::fill;
 use index::fresh::fresh;
@@ -20,6 +20,7 @@ use night::salvage::salvage;
 use slots::{MOST_CELLS, MOST_NAMES, MOST_SLOTS, NULL, STATE, get, word};
 
 // The line of a slot that was used and not kept.
+// Form kept: numbers and no enum, since the report is a slice of words, and the rules' loss_text reads them so.
 fn tell_loss(out: &mut [u8], at: usize, cells: &[u32], report: &[u32], i: u32) -> usize
     ensures { lent_paper out.new result
         ≡ typed (lent_paper out.old at) (loss_text cells.now report.now i) }
@@ -148,6 +149,7 @@ fn save_dump(bytes: &[u8], n: u32, c: u32, out: &mut [u8], text: &mut [u8]) -> R
         × (lent_paper text.new result.said
         ≡ typed (lent_paper text.old 0) (measure_words bytes.now (whole n c))) }
 {
+    // Form kept: arrays of the most words, of which the fronts are used, since the library has no heap.
     let mut names = [0u64; MOST_NAMES];
     let mut cells = [0u32; MOST_CELLS];
     let mut head = [0u32; 3];
@@ -196,8 +198,8 @@ fn save_bytes(bytes: &[u8], out: &mut [u8], text: &mut [u8]) -> Rescued
         × (lent_paper text.new result.said ≡ typed (lent_paper text.old 0) (rescue_words bytes.now)) }
 {
     match gauge(bytes) {
-        Measure::Whole(n, c) => save_dump(bytes, n, c, out, text),
-        _ => save_none(bytes, text),
+        Ok((n, c)) => save_dump(bytes, n, c, out, text),
+        Err(_) => save_none(bytes, text),
     }
 }
 

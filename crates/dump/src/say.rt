@@ -15,6 +15,8 @@ use night::examine::examine;
 use slots::NULL;
 
 // The sentence of a breach.
+// Form kept: an arm for each, since the sentences have one to four numbers, and the clause of fill speaks of just these; and no Display,
+// since a clause says byte for byte what stands in a lent slice, and the library has no heap.
 fn say(out: &mut [u8], at: usize, breach: Breach) -> usize
     ensures { lent_paper out.new result ≡ typed (lent_paper out.old at) (sentence (breach_of breach)) }
 {

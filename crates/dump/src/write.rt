@@ -8,6 +8,8 @@ ghost use Rattle.dump_rules.specs.Dump.{dump_bytes};
 use console::paper::put_byte;
 
 // So many bytes of a number, the lowest first.
+// Form kept: the file's bytes have room by its clause, the dump's are written while there is room, as all that is said; and byte by
+// byte, as little is said, since to_le_bytes gives eight bytes, whatever k.
 fn put_little(out: &mut [u8], at: usize, x: u64, k: usize) -> usize
     ensures { lent_paper out.new result ≡ typed (lent_paper out.old at) (little k x) }
 {
@@ -21,6 +23,7 @@ fn put_little(out: &mut [u8], at: usize, x: u64, k: usize) -> usize
 }
 
 // A word as a number.
+// Form kept: no Into, whose clause has no ghost of what the number is; and endian's Word reads bytes, where this writes them.
 trait Number: Copy {
     ghost number: { Self → ℕ };
 

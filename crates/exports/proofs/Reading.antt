@@ -1,15 +1,24 @@
 -- A reader's words, read and written, and what a call over them comes to.
-use mathlib.Core.Path.{◌≡◌, ap, sym, ◌∙◌}
+use mathlib.Core.Path.{◌≡◌, ap, sym, ◌∙◌, subst}
 use mathlib.Core.Logic.{◌≢◌}
+use mathlib.Core.Bool.{Bool, true, false, false≢true}
 use mathlib.Core.List.{List}
 use Prim.Native.Nat.{ℕ, ◌+◌, ◌-◌, ◌*◌, ◌<◌, ◌≤◌}
 use native.Mathlib.Omega.{arith}
 use lib.ListN.{length, get_or, set}
 use borrow.Author.Tests.{eq-eqb, ne_eqb, lt-ltb, le-ltb}
-use Rattle.slots.specs.Answers.{Answer, answer_word}
-use Rattle.index_rules.specs.Index.{Index}
+use Rattle.std.specs.Prelude.{Ok, Err}
+use Rattle.std.specs.Result.{is_ok}
+use Rattle.slots.specs.Answers.{Answer, given, refused, answer_word}
+use Rattle.slots.specs.Words.{pick}
+use Rattle.index_rules.specs.Index.{Index, fits_index}
+use Rattle.index_rules.specs.Sound.{sound}
 use Rattle.upload_rules.specs.Reader.{Note, Reader, reader_of, new_reader}
-use Rattle.upload_rules.specs.Reading.{session, ReadOutcome, read_outcome, read_start, read_chunk, read_end}
+use Rattle.upload_rules.specs.Reading.{Session, new_session, session, ReadOutcome, read_outcome, read_start, read_chunk, read_end}
+use Rattle.reader.specs.Meanings.{Reply, reply_of, read_refusal_of}
+use Rattle.reader.specs.declared.reply.ReadRefusal.{ReadRefusal}
+use Rattle.reader.specs.declared.reply.ReadRefusal.TheVariants.{Unfit, Damaged, Present, Full, JournalFull, BadMark, Misfit, Short}
+use Rattle.reader.specs.declared.reply.ReadRefusal.TheVariants.{Long, WrongKind}
 use Rattle.reader.specs.Notes.{note_at}
 use Rattle.upload_rules.specs.Notes.{NoteSaid, known, unknown, note_word}
 use Rattle.word_rules.specs.Readers.{ReaderSaid, saying, saying_none, with_note, reader_in, reader_written, read_worded}
@@ -55,6 +64,38 @@ module _ (w : List ℕ) where
       → l8 ≡ reader_written w r
   unfolding reader_written
   eight_written r e1 e2 e3 e4 e5 e6 e7 f e8 = rw (← e1, ← e2, ← e3, ← e4, ← e5, ← e6, ← e7, ← f) e8
+
+-- A refusal's word is 2^32 or more, and that of an accepted start, which is 1, is below it.
+refusal_high : (e : ReadRefusal) → 4294967296 ≤ answer_word (read_refusal_of e)
+unfolding answer_word
+refusal_high Unfit = omega arith
+refusal_high Damaged = omega arith
+refusal_high (Present slot) = omega arith
+refusal_high Full = omega arith
+refusal_high JournalFull = omega arith
+refusal_high BadMark = omega arith
+refusal_high Misfit = omega arith
+refusal_high Short = omega arith
+refusal_high Long = omega arith
+refusal_high WrongKind = omega arith
+
+pub refused_high : (r : Reply) → false ≡ is_ok r → 4294967296 ≤ answer_word (reply_of r)
+refused_high (Ok n) h = absurd (false≢true h)
+refused_high (Err e) h = refusal_high e
+
+given_low : (ix : Index) (d : Session) {n : ℕ} (a b : Bool)
+    → given n
+    ≡ (pick a (pick b (read_outcome (given 1) (new_session ix)) (read_outcome (refused 2) d)) (read_outcome (refused 1) d)).answer
+    → answer_word (given n) < 4294967296
+unfolding answer_word
+given_low ix d true true e = subst (λ (x : Answer). answer_word x < 4294967296) (sym e) (omega arith)
+given_low ix d true false e = absurd (omega (arith, ap (λ (x : Answer). x.number) e))
+given_low ix d false b e = absurd (omega (arith, ap (λ (x : Answer). x.number) e))
+
+pub started_low : (d : Session) (r : Reply) → reply_of r ≡ (read_start d).answer → true ≡ is_ok r → answer_word (reply_of r) < 4294967296
+unfolding read_start
+started_low d (Ok n) e h = given_low d.index d (fits_index d.index) (sound d.index.live) e
+started_low d (Err f) e h = absurd (false≢true (sym h))
 
 -- A call over them.
 module _ (ix : Index) (w : List ℕ) where

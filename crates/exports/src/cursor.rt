@@ -6,6 +6,7 @@ ghost use Rattle.word_rules.specs.Cursors.{cursor_in, written, left_in};
 use sets::walk::Cursor;
 use slots::{put_word, word};
 
+// Form kept: word by word, as the clauses cursor_in and written name them; no From, since neither the trait nor Cursor is of this crate.
 pub(crate) fn read(words: &[u32]) -> Cursor
     ensures { cursor_of result ≡ cursor_in words.now }
 {
@@ -30,6 +31,7 @@ pub(crate) fn read(words: &[u32]) -> Cursor
     }
 }
 
+// Form kept: word by word, as the clauses cursor_in and written name them.
 fn write(words: &mut [u32], cursor: Cursor)
     ensures { words.new ≡ written words.old (cursor_of cursor) }
 {
@@ -48,6 +50,7 @@ fn write(words: &mut [u32], cursor: Cursor)
 }
 
 // A refused call leaves the words as they were: its number is above 0, so its word is 2^32 or more.
+// Form kept: by the word told, as left_in says it: a call that is refused has a word of 2^32 or more.
 pub(crate) fn keep(words: &mut [u32], told: u64, cursor: Cursor)
     ensures { words.new ≡ left_in words.old told (cursor_of cursor) }
 {

@@ -14,6 +14,7 @@ use slots::answer::{Answers, answer_word, packed};
 use slots::{put_word, word};
 
 // The loader that eight words say, if they say one.
+// Form kept: no TryFrom, since neither the trait nor Loader is of this crate.
 fn read_loader(words: &[u64]) -> Option<Loader>
     ensures { loader_at_of result ≡ loader_in words.now }
 {
@@ -33,6 +34,7 @@ fn read_loader(words: &[u64]) -> Option<Loader>
     })
 }
 
+// Form kept: word by word, as the clause loader_written names them.
 fn write_loader(words: &mut [u64], loader: Loader)
     ensures { words.new ≡ loader_written words.old (loader_words loader) }
 {

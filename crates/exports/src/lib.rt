@@ -1,4 +1,5 @@
 // The library's entry points for Rust and C: a slice is a pointer and a length, the answer one word, value + 2^32 * number.
+// Form kept: each entry point by itself, since each is a name of the C interface with slices of its own.
 #![tactic(auto)]
 
 mod cursor;

@@ -11,6 +11,7 @@ use slots::answer::{Answers, answer_word, packed};
 use slots::{put_word, word};
 
 // The reader that eight words say, if they say one.
+// Form kept: no TryFrom, since neither the trait nor Reader is of this crate.
 fn read_words(words: &[u64]) -> Option<Reader>
     ensures { reader_at_of result ≡ reader_in words.now }
 {
@@ -37,6 +38,7 @@ fn read_words(words: &[u64]) -> Option<Reader>
     })
 }
 
+// Form kept: word by word, as the clause reader_written names them.
 fn write_words(words: &mut [u64], reader: Reader)
     ensures { words.new ≡ reader_written words.old (words_of reader) }
 {
@@ -72,7 +74,7 @@ pub extern "C" fn oz_read_start(
     let started = Reader::start(names, cells, head, sizes, lines);
     let reply = started.reply;
     let told = answer_word(reply.answer());
-    if told < 4294967296 {
+    if reply.is_ok() {
         write_words(reader, started.reader);
     }
     told

@@ -49,6 +49,7 @@ fn progress_if(stderr: Stderr, terminal: bool, told: u32, sets: u32) -> io::Resu
 
 // Takes all of the input. A proved loop has to end, and nothing says that the input does: the turns are counted up to a number that no run
 // comes to.
+// Form kept: the slices stand apart, as the library's calls take them; a struct of them would be taken apart again at each call.
 fn serve(
     mut stdin: Stdin,
     stderr: Stderr,

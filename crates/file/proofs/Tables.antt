@@ -143,17 +143,17 @@ unfolding begun_long
 begun_some s zero n e = absurd (n refl)
 begun_some s (suc j) n e = let z : suc j - 1 ≡ j = omega arith in ap (λ (k : ℕ). 4 + k) (e ∙ ap (words_long s) z)
 
--- Powers.
-pub power_last : (k : ℕ) → k ≤ 7 → k ≢ 0 → k ≢ 1 → k ≢ 2 → k ≢ 3 → k ≢ 4 → k ≢ 5 → k ≢ 6 → 72057594037927936 ≡ 256 ^ k
-power_last zero l n0 n1 n2 n3 n4 n5 n6 = absurd (n0 refl)
-power_last (suc zero) l n0 n1 n2 n3 n4 n5 n6 = absurd (n1 refl)
-power_last (suc (suc zero)) l n0 n1 n2 n3 n4 n5 n6 = absurd (n2 refl)
-power_last (suc (suc (suc zero))) l n0 n1 n2 n3 n4 n5 n6 = absurd (n3 refl)
-power_last (suc (suc (suc (suc zero)))) l n0 n1 n2 n3 n4 n5 n6 = absurd (n4 refl)
-power_last (suc (suc (suc (suc (suc zero))))) l n0 n1 n2 n3 n4 n5 n6 = absurd (n5 refl)
-power_last (suc (suc (suc (suc (suc (suc zero)))))) l n0 n1 n2 n3 n4 n5 n6 = absurd (n6 refl)
-power_last (suc (suc (suc (suc (suc (suc (suc zero))))))) l n0 n1 n2 n3 n4 n5 n6 = refl
-power_last (suc (suc (suc (suc (suc (suc (suc (suc k)))))))) l n0 n1 n2 n3 n4 n5 n6 = absurd (omega arith)
+-- Up to seven bytes are below 2 to the power 64.
+pub power_fits : (k : ℕ) → k ≤ 7 → 256 ^ k < 18446744073709551616
+power_fits zero l = omega arith
+power_fits (suc zero) l = omega arith
+power_fits (suc (suc zero)) l = omega arith
+power_fits (suc (suc (suc zero))) l = omega arith
+power_fits (suc (suc (suc (suc zero)))) l = omega arith
+power_fits (suc (suc (suc (suc (suc zero))))) l = omega arith
+power_fits (suc (suc (suc (suc (suc (suc zero)))))) l = omega arith
+power_fits (suc (suc (suc (suc (suc (suc (suc zero))))))) l = omega arith
+power_fits (suc (suc (suc (suc (suc (suc (suc (suc k)))))))) l = absurd (omega arith)
 
 -- How many counts have come, and whether one is in its range.
 module _ (r : Loader) where

@@ -34,6 +34,7 @@ fn put_slot_word(names: &mut [u64], cells: &mut [u32], i: u64, f: u64, v: u64)
 }
 
 // Word j of section s.
+// Form kept: a section is its number, as in count_of.
 fn put_field(
     lengths: &mut [u32],
     bins: &mut [u32],

@@ -9,6 +9,7 @@ use crate::loader::{Loader, note_in};
 use crate::reply::LoadRefusal;
 
 // The words from one on become a value.
+// Form kept: tried with get_mut(from..) and fill, and the proof did not close: fill asks that the clone of a T cannot fail.
 fn fill_from<T: Copy>(words: &mut [T], from: usize, value: T)
     ensures { words.new ≡ take from words.old ++ replicate (length words.old - from) value }
 {

@@ -11,6 +11,7 @@ use crate::reply::LoadReply;
 // Nothing is noted, or an answer is that every later call gives again.
 pub type LoadNote = Option<LoadReply>;
 
+// Form kept: numbers, since these are the eight words of the C interface, and the rules count from them.
 #[derive(Clone, Copy)]
 pub struct Loader {
     pub section: u64, // the sections that are whole
@@ -24,6 +25,7 @@ pub struct Loader {
 }
 
 // The count of section s; 0 past the last.
+// Form kept: a section is its number, since the loader's first word is, and the rules' field_of reads it so.
 pub(crate) fn count_of(r: Loader, s: u64) -> u64
     ensures { result ≡ count_taken (loader_words r) s }
 {
@@ -86,20 +88,12 @@ pub(crate) fn next_width(s: u64, f: u64) -> u64
 }
 
 // 256 to the power k.
+#[tactic(auto, using(crate::proofs::Tables::power_fits))]
 pub(crate) fn power(k: u64) -> u64
     requires { k ≤ 7 }
     ensures { result ≡ 256 ^ k }
 {
-    match k {
-        0 => 1,
-        1 => 256,
-        2 => 65536,
-        3 => 16777216,
-        4 => 4294967296,
-        5 => 1099511627776,
-        6 => 281474976710656,
-        _ => 72057594037927936,
-    }
+    256u64.pow(k as u32)
 }
 
 // How many counts have come.
@@ -243,10 +237,7 @@ pub(crate) fn reply_of(r: Loader) -> LoadReply
     requires { FitLoader (loader_words r) }
     ensures { load_reply_of result ≡ loader_answer (loader_words r) }
 {
-    match r.note {
-        Some(reply) => reply,
-        None => Ok(taken_of(r)),
-    }
+    r.note.unwrap_or_else(|| Ok(taken_of(r)))
 }
 
 // The loader with an answer noted.

@@ -12,6 +12,8 @@ use slots::answer::{Answers, packed};
 const VALUES: u64 = 4294967296;
 
 // The word of a note.
+// Form kept: the reader's notes have these lines too: the clause names upload_rules' note_word, which lies above slots, so that no crate
+// below both could say it of a routine for both.
 pub fn word(note: LoadNote) -> u64
     ensures { result ≡ note_word (load_note_of note) }
 {
@@ -25,6 +27,7 @@ pub fn word(note: LoadNote) -> u64
 }
 
 // The note of a word; none where the word says no answer of the loader.
+// Form kept: no TryFrom, since a note is an Option of a Result: neither the trait nor the type is of this crate.
 pub fn of_word(word: u64) -> Option<LoadNote>
     ensures { load_note_at_of result ≡ load_note_at word }
 {

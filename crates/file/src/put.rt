@@ -18,6 +18,8 @@ fn low_byte(x: u64) -> u8
 }
 
 // So many bytes of a number.
+// Form kept: the file's bytes have room by its clause, the dump's are written while there is room, as all that is said; and byte by
+// byte, as little is said, since to_le_bytes gives eight bytes, whatever k.
 fn put_little(out: &mut [u8], at: usize, k: usize, x: u64)
     requires { at + k ≤ length out.old }
     ensures { out.new ≡ sets out.old at (little k x) }

@@ -5,7 +5,7 @@ ghost use Rattle.file.specs.Meanings.{load_refusal_of};
 use slots::answer::{Answer, Answers, refused};
 
 // Why a load is refused.
-#[derive(Clone, Copy)]
+#[derive(Clone, Copy, PartialEq, Eq)]
 pub enum LoadRefusal {
     Unfit, // 1
     Damaged, // 2

@@ -16,6 +16,7 @@ fn has(words: u64, length: usize) -> bool
 }
 
 // Whether the slices can hold c items of section s.
+// Form kept: a section is its number, as in count_of.
 fn can_hold(
     lengths: &[u32],
     bins: &[u32],

@@ -33,6 +33,7 @@ fn read_tail(words: &mut [u32], from: usize, end: usize, rest: &[u8]) -> usize
 }
 
 // The tail of the section's slice.
+// Form kept: a section is its number, as in count_of.
 fn read_section(
     lengths: &mut [u32],
     bins: &mut [u32],

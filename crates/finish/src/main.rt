@@ -2,31 +2,16 @@
 // standard output; what came of it goes to standard error.
 #![tactic(auto)]
 
-ghost use Rattle.std.specs.Prelude.{◌≤◌, length, IfOk};
-
 use finisher::answer::answer;
 use std::io;
-use std::io::{Read, Stderr, Stdin, Stdout};
+use std::io::{Stderr, Stdin, Stdout};
+use trials::load::fill;
 
 // One byte more than the longest file has, so that a longer one is seen to be longer.
 const ROOM: usize = 16 + 4 * 8 + 4 * 8160 + 12 * 4096 + 41 * 4096 + 1;
 
-// Reads until the room is full or the input ends, and answers how many bytes it put at the start of the room.
-fn fill(mut stdin: Stdin, room: &mut [u8]) -> io::Result<usize>
-    ensures { IfOk result (λ n. n ≤ length room.new) }
-{
-    let mut done = 0;
-    while done < room.len() {
-        let n = stdin.read(&mut room[done..])?;
-        if n == 0 {
-            return Ok(done);
-        }
-        done += n;
-    }
-    Ok(done)
-}
-
 // Writes the first so many bytes of a buffer.
+// Form kept: salvage has these lines too; a public routine for a part of a slice and a write is no plainer.
 fn put(to: &impl Print, bytes: &[u8], most: usize) -> io::Result<()> {
     match bytes.get(..most) {
         Some(front) => to.write_all(front),
@@ -36,14 +21,14 @@ fn put(to: &impl Print, bytes: &[u8], most: usize) -> io::Result<()> {
 
 // Reads a set's file, and writes the file of what is left and what came of it.
 fn serve(
-    stdin: Stdin,
+    mut stdin: Stdin,
     stdout: Stdout,
     stderr: Stderr,
     bytes: &mut [u8],
     out: &mut [u8],
     text: &mut [u8],
 ) -> io::Result<()> {
-    let got = fill(stdin, bytes)?;
+    let got = fill(&mut stdin, bytes)?;
     let done = answer(&bytes[..got], out, text);
     put(&stdout, out, done.written)?;
     put(&stderr, text, done.said)

@@ -22,6 +22,7 @@ use slots::answer::{Answers, Unsound};
 use slots::{MOST_CELLS, MOST_NAMES};
 
 // The most tables, bins and words of headers that a set has.
+// Form kept: named here and in frozen, as lengths of arrays; the loader's limits (most_of in file) are numbers of items, by the section.
 const MOST_TABLES: usize = 8;
 
 const MOST_BINS: usize = 8160;
@@ -198,6 +199,7 @@ pub fn answer(bytes: &[u8], out: &mut [u8], text: &mut [u8]) -> FileFinished
     ensures { written_out result.written out.new (lent_paper text.new result.said)
         ≡ lined_out (file_written bytes.now out.old) (lent_paper text.old 0) }
 {
+    // Form kept: arrays of the most words, of which the fronts are used, since the library has no heap.
     let mut lengths = [0u32; MOST_TABLES];
     let mut bins = [0u32; MOST_BINS];
     let mut heads = [0u32; MOST_HEADS];

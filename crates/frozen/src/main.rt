@@ -17,6 +17,7 @@ const MOST_HEADS: usize = 3 * 4096;
 
 // Loads all of the input, refused or not. A proved loop has to end, and nothing says that the input does: the turns are counted up to a
 // number that no run comes to.
+// Form kept: the slices stand apart, as the library's calls take them; a struct of them would be taken apart again at each call.
 fn serve(
     mut stdin: Stdin,
     loader: Loader,
@@ -58,6 +59,7 @@ fn finish(
 
 // Room for what is printed. Its length is large, and a proof that has the zeros before it counts them: here it only has that there are so
 // many.
+// Form kept: each program that needs such a room has its own, since a public one would owe a claim that counts its zeros.
 fn text_room() -> [u8; 524288] {
     [0; 524288]
 }

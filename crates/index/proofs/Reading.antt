@@ -71,4 +71,6 @@ reading =
       answer_one = λ _ a b p q. answer_one_to_one a b (p ∙ sym q);
       slots-fine_one = λ t n a b p q. p ∙ sym q;
       used-slots_one = λ cells n a b p q. p ∙ sym q;
+      is-cleared_one = λ t i a b p q. p ∙ sym q;
+      null-if-none_one = λ link count a b p q. p ∙ sym q;
     }

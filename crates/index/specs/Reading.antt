@@ -1,6 +1,6 @@
 -- Of the routines that only read beside their contracts: their answers are told apart by their numbers,
 -- and each public routine has one outcome.
-use Rattle.std.specs.Prelude.{◌≡◌, Bool, List, Option, ℕ, Result}
+use Rattle.std.specs.Prelude.{◌≡◌, Bool, List, Option, ℕ, Result, eqb}
 use Rattle.slots.specs.Answers.{Answer, OneAnswer}
 use Rattle.slots.specs.Coded.{answer_of}
 use Rattle.tree_rules.specs.Find.{Counted, counted}
@@ -11,7 +11,8 @@ use Rattle.index_rules.specs.Check.{checks}
 use Rattle.index_rules.specs.Index.{Index}
 use Rattle.index_rules.specs.Checked.{sounds_index}
 use Rattle.tree_rules.specs.Chain.{tally}
-use Rattle.index_rules.specs.Sound.{used, slots_fine, sounds}
+use Rattle.slots.specs.Words.{null}
+use Rattle.index_rules.specs.Sound.{used, is_cleared, agree, slots_fine, sounds}
 use Rattle.index.specs.Reads.{found_of, checked_of, sound_of}
 use Rattle.tree.specs.declared.check.Fault.{Fault}
 use Rattle.tree.specs.declared.find.Found.{Found}
@@ -31,3 +32,5 @@ pub record Reading : Type 0 where
   pub answer_one : (a : Answer) → OneAnswer (λ r. answer_of r ≡ a)
   pub slots-fine_one : (t : Live) (n : ℕ) → OneAnswer (λ r. r ≡ slots_fine n n t)
   pub used-slots_one : (cells : List ℕ) (n : ℕ) → OneAnswer (λ r. r ≡ tally n (used cells))
+  pub is-cleared_one : (t : Live) (i : ℕ) → OneAnswer (λ r. r ≡ is_cleared t i)
+  pub null-if-none_one : (link count : ℕ) → OneAnswer (λ r. r ≡ agree (eqb link null) (eqb count 0))

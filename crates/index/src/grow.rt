@@ -29,7 +29,7 @@ pub fn lowest_free(cells: &[u32], n: u32, floor: u32) -> u32
 pub fn lesser(a: u32, b: u32) -> u32
     ensures { result ≡ lesserOf a b }
 {
-    if a < b { a } else { b }
+    a.min(b)
 }
 
 // Slot x stands in the chain between y and q; nothing is written to a null link.

@@ -14,7 +14,8 @@ use slots::{NULL, ROOT, word};
 use tree::find::{Found, find_tree_node};
 
 // Why insert refuses, with the number of each reason.
-#[derive(Clone, Copy)]
+// Form kept: each call's enum has Unfit and Damaged again, so that a caller matches one enum with the very reasons of that call.
+#[derive(Clone, Copy, PartialEq, Eq)]
 pub enum InsertRefusal {
     Unfit, // 1
     Damaged, // 2
@@ -55,10 +56,8 @@ pub fn raise(inserted: Result<u32, InsertRefusal>, floor: u32) -> u32
 {
     match inserted {
         Ok(slot) => slot,
-        Err(refusal) => match refusal {
-            InsertRefusal::Full => NULL,
-            _ => floor,
-        },
+        Err(InsertRefusal::Full) => NULL,
+        Err(_) => floor,
     }
 }
 
@@ -82,6 +81,7 @@ fn ask(
     if !taken_as_sound(names, cells, head, sizes, lines)? {
         return Err(InsertRefusal::Damaged);
     }
+    // Form kept: root and search stand at each caller, since a function for them would tell sought_in and slot_in again in its clause.
     let root = word(head, ROOT, NULL);
     let found = find_tree_node(names, cells, root, hash, key);
     if let Found::At(slot, _) = found {

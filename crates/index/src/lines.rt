@@ -38,6 +38,7 @@ fn take_back(
     ensures freed_is { freed_is result
         (slot_in (sought_in (lent_tree names.old cells.old head.old sizes.old) hash key)) }
 {
+    // Form kept: root and search stand at each caller, since a function for them would tell sought_in and slot_in again in its clause.
     let root = word(head, ROOT, NULL);
     let found = find_tree_node(names, cells, root, hash, key);
     let Found::At(x, _) = found else {
@@ -53,6 +54,7 @@ fn take_back(
 
 // A remove line is undone by an insert into the free slot x, right behind the slot y, at the front where y is null: its pair is not there,
 // and there is a free slot. Misfit where that is not so, or where the place is wider than 32 bits.
+// Form kept: null where no slot is freed, since it goes into lesser as a floor, and null is more than any.
 fn put_back(
     names: &mut [u64],
     cells: &mut [u32],
@@ -73,6 +75,7 @@ fn put_back(
         (line_made kind hash key place prior_hash prior_key) y }
     ensures freed_is { freed_is result null }
 {
+    // Form kept: root and search stand at each caller, since a function for them would tell sought_in and slot_in again in its clause.
     let root = word(head, ROOT, NULL);
     let found = find_tree_node(names, cells, root, hash, key);
     if let Found::At(_, _) = found {
@@ -89,6 +92,7 @@ fn put_back(
 }
 
 // A remove line that notes a pair is undone right behind that one. Misfit where it is not there.
+// Form kept: null where no slot is freed, since it goes into lesser as a floor, and null is more than any.
 fn put_behind(
     names: &mut [u64],
     cells: &mut [u32],
@@ -110,6 +114,7 @@ fn put_behind(
         (line_made kind hash key place prehash prekey) }
     ensures freed_is { freed_is result null }
 {
+    // Form kept: root and search stand at each caller, since a function for them would tell sought_in and slot_in again in its clause.
     let root = word(head, ROOT, NULL);
     let found = find_tree_node(names, cells, root, prehash, prekey);
     let Found::At(y, _) = found else {
@@ -119,6 +124,7 @@ fn put_behind(
 }
 
 // A replace line is undone by the old place: its pair is there with the new one. Misfit where it is not.
+// Form kept: null where no slot is freed, since it goes into lesser as a floor, and null is more than any.
 fn place_back(
     names: &[u64],
     cells: &mut [u32],
@@ -133,6 +139,7 @@ fn place_back(
         (sought_in (lent_tree names.now cells.old head.now sizes.now) hash key) places }
     ensures freed_is { freed_is result null }
 {
+    // Form kept: root and search stand at each caller, since a function for them would tell sought_in and slot_in again in its clause.
     let root = word(head, ROOT, NULL);
     let found = find_tree_node(names, cells, root, hash, key);
     let Found::At(x, _) = found else {
@@ -147,6 +154,7 @@ fn place_back(
 }
 
 // Line k is undone; a pair that comes back takes the free slot x. Misfit where it does not fit; the slices are then left anyhow.
+// Form kept: null where no slot is freed, since it goes into lesser as a floor, and null is more than any.
 fn undo_line(
     names: &mut [u64],
     cells: &mut [u32],

@@ -13,7 +13,8 @@ use slots::{NULL, ROOT, word};
 use tree::find::{Found, find_tree_node};
 
 // Why remove and replace refuse, with the number of each reason.
-#[derive(Clone, Copy)]
+// Form kept: each call's enum has Unfit and Damaged again, so that a caller matches one enum with the very reasons of that call.
+#[derive(Clone, Copy, PartialEq, Eq)]
 pub enum PairRefusal {
     Unfit, // 1
     Damaged, // 2
@@ -70,6 +71,7 @@ pub(crate) fn present(
     if !taken_as_sound(names, cells, head, sizes, lines)? {
         return Err(PairRefusal::Damaged);
     }
+    // Form kept: root and search stand at each caller, since a function for them would tell sought_in and slot_in again in its clause.
     let root = word(head, ROOT, NULL);
     let found = find_tree_node(names, cells, root, hash, key);
     let Found::At(x, _) = found else {

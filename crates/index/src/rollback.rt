@@ -17,7 +17,8 @@ use slots::answer::{Answer, Answers, Unfit, refused};
 use slots::{COUNT, FIRST, MOST_CELLS, MOST_NAMES, MOST_SLOTS, NULL, ROOT, word};
 
 // Why rollback refuses, with the number of each reason.
-#[derive(Clone, Copy)]
+// Form kept: each call's enum has Unfit and Damaged again, so that a caller matches one enum with the very reasons of that call.
+#[derive(Clone, Copy, PartialEq, Eq)]
 pub enum RollbackRefusal {
     Unfit, // 1
     Damaged, // 2
@@ -101,6 +102,7 @@ fn undo(
     if count == 0 {
         return Ok(());
     }
+    // Form kept: arrays of the most words, of which the fronts are used, since the library has no heap.
     let mut old_names = [0u64; MOST_NAMES];
     let mut old_cells = [0u32; MOST_CELLS];
     let mut old_sizes = [0u32; MOST_SLOTS];

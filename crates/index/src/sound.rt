@@ -25,7 +25,7 @@ use tree::rules::tree_size;
 
 // Slot i is cleared: all zero with null links.
 #[tactic(auto, unfolding(index_rules::specs::Sound::is_cleared))]
-fn is_cleared(names: &[u64], cells: &[u32], i: u32) -> bool
+pub fn is_cleared(names: &[u64], cells: &[u32], i: u32) -> bool
     ensures { result ≡ is_cleared (lent_tree names.now cells.now [] []) i }
 {
     name(names, i, HASH) == 0
@@ -81,7 +81,7 @@ pub fn slots_fine(names: &[u64], cells: &[u32], n: u32) -> bool
 fn used_slot(cells: &[u32], i: u32) -> u32
     ensures { result ≡ used cells.now i }
 {
-    if get(cells, i, STATE) == FREE { 0 } else { 1 }
+    (get(cells, i, STATE) != FREE) as u32
 }
 
 // The number of the n slots that are not free.
@@ -124,7 +124,7 @@ fn rules_of_the_slots(names: &[u64], cells: &[u32], head: &[u32], sizes: &[u32])
 }
 
 // The link is null exactly if the count is 0.
-fn null_if_none(link: u32, count: u32) -> bool
+pub fn null_if_none(link: u32, count: u32) -> bool
     ensures { result ≡ agree (eqb link null) (eqb count 0) }
 {
     (link == NULL) == (count == 0)

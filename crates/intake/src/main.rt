@@ -16,6 +16,7 @@ const JOURNAL_WORDS: usize = 1 + 6 * 1024;
 
 // Feeds the input up to its end or to the first refusal, which the end call gives again. A proved loop has to end, and nothing says that
 // the input does: the turns are counted up to a number that no run comes to.
+// Form kept: the slices stand apart, as the library's calls take them; a struct of them would be taken apart again at each call.
 fn serve(
     mut stdin: Stdin,
     reader: Reader,

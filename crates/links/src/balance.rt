@@ -114,6 +114,7 @@ fn insertion_turn(cells: &mut [u32], sizes: &mut [u32], root: u32, x: u32) -> St
 }
 
 // The loop of balance_insertion, at most budget turns of it. Returns the root.
+// Form kept: two loops, since one over a closure would owe in its clause what each turn's own contract says.
 fn insertion_turns(cells: &mut [u32], sizes: &mut [u32], root: u32, x: u32, budget: u32) -> u32
     ensures { lent_links cells.new result sizes.new
         ≡ insertion_turns budget (lent_links cells.old root sizes.old) x }
@@ -263,6 +264,7 @@ fn deletion_turn(cells: &mut [u32], sizes: &mut [u32], root: u32, x: u32) -> Ste
 }
 
 // From x on, the loop runs for at most budget turns. Returns the root.
+// Form kept: two loops, since one over a closure would owe in its clause what each turn's own contract says.
 pub(crate) fn balance_deletion(
     cells: &mut [u32],
     sizes: &mut [u32],

@@ -14,10 +14,11 @@ pub(crate) const ONE_MORE: u32 = 1;
 pub(crate) const ONE_LESS: u32 = 4294967295;
 
 // A sum of words of 32 bits: past the last it begins again at 0.
+#[tactic(auto, unfolding(slots::specs::Words::sum))]
 fn add(m: u32, n: u32) -> u32
     ensures { result ≡ sum m n }
 {
-    std::num::wrapping_add_u32(m, n)
+    m.wrapping_add(n)
 }
 
 // Once the links of a rotation have moved: r has the size that p had, and p, whose children are a and b now, is counted

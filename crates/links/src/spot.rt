@@ -36,18 +36,12 @@ fn descend(names: &[u64], cells: &[u32], p: u32, hash: u64, key: u64, steps: u32
         let side = side_for(names, at, hash, key);
         let q = get(cells, at, side);
         if q == NULL {
-            return Spot {
-                above: at,
-                side: side,
-            };
+            return Spot { above: at, side };
         }
         at = q;
     }
     let side = side_for(names, at, hash, key);
-    Spot {
-        above: at,
-        side: side,
-    }
+    Spot { above: at, side }
 }
 
 // The spot where the order says that the pair hangs: under no slot where the tree is empty.

@@ -7,13 +7,10 @@ ghost use Rattle.listing_rules.specs.Lines.{home_table, slot_line, walk_lines, c
 
 use console::fill::fill;
 use index::sound::used_slots;
-use sets::bin::{bin_word, index};
+use sets::bin::{MOVED, bin_word, index};
 use sets::fit::{fit_set, length_at};
 use sets::walk::Cursor;
 use slots::{HASH, KEY, PLACE, get, name};
-
-// The word of a Moved bin.
-const MOVED: u32 = 1;
 
 // The last of eight tables.
 const LAST_TABLE: u32 = 7;
@@ -35,6 +32,7 @@ fn home_table(lengths: &[u32], bins: &[u32], hash: u64) -> u32
 }
 
 // The line of slot x.
+// Form kept: no Display, since a clause says byte for byte what stands in a lent slice, and the library has no heap.
 fn tell_slot(
     out: &mut [u8],
     at: usize,

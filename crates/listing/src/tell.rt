@@ -14,6 +14,7 @@ use file::loader::Loader;
 use slots::answer::Answers;
 
 // The set that the counts cut out of the slices.
+// Form kept: five cuts here and in tally, since a routine for both would hand out five slices at once.
 fn tell_cut(
     out: &mut [u8],
     r: Loader,

@@ -39,6 +39,7 @@ fn finish_bin(
 {
     match move_accepted(lengths, bins, heads, names, cells, k, i) {
         Ok(entries) => Ok(entries),
+        // Form kept: tried as two arms of one match, and the proof did not close: the last arm's facts lack that it is not CannotMove.
         Err(refusal) => match refusal {
             MoveRefusal::CannotMove => Ok(0),
             _ => Err(refusal),

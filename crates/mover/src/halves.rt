@@ -11,6 +11,7 @@ use sets::lists::is_home;
 use slots::{FIRST, NEXT, NULL, get, word};
 
 // The first slot of a bin in listing order; null where it has none.
+// Form kept: null and no Option: what is written to null is nothing, and the move rests on that (first_in in the rules).
 fn first_in(heads: &[u32], bin: Bin) -> u32
     ensures { result ≡ first_in heads.now (bin_as bin) }
 {
@@ -24,6 +25,7 @@ fn first_in(heads: &[u32], bin: Bin) -> u32
 }
 
 // The header of a bin; null where it has none.
+// Form kept: null and no Option: what is written to null is nothing, and the move rests on that (header_in in the rules).
 fn header_in(bin: Bin) -> u32
     ensures { result ≡ header_in (bin_as bin) }
 {
@@ -54,6 +56,7 @@ fn home_count(names: &[u64], cells: &[u32], length: u32, i: u32, first: u32, mos
 }
 
 // The first of them; null where there is none.
+// Form kept: null and no Option: what is written to null is nothing, and the move rests on that (first_home in the rules).
 fn first_home(names: &[u64], cells: &[u32], length: u32, i: u32, first: u32, most: u32) -> u32
     ensures { result ≡ first_home most names.now cells.now length i first }
 {
@@ -72,27 +75,34 @@ fn first_home(names: &[u64], cells: &[u32], length: u32, i: u32, first: u32, mos
     NULL
 }
 
-// The first slot of bin i of table k, in a set of n slots.
+// Bin i of table k, in a set of n slots.
+fn bin_at(lengths: &[u32], bins: &[u32], heads: &[u32], n: u32, k: u32, i: u32) -> Bin
+    ensures { bin_as result
+        ≡ bin_of n (length heads.now / 3) (get_or bins.now (bins_before lengths.now k + i) 0) }
+{
+    bin_of(n as usize, heads.len() / 3, bin_word(lengths, bins, k, i))
+}
+
+// Its first slot.
+// Form kept: null where it has none, as first_in has it.
 pub(crate) fn first_of(lengths: &[u32], bins: &[u32], heads: &[u32], n: u32, k: u32, i: u32) -> u32
     ensures { result ≡ first_in heads.now
         (bin_of n (length heads.now / 3) (get_or bins.now (bins_before lengths.now k + i) 0)) }
 {
-    let w = bin_word(lengths, bins, k, i);
-    let bin = bin_of(n as usize, heads.len() / 3, w);
-    first_in(heads, bin)
+    first_in(heads, bin_at(lengths, bins, heads, n, k, i))
 }
 
 // Its header.
+// Form kept: null where it has none, as header_in has it.
 pub(crate) fn header_of(lengths: &[u32], bins: &[u32], heads: &[u32], n: u32, k: u32, i: u32) -> u32
     ensures { result
         ≡ header_in (bin_of n (length heads.now / 3) (get_or bins.now (bins_before lengths.now k + i) 0)) }
 {
-    let w = bin_word(lengths, bins, k, i);
-    let bin = bin_of(n as usize, heads.len() / 3, w);
-    header_in(bin)
+    header_in(bin_at(lengths, bins, heads, n, k, i))
 }
 
 // How many entries of bin i of table k go to bin j below.
+// Form kept: a walk for each, since the rules name the two (half_count, half_first), and where a move is refused only the counts are asked.
 pub(crate) fn half_count(
     lengths: &[u32],
     bins: &[u32],

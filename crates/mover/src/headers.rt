@@ -36,6 +36,7 @@ pub(crate) fn header_for(
     if count <= MOST_LISTED {
         return Ok(None);
     }
+    // Form kept: tried as .map(Some).ok_or(MoveRefusal::Full), and the proof did not close.
     match spare(heads, own, first, headers) {
         Some(h) => Ok(Some(h)),
         None => Err(MoveRefusal::Full),

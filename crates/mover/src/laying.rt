@@ -7,15 +7,9 @@ ghost use Rattle.mover.specs.Moved.{header_of_half};
 use crate::halves::{first_of, header_of};
 use crate::headers::put_header;
 use crate::passes::{grow, plain, thread};
+use sets::bin::{FIRST_LIST, FIRST_TREE, MOVED};
 use sets::fit::{bins_before, length_at};
 use slots::NULL;
-
-// The words of a Moved bin, of one that is the list from slot 0, and of one that is the tree of header 0.
-const MOVED: u32 = 1;
-
-const FIRST_LIST: u32 = 2;
-
-const FIRST_TREE: u32 = 4098;
 
 // The most slots and headers of a set.
 const MOST: u32 = 4096;
@@ -36,6 +30,7 @@ fn put_bin(lengths: &[u32], bins: &mut [u32], k: u32, i: u32, w: u32)
 }
 
 // The word of the list from slot p; 0 where no set has such a slot.
+// Form kept: two functions, since the rules name the two (list_head, tree_head).
 fn list_head(p: u32) -> u32
     ensures { result ≡ list_head p }
 {

@@ -11,7 +11,7 @@ use crate::halves::{half_count, half_first, header_of};
 use crate::headers::header_for;
 use crate::laying::{lay, take_bin};
 use sets::accept::accept;
-use sets::bin::bin_word;
+use sets::bin::{MOVED, bin_word};
 use sets::fit::length_at;
 use slots::answer::{Answer, Answers, Unfit, refused};
 
@@ -51,7 +51,7 @@ impl From<Unfit> for MoveRefusal {
 fn says_moved(lengths: &[u32], bins: &[u32], k: u32, i: u32) -> bool
     ensures { result ≡ eqb (get_or bins.now (bins_before lengths.now k + i) 0) 1 }
 {
-    bin_word(lengths, bins, k, i) == 1
+    bin_word(lengths, bins, k, i) == MOVED
 }
 
 // Whether the parent of bin i of table k is Moved; a bin of table 0 has none.

@@ -93,8 +93,8 @@ held_same s x l = go (dec_lt x 4294967296)
     go (yes h) = rw (less x h)
     go (no n) = rw (more x (omega arith), ne_eqb s 4294967296 (λ e. omega arith), ne_eqb s x (λ e. omega arith))
 
-pub held_tested : (s x : ℕ) {m : ℕ} → m ≡ held x → s < 4294967296 → not (eqb s m) ≡ neg (eqb s x)
-held_tested s x e l = rw (e, held_same s x l, not_is)
+pub held_asked : (s x : ℕ) {m : ℕ} → m ≡ held x → s < 4294967296 → not (eqb s m) ≡ neg (eqb s x)
+held_asked s x e l = rw (e, held_same s x l, not_is)
 
 -- The number of slots.
 module _ (cells : List ℕ) (i : ℕ) where

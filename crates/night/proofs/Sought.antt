@@ -8,6 +8,7 @@ use native.Mathlib.Decide.{ℕ_discrete}
 use native.Mathlib.Numerals.{add-one}
 use native.Mathlib.Omega.{arith}
 use lib.ListN.{length}
+use Rattle.std.specs.Prelude.{Option, None, unwrap_or}
 use lib.Dec.{eqb}
 use borrow.Author.Tests.{eq-eqb, ne_eqb}
 use Rattle.slots.specs.Words.{null, pick, leftward, rightward, most_names}
@@ -66,6 +67,10 @@ module _ (f : ℕ → Bool) where
           at : Dec (j ≡ i) → f j ≡ false
           at (yes q) = ap f q ∙ p
           at (no d) = again (sym (rw p) ∙ e) j (omega arith) (omega arith)
+
+-- A search that tells no slot.
+pub none_told : {o : Option ℕ} {x : ℕ} → o ≡ None → unwrap_or o null ≡ x → eqb x null ≡ true
+none_told p e = rw (← e, p) (eq-eqb null null refl)
 
 -- What is asked of the slots does not read the header or the sizes.
 pub any_header : (names cells head sizes : List ℕ) (n k : ℕ)

@@ -16,6 +16,7 @@ pub struct WayDown {
 }
 
 // The number of the first broken rule, 0 for a sound tree, and what shows it; words that say nothing are null.
+// Form kept: the rule is a number, 0 for a sound tree, and nulls say nothing, since these are the words of oz_why.
 #[derive(Clone, Copy)]
 pub struct Account {
     pub rule: u32,

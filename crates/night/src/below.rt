@@ -33,7 +33,7 @@ pub(crate) fn blacks_below(cells: &[u32], i: u32, depth: usize) -> Option<usize>
 fn held(x: u64) -> u64
     ensures { result ≡ held_number x }
 {
-    if x < 4294967296 { x } else { 4294967296 }
+    x.min(4294967296)
 }
 
 // The number of slots from the link i down, so held.

@@ -13,14 +13,13 @@ ghost use Rattle.night.specs.Breaches.{breach_of};
 
 use crate::account::Account;
 use crate::below::number_below;
-use crate::header::null_if_none;
-use crate::slot::{misfirst, misrooted, points_back, twins};
-use index::sound::used_slots;
+use crate::slot::{misfirst, misrooted, twins};
+use index::sound::{null_if_none, used_slots};
 use slots::{
     COUNT, FIRST, FREE, HASH, KEY, LEFT, NEXT, NULL, PARENT, PLACE, PREV, RED, RIGHT, ROOT, STATE,
     get, is_red, name, word,
 };
-use tree::check::in_range;
+use tree::check::{in_range, points_back};
 
 // What breaks the rule, with the numbers that show it.
 #[derive(Clone, Copy)]
@@ -54,6 +53,7 @@ pub enum Breach {
 }
 
 // The first of slot i's five links that names no slot, null where each is null or a slot.
+// Form kept: null and no Option, since the clause equates the result with the rules' link_with, and left_in tells null as the field.
 fn stray_link(n: usize, cells: &[u32], i: u32) -> u32
     ensures { result ≡ link_with (λ f. neg (in_range n (cell cells.now i f))) }
 {
@@ -66,6 +66,7 @@ fn stray_link(n: usize, cells: &[u32], i: u32) -> u32
 }
 
 // The first of slot i's five links that is not null, null where each is.
+// Form kept: null and no Option, since the clause equates the result with the rules' link_with, and left_in tells null as the field.
 fn set_link(cells: &[u32], i: u32) -> u32
     ensures { result ≡ link_with (is_set cells.now i) }
 {
@@ -282,6 +283,7 @@ pub(crate) fn broken_by(
 {
     let rule = told.rule;
     let i = told.slot;
+    // Form kept: by the rule's number, since an Account has it so, and each rule's breach reads other things.
     match rule {
         1 => {
             if i == NULL {

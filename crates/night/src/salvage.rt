@@ -11,7 +11,9 @@ ghost use Rattle.night.specs.Sources.{Sources, SlotReady};
 use index::grow::grow;
 use index::sound::sound;
 use slots::answer::Unfit;
-use slots::{COUNT, FREE, HASH, KEY, NULL, PLACE, RED, ROOT, STATE, get, name, put_word, word};
+use slots::{
+    COUNT, FREE, HASH, KEY, MOST_SLOTS, NULL, PLACE, RED, ROOT, STATE, get, name, put_word, word,
+};
 use tree::find::{Found, find_tree_node};
 
 // The words of the report.
@@ -52,6 +54,7 @@ fn save_pair(
 {
     let hash = name(names, i, HASH);
     let key = name(names, i, KEY);
+    // Form kept: root and search stand at each caller, since a function for them would tell sought_in and slot_in again in its clause.
     let root = word(head2, ROOT, NULL);
     let found = find_tree_node(names2, cells2, root, hash, key);
     if let Found::At(x, _) = found {
@@ -122,7 +125,8 @@ fn save_all(
         (lent_tree names2.old cells2.old head2.old sizes2.old) report.old }
 {
     let n = (names.len() / 2) as u32;
-    let mut from = [0u32; 4096];
+    // Form kept: an array of the most words, of which the front is used, since the library has no heap.
+    let mut from = [0u32; MOST_SLOTS];
     let mut kept = 0;
     for i in 0..n {
         kept = save_slot(

@@ -1,7 +1,7 @@
 // The lowest slot that shows a rule, and the first of T3 to T8 that a slot shows.
-ghost use Rattle.std.specs.Prelude.{◌≡◌, Bool, ℕ, ◌<◌, ◌≤◌, length};
+ghost use Rattle.std.specs.Prelude.{◌≡◌, Bool, ℕ, ◌<◌, ◌≤◌, IfSome, length, unwrap_or};
 ghost use Rattle.night_rules.specs.Why.{lowest_with};
-ghost use Rattle.slots.specs.Words.{most_names};
+ghost use Rattle.slots.specs.Words.{null, most_names};
 ghost use Rattle.index_rules.specs.Live.{lent_tree};
 ghost use Rattle.night.specs.Shown.{from_t3};
 ghost use Rattle.night.specs.Told.{account_of};
@@ -11,18 +11,19 @@ use crate::slot::{shows3, shows4, shows5, shows6, shows7, shows8};
 use crate::ways::{by_left, by_right, next_slot};
 use slots::NULL;
 
-// The lowest of the n slots that passes the test, null where none does.
-// Form kept: null and no Option, since null is what is told where no slot shows a rule (tells_slot, of T1 in the header).
-pub(crate) fn lowest<F: Fn(u32) -> bool>(n: u32, shows: F) -> u32
+// The lowest of the n slots that passes the test, if one does.
+pub(crate) fn lowest<F: Fn(u32) -> bool>(n: u32, shows: F) -> Option<u32>
     requires { F.IsAlwaysCallable shows }
-    ensures { (f : ℕ → Bool) → ((i : ℕ) → i < n → (b : Bool) → F.post shows i b → b ≡ f i) → result ≡ lowest_with n f 0 }
+    ensures lowest { (f : ℕ → Bool) → ((i : ℕ) → i < n → (b : Bool) → F.post shows i b → b ≡ f i)
+        → unwrap_or result null ≡ lowest_with n f 0 }
+    ensures inside { IfSome result (λ i. i < null) }
 {
     for i in 0..n {
         if shows(i) {
-            return i;
+            return Some(i);
         }
     }
-    NULL
+    None
 }
 
 // The first of T3 to T8 that a slot shows, and what is told with the lowest such slot; or that none does.
@@ -32,28 +33,22 @@ pub(crate) fn first_shown(names: &[u64], cells: &[u32], head: &[u32], sizes: &[u
 {
     let slots = names.len() / 2;
     let n = slots as u32;
-    let three = lowest(n, |i| shows3(names, cells, head, i));
-    if three != NULL {
+    if let Some(three) = lowest(n, |i| shows3(names, cells, head, i)) {
         return tells_slot(3, three);
     }
-    let four = lowest(n, |i| shows4(names, cells, i));
-    if four != NULL {
+    if let Some(four) = lowest(n, |i| shows4(names, cells, i)) {
         return tells_pair(four, next_slot(slots, cells, four));
     }
-    let five = lowest(n, |i| shows5(cells, head, i));
-    if five != NULL {
+    if let Some(five) = lowest(n, |i| shows5(cells, head, i)) {
         return tells_slot(5, five);
     }
-    let six = lowest(n, |i| shows6(names, cells, i));
-    if six != NULL {
+    if let Some(six) = lowest(n, |i| shows6(names, cells, i)) {
         return tells_ways(six, by_left(slots, cells, six), by_right(slots, cells, six));
     }
-    let seven = lowest(n, |i| shows7(names, cells, head, i));
-    if seven != NULL {
+    if let Some(seven) = lowest(n, |i| shows7(names, cells, head, i)) {
         return tells_slot(7, seven);
     }
-    let eight = lowest(n, |i| shows8(names, cells, sizes, i));
-    if eight != NULL {
+    if let Some(eight) = lowest(n, |i| shows8(names, cells, sizes, i)) {
         return tells_slot(8, eight);
     }
     tells_slot(0, NULL)

@@ -1,20 +1,19 @@
 // The tests of one slot.
 ghost use Rattle.std.specs.Prelude.{◌≡◌, List, [], ℕ, eqb};
 ghost use Rattle.slots.specs.Words.{state, free, cell};
-ghost use Rattle.tree_rules.specs.Check.{points_back};
 ghost use Rattle.index_rules.specs.Live.{lent_tree};
-ghost use Rattle.index_rules.specs.Sound.{is_cleared};
 ghost use Rattle.night_rules.specs.Why.{neg, one_child, misrooted as isMisrooted, twins as areTwins, pair_rises, misfirst as isMisfirst};
 ghost use Rattle.night_rules.specs.Why.{shows1 as showing1, shows3 as showing3, shows4 as showing4, shows5 as showing5};
 ghost use Rattle.night_rules.specs.Why.{shows6 as showing6, shows7 as showing7, shows8 as showing8};
 
 use crate::below::{blacks_below, number_below};
 use crate::ways::{leads_to, next_slot};
+use index::sound::is_cleared;
 use slots::{
-    FIRST, FREE, HASH, KEY, LEFT, NEXT, NULL, PARENT, PLACE, PREV, RED, RIGHT, ROOT, STATE,
-    comes_before, get, is_red, name, word,
+    FIRST, FREE, HASH, KEY, LEFT, NEXT, NULL, PARENT, PREV, RED, RIGHT, ROOT, STATE, comes_before,
+    get, is_red, name, word,
 };
-use tree::check::links_in;
+use tree::check::{links_in, points_back};
 
 // Slot i is not free.
 fn is_used(cells: &[u32], i: u32) -> bool
@@ -22,30 +21,6 @@ fn is_used(cells: &[u32], i: u32) -> bool
 {
     let state = get(cells, i, STATE);
     state != FREE
-}
-
-// The neighbour of i along the field f, if any, points back to i along the field g.
-#[tactic(auto, unfolding(tree_rules::specs::Check::points_back))]
-pub(crate) fn points_back(cells: &[u32], i: u32, f: u32, g: u32) -> bool
-    ensures { result ≡ points_back cells.now i f g }
-{
-    let j = get(cells, i, f);
-    j == NULL || get(cells, j, g) == i
-}
-
-// Slot i is cleared: all zero with null links.
-#[tactic(auto, unfolding(index_rules::specs::Sound::is_cleared))]
-fn is_cleared(names: &[u64], cells: &[u32], i: u32) -> bool
-    ensures { result ≡ is_cleared (lent_tree names.now cells.now [] []) i }
-{
-    name(names, i, HASH) == 0
-        && name(names, i, KEY) == 0
-        && get(cells, i, PLACE) == 0
-        && get(cells, i, PARENT) == NULL
-        && get(cells, i, LEFT) == NULL
-        && get(cells, i, RIGHT) == NULL
-        && get(cells, i, PREV) == NULL
-        && get(cells, i, NEXT) == NULL
 }
 
 // T1 is broken at slot i.
@@ -58,13 +33,9 @@ pub(crate) fn shows1(names: &[u64], cells: &[u32], i: u32) -> bool
     }
     let state = get(cells, i, STATE);
     if state == FREE {
-        let cleared = is_cleared(names, cells, i);
-        return !cleared;
+        return !is_cleared(names, cells, i);
     }
-    if state <= RED {
-        return false;
-    }
-    true
+    RED < state
 }
 
 // Slot i is one of the two children of p and not both.
@@ -137,23 +108,12 @@ pub(crate) fn shows3(names: &[u64], cells: &[u32], head: &[u32], i: u32) -> bool
     ensures { (sizes : List ℕ) → result ≡ showing3 (lent_tree names.now cells.now head.now sizes) i }
 {
     let n = names.len() / 2;
-    if !is_used(cells, i) {
-        return false;
-    }
-    if misrooted(cells, head, i) {
-        return true;
-    }
-    if !points_back(cells, i, LEFT, PARENT) {
-        return true;
-    }
-    if !points_back(cells, i, RIGHT, PARENT) {
-        return true;
-    }
-    if twins(cells, i) {
-        return true;
-    }
-    let root = word(head, ROOT, NULL);
-    !leads_to(n, cells, PARENT, root, i)
+    is_used(cells, i)
+        && (misrooted(cells, head, i)
+            || !points_back(cells, i, LEFT, PARENT)
+            || !points_back(cells, i, RIGHT, PARENT)
+            || twins(cells, i)
+            || !leads_to(n, cells, PARENT, word(head, ROOT, NULL), i))
 }
 
 // T4 is broken at slot i.
@@ -177,19 +137,10 @@ pub(crate) fn shows4(names: &[u64], cells: &[u32], i: u32) -> bool
 pub(crate) fn shows5(cells: &[u32], head: &[u32], i: u32) -> bool
     ensures { (names sizes : List ℕ) → result ≡ showing5 (lent_tree names cells.now head.now sizes) i }
 {
-    if !is_red(cells, i) {
-        return false;
-    }
-    let root = word(head, ROOT, NULL);
-    if i == root {
-        return true;
-    }
-    let l = get(cells, i, LEFT);
-    if is_red(cells, l) {
-        return true;
-    }
-    let r = get(cells, i, RIGHT);
-    is_red(cells, r)
+    is_red(cells, i)
+        && (i == word(head, ROOT, NULL)
+            || is_red(cells, get(cells, i, LEFT))
+            || is_red(cells, get(cells, i, RIGHT)))
 }
 
 // T7 is broken at slot i.
@@ -198,20 +149,11 @@ pub(crate) fn shows7(names: &[u64], cells: &[u32], head: &[u32], i: u32) -> bool
     ensures { (sizes : List ℕ) → result ≡ showing7 (lent_tree names.now cells.now head.now sizes) i }
 {
     let n = names.len() / 2;
-    if !is_used(cells, i) {
-        return false;
-    }
-    if misfirst(cells, head, i) {
-        return true;
-    }
-    if !points_back(cells, i, PREV, NEXT) {
-        return true;
-    }
-    if !points_back(cells, i, NEXT, PREV) {
-        return true;
-    }
-    let first = word(head, FIRST, NULL);
-    !leads_to(n, cells, PREV, first, i)
+    is_used(cells, i)
+        && (misfirst(cells, head, i)
+            || !points_back(cells, i, PREV, NEXT)
+            || !points_back(cells, i, NEXT, PREV)
+            || !leads_to(n, cells, PREV, word(head, FIRST, NULL), i))
 }
 
 // T6 is broken at slot i.
@@ -233,7 +175,7 @@ pub(crate) fn shows6(names: &[u64], cells: &[u32], i: u32) -> bool
 }
 
 // T8 is broken at slot i.
-#[tactic(auto, unfolding(night_rules::specs::Why::shows8), using(crate::proofs::Parts::held_tested))]
+#[tactic(auto, unfolding(night_rules::specs::Why::shows8), using(crate::proofs::Parts::held_asked))]
 pub(crate) fn shows8(names: &[u64], cells: &[u32], sizes: &[u32], i: u32) -> bool
     ensures { (head : List ℕ) → result ≡ showing8 (lent_tree names.now cells.now head sizes.now) i }
 {

@@ -38,6 +38,7 @@ pub(crate) fn first_below(n: usize, cells: &[u32], i: u32) -> u32
 }
 
 // The first slot above i that has the way up on its left, null where there is none.
+// Form kept: null and no Option, since the clause equates the result with the rules' next_above, which is a link.
 pub(crate) fn next_above(n: usize, cells: &[u32], i: u32) -> u32
     ensures { result ≡ next_above n cells.now i }
 {
@@ -56,6 +57,7 @@ pub(crate) fn next_above(n: usize, cells: &[u32], i: u32) -> u32
 }
 
 // The slot next in order, null where there is none.
+// Form kept: null and no Option, since the clause equates the result with the rules' next_slot, which is a link.
 #[tactic(auto, unfolding(night_rules::specs::Why::next_slot))]
 pub(crate) fn next_slot(n: usize, cells: &[u32], i: u32) -> u32
     ensures { result ≡ next_slot n cells.now i }
@@ -72,11 +74,7 @@ pub(crate) fn next_slot(n: usize, cells: &[u32], i: u32) -> u32
 pub(crate) fn one_if_black(cells: &[u32], i: u32) -> u32
     ensures { result ≡ one_if_black cells.now i }
 {
-    let state = get(cells, i, STATE);
-    if state == BLACK {
-        return 1;
-    }
-    0
+    (get(cells, i, STATE) == BLACK) as u32
 }
 
 // The black slots above i, by its parents.
@@ -144,14 +142,7 @@ pub(crate) fn by_right(n: usize, cells: &[u32], i: u32) -> WayDown
 {
     let k = blacks_to(n, cells, i);
     let q = get(cells, i, RIGHT);
-    if n == 0 {
-        return WayDown {
-            last: i,
-            side: 1,
-            blacks: k as u32,
-        };
-    }
-    if q == NULL {
+    if n == 0 || q == NULL {
         return WayDown {
             last: i,
             side: 1,

@@ -22,7 +22,7 @@ fn explain(names: &[u64], cells: &[u32], head: &[u32], sizes: &[u32]) -> Account
     let n = names.len() / 2;
     if !rule1(names, cells, head) {
         let i = lowest(n as u32, |i| shows1(names, cells, i));
-        return tells_slot(1, i);
+        return tells_slot(1, i.unwrap_or(NULL));
     }
     if !rule2(head) {
         return tells_slot(2, NULL);

@@ -6,6 +6,7 @@ ghost use Rattle.slots.specs.Coded.{value_of};
 use slots::{HASH, KEY, LEFT, NULL, RIGHT, comes_before, get, name, word};
 
 // The slot at position k below root, counted from 0.
+// Form kept: null and no Option, since the clause equates the result with the rules' kth_from; on a sound tree it never comes.
 pub(crate) fn kth_slot(cells: &[u32], sizes: &[u32], root: u32, k: u32, steps: u32) -> u32
     ensures { result ≡ kth_from steps cells.now sizes.now root k }
 {

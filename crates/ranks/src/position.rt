@@ -11,7 +11,8 @@ use slots::answer::{Answer, Answers, Unfit, refused};
 use slots::{NULL, ROOT, word};
 
 // Why position refuses, with the number of each reason.
-#[derive(Clone, Copy)]
+// Form kept: each call's enum has Unfit and Damaged again, so that a caller matches one enum with the very reasons of that call.
+#[derive(Clone, Copy, PartialEq, Eq)]
 pub enum PositionRefusal {
     Unfit, // 1
     Damaged, // 2

@@ -1,20 +1,20 @@
 -- One check for a chunk: on a ready index the calls without the check are the calls, and what they leave is ready.
 use mathlib.Core.Path.{◌≡◌, refl, ap, sym, ◌∙◌, subst}
 use mathlib.Core.Logic.{◌≢◌}
-use mathlib.Core.Bool.{Bool, true, false, false≢true}
-use Rattle.std.specs.Prelude.{Result, Err}
+use Rattle.std.specs.Prelude.{Option, None, Some, IfSome, Result, Err}
 use mathlib.Core.List.{List, [], ◌∷◌}
 use Prim.Native.Nat.{ℕ, zero, suc, ◌+◌, ◌<◌, ◌≤◌}
 use native.Mathlib.Numerals.{add-one}
 use native.Mathlib.Omega.{arith}
 use lib.ListN.{length, drop, get_or}
 use lib.Seq.{drop-cons}
+use Rattle.std.proofs.lemmas.Option.{none-some}
 use Rattle.slots.specs.Answers.{Answer, given, refused}
 use Rattle.index_rules.specs.Index.{Index, Outcome, outcome}
 use Rattle.index_rules.specs.Insert.{inserts}
 use Rattle.index_rules.specs.Rollback.{rolls}
 use Rattle.index_rules.specs.Calls.{insert_call}
-use Rattle.index_rules.specs.Checked.{NoneBelow, Passes, Ready, sounds_index, raised_by, inserts_sound, rolls_sound}
+use Rattle.index_rules.specs.Checked.{NoneBelow, Ready, sounds_index, raised_by, inserts_sound, rolls_sound}
 use Rattle.index_rules.specs.Claims.{OnceChecked}
 use Rattle.index_rules.proofs.Claims.{claims}
 use Rattle.index.proofs.Singly.{insert_unfit, insert_damaged, rollback_unfit, rollback_damaged}
@@ -27,17 +27,21 @@ use Rattle.upload_rules.proofs.Ranges.{byte_range}
 use Rattle.reader.specs.Trusting.{EntryMade, Stepped}
 use Rattle.reader.proofs.Coming.{read_on_lem, all_noted}
 
--- What was not checked is not said to be ready.
-pub unchecked : {A : Type 0} → false ≡ true → A
-unchecked e = absurd (false≢true e)
+-- What was checked is ready from the floor that there is.
+there : (ix : Index) {floor : Option ℕ} {f : ℕ} → IfSome floor (λ x. Ready ix x) → floor ≡ Some f → Ready ix f
+there ix h e = subst (λ (o : Option ℕ). IfSome o (λ x. Ready ix x)) e h
 
-pub rolls_on : (ix : Index) (m : ℕ) {o : Outcome} → Passes ix → o ≡ rolls_sound ix m → o ≡ rolls ix m
-rolls_on ix m p e = e ∙ (claims.once_checked ix p.fit p.sound).rollback m
+pub rolls_on : (ix : Index) (m : ℕ) {o : Outcome} {floor : Option ℕ} {f : ℕ} → floor ≡ Some f → IfSome floor (λ x. Ready ix x)
+    → o ≡ rolls_sound ix m
+    → o ≡ rolls ix m
+rolls_on ix m s r e =
+    let p = (there ix r s).passes in
+    e ∙ (claims.once_checked ix p.fit p.sound).rollback m
 
 module _ (ix : Index) (hash key p : ℕ) where
   pub entry_made : {floor : ℕ} {a : Answer} {jx : Index} {raised : ℕ} → Ready ix floor → outcome a jx ≡ inserts_sound floor ix hash key p
       → raised ≡ raised_by a floor
-      → EntryMade ix hash key p a true raised jx
+      → EntryMade ix hash key p a (Some raised) jx
   entry_made {floor} {a} {jx} {raised} r e i =
       let once : OnceChecked ix r.passes.fit r.passes.sound = claims.once_checked ix r.passes.fit r.passes.sound in
       let same : outcome a jx ≡ inserts ix hash key p = e ∙ once.insert floor hash key p r.none in
@@ -47,21 +51,21 @@ module _ (ix : Index) (hash key p : ℕ) where
       let none = once.floor (insert_call hash key p) floor r.none in
       record {
         same = same;
-        ready = λ z. subst (λ (x : Index). Ready x raised) (sym left)
+        ready = subst (λ (x : Index). Ready x raised) (sym left)
             (record {
               passes = record { fit = again.0; sound = again.1 };
               none = subst (λ (n : ℕ). NoneBelow n (inserts ix hash key p).left.live)
                   (sym (i ∙ ap (λ (x : Answer). raised_by x floor) answer)) none;
             });
-        denied = λ z. absurd (false≢true (sym z));
+        denied = λ z. absurd (none-some _ (sym z));
       }
 
-  pub entry_unfit : refused 1 ≡ sounds_index ix → EntryMade ix hash key p (refused 1) false 0 ix
-  entry_unfit e = record { same = insert_unfit ix e hash key p; ready = unchecked; denied = λ z. ((λ y. omega arith), rollback_unfit ix e) }
+  pub entry_unfit : refused 1 ≡ sounds_index ix → EntryMade ix hash key p (refused 1) None ix
+  entry_unfit e = record { same = insert_unfit ix e hash key p; ready = tt; denied = λ z. ((λ y. omega arith), rollback_unfit ix e) }
 
-  pub entry_damaged : given 0 ≡ sounds_index ix → EntryMade ix hash key p (refused 2) false 0 ix
+  pub entry_damaged : given 0 ≡ sounds_index ix → EntryMade ix hash key p (refused 2) None ix
   entry_damaged e =
-      record { same = insert_damaged ix e hash key p; ready = unchecked; denied = λ z. ((λ y. omega arith), rollback_damaged ix e) }
+      record { same = insert_damaged ix e hash key p; ready = tt; denied = λ z. ((λ y. omega arith), rollback_damaged ix e) }
 
 -- An insert that is refused has a number.
 pub insert_refused : {r : Result ℕ InsertRefusal} {e : InsertRefusal} → r ≡ Err e → (inserted_of r).number ≢ 0
@@ -75,8 +79,8 @@ insert_refused {r} {e} h z = go e (sym (ap (λ (x : Result ℕ InsertRefusal). (
     go JournalFull y = omega arith
 
 -- A step that notes an answer.
-pub step_down : {d : Session} {r : Reader} {ix : Index} → session r ix ≡ d → Stepped d r false 0 ix
-step_down e = record { same = e; ready = unchecked }
+pub step_down : {d : Session} {r : Reader} {ix : Index} → session r ix ≡ d → Stepped d r None ix
+step_down e = record { same = e; ready = tt }
 
 -- The bytes from a place on are the byte there and those after it; past the end there are none.
 from : (l : List ℕ) (i : ℕ) → i < length l → drop i l ≡ get_or l i 0 ∷ drop (i + 1) l
@@ -89,10 +93,10 @@ past (b ∷ l) zero h = absurd (omega arith)
 past (b ∷ l) (suc i) h = past l i (omega arith)
 
 -- A turn of a chunk: the bytes from number i on come to what all of them come to, and the next one finds a reader in range.
-pub record Turn (start : Session) (l : List ℕ) (r : Reader) (checked : Bool) (floor : ℕ) (ix : Index) (i : ℕ) : Type 0 where
+pub record Turn (start : Session) (l : List ℕ) (r : Reader) (floor : Option ℕ) (ix : Index) (i : ℕ) : Type 0 where
   pub same : bytes_read (session r ix) (drop i l) ≡ bytes_read start l
   pub fit : FitReader r
-  pub ready : checked ≡ true → Ready ix floor
+  pub ready : IfSome floor (λ f. Ready ix f)
   pub within : i ≤ length l
   pub names : length ix.live.names ≡ length start.index.live.names
   pub cells : length ix.live.cells ≡ length start.index.live.cells
@@ -100,12 +104,12 @@ pub record Turn (start : Session) (l : List ℕ) (r : Reader) (checked : Bool) (
   pub sizes : length ix.live.sizes ≡ length start.index.live.sizes
   pub lines : length ix.lines ≡ length start.index.lines
 
-pub turn_start : (r : Reader) (ix : Index) (l : List ℕ) → FitReader r → Turn (session r ix) l r false 0 ix 0
+pub turn_start : (r : Reader) (ix : Index) (l : List ℕ) → FitReader r → Turn (session r ix) l r None ix 0
 turn_start r ix l h =
     record {
       same = refl;
       fit = h;
-      ready = unchecked;
+      ready = tt;
       within = omega arith;
       names = refl;
       cells = refl;
@@ -114,21 +118,21 @@ turn_start r ix l h =
       lines = refl;
     }
 
-module _ {start : Session} {l : List ℕ} {r : Reader} {checked : Bool} {floor : ℕ} {ix : Index} {i : ℕ}
-    (turn : Turn start l r checked floor ix i) where
+module _ {start : Session} {l : List ℕ} {r : Reader} {floor : Option ℕ} {ix : Index} {i : ℕ}
+    (turn : Turn start l r floor ix i) where
   read_byte : {d : Session} → i < length l → d ≡ byte_read (session r ix) (get_or l i 0)
       → bytes_read d (drop (i + 1) l) ≡ bytes_read (session r ix) (drop i l)
   unfolding bytes_read
   read_byte h f = rw (from l i h, f)
 
-  pub turn_on : {s : Reader} {checked' : Bool} {floor' : ℕ} {jx : Index} → i < length l → get_or l i 0 < 256 → r.note ≡ unsaid
-      → Stepped (byte_came r ix (get_or l i 0)) s checked' floor' jx
+  pub turn_on : {s : Reader} {floor' : Option ℕ} {jx : Index} → i < length l → get_or l i 0 < 256 → r.note ≡ unsaid
+      → Stepped (byte_came r ix (get_or l i 0)) s floor' jx
       → length jx.live.names ≡ length ix.live.names
       → length jx.live.cells ≡ length ix.live.cells
       → length jx.live.head ≡ length ix.live.head
       → length jx.live.sizes ≡ length ix.live.sizes
       → length jx.lines ≡ length ix.lines
-      → Turn start l s checked' floor' jx (i + 1)
+      → Turn start l s floor' jx (i + 1)
   turn_on h small note step n1 n2 n3 n4 n5 =
       let e = step.same ∙ read_on_lem r ix (get_or l i 0) note in
       record {

@@ -1,5 +1,5 @@
 -- What holds of an index that was checked once in a chunk, before and after each byte.
-use Rattle.std.specs.Prelude.{◌≡◌, ◌≢◌, Bool, true, false, ℕ}
+use Rattle.std.specs.Prelude.{◌≡◌, ◌≢◌, Option, None, IfSome, ℕ}
 use Rattle.slots.specs.Answers.{Answer}
 use Rattle.index_rules.specs.Index.{Index, outcome}
 use Rattle.index_rules.specs.Insert.{inserts}
@@ -9,12 +9,12 @@ use Rattle.upload_rules.specs.Reader.{Reader}
 use Rattle.upload_rules.specs.Reading.{Session, session}
 
 -- An insert was made: what it leaves is ready where the check has said yes; where it says no, a rollback comes to the same.
-pub record EntryMade (ix : Index) (hash key p : ℕ) (a : Answer) (checked : Bool) (floor : ℕ) (jx : Index) : Type 0 where
+pub record EntryMade (ix : Index) (hash key p : ℕ) (a : Answer) (floor : Option ℕ) (jx : Index) : Type 0 where
   pub same : outcome a jx ≡ inserts ix hash key p
-  pub ready : checked ≡ true → Ready jx floor
-  pub denied : checked ≡ false → (a.number ≢ 0) × ((m : ℕ) → outcome a jx ≡ rolls jx m)
+  pub ready : IfSome floor (λ f. Ready jx f)
+  pub denied : floor ≡ None → (a.number ≢ 0) × ((m : ℕ) → outcome a jx ≡ rolls jx m)
 
 -- A byte was taken: what it leaves is the model's, and ready where the check has said yes.
-pub record Stepped (d : Session) (r : Reader) (checked : Bool) (floor : ℕ) (ix : Index) : Type 0 where
+pub record Stepped (d : Session) (r : Reader) (floor : Option ℕ) (ix : Index) : Type 0 where
   pub same : session r ix ≡ d
-  pub ready : checked ≡ true → Ready ix floor
+  pub ready : IfSome floor (λ f. Ready ix f)

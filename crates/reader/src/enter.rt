@@ -1,22 +1,21 @@
 // The two calls of the index that a byte may make: they are checked once in a chunk.
-ghost use Rattle.std.specs.Prelude.{◌≡◌, true};
+ghost use Rattle.std.specs.Prelude.{◌≡◌, IfSome};
 ghost use Rattle.index_rules.specs.Index.{lent, outcome};
 ghost use Rattle.index_rules.specs.Rollback.{rolls};
 ghost use Rattle.index.specs.Calls.{inserted_of};
 ghost use Rattle.index.specs.Rolls.{rolled_of};
-ghost use Rattle.index_rules.specs.Checked.{Passes, Ready};
+ghost use Rattle.index_rules.specs.Checked.{Ready};
 ghost use Rattle.reader.specs.Trusting.{EntryMade};
 
 use index::insert::{InsertRefusal, insert_sound, raise};
 use index::rollback::{RollbackRefusal, rollback, rollback_sound};
 use index::sound::sound_index;
 
-// What an insert answered, whether the check has said yes, and then a slot below which none is free.
+// What an insert answered, and a slot below which none is free, where the check has said yes.
 #[derive(Clone, Copy)]
 pub(crate) struct Entered {
     pub inserted: Result<u32, InsertRefusal>,
-    pub checked: bool,
-    pub floor: u32,
+    pub floor: Option<u32>,
 }
 
 // insert where the check has said yes.
@@ -34,14 +33,13 @@ fn enter_sound(
     requires { Ready (lent names.old cells.old head.old sizes.old lines.old) floor }
     ensures { EntryMade
         (lent names.old cells.old head.old sizes.old lines.old)
-        hash key place (inserted_of result.inserted) result.checked result.floor
+        hash key place (inserted_of result.inserted) result.floor
         (lent names.new cells.new head.new sizes.new lines.new) }
 {
     let inserted = insert_sound(names, cells, head, sizes, lines, floor, hash, key, place);
     Entered {
         inserted,
-        checked: true,
-        floor: raise(inserted, floor),
+        floor: Some(raise(inserted, floor)),
     }
 }
 
@@ -52,54 +50,50 @@ pub(crate) fn enter(
     head: &mut [u32],
     sizes: &mut [u32],
     lines: &mut [u64],
-    checked: bool,
-    floor: u32,
+    floor: Option<u32>,
     hash: u64,
     key: u64,
     place: u32,
 ) -> Entered
-    requires { checked ≡ true → Ready (lent names.old cells.old head.old sizes.old lines.old) floor }
+    requires { IfSome floor (λ f. Ready (lent names.old cells.old head.old sizes.old lines.old) f) }
     ensures { EntryMade
         (lent names.old cells.old head.old sizes.old lines.old)
-        hash key place (inserted_of result.inserted) result.checked result.floor
+        hash key place (inserted_of result.inserted) result.floor
         (lent names.new cells.new head.new sizes.new lines.new) }
 {
-    if checked {
+    if let Some(floor) = floor {
         return enter_sound(names, cells, head, sizes, lines, floor, hash, key, place);
     }
     match sound_index(names, cells, head, sizes, lines) {
         Err(unfit) => Entered {
             inserted: Err(unfit.into()),
-            checked: false,
-            floor: 0,
+            floor: None,
         },
         Ok(false) => Entered {
             inserted: Err(InsertRefusal::Damaged),
-            checked: false,
-            floor: 0,
+            floor: None,
         },
         Ok(true) => enter_sound(names, cells, head, sizes, lines, 0, hash, key, place),
     }
 }
 
-// rollback, with the check where the chunk has made none.
-#[tactic(auto, using(crate::proofs::Trusting::rolls_on))]
+// rollback, with the check where none has said yes in the chunk.
 pub(crate) fn back_to(
     names: &mut [u64],
     cells: &mut [u32],
     head: &mut [u32],
     sizes: &mut [u32],
     lines: &mut [u64],
-    checked: bool,
+    floor: Option<u32>,
     mark: u32,
 ) -> Result<u32, RollbackRefusal>
-    requires { checked ≡ true → Passes (lent names.old cells.old head.old sizes.old lines.old) }
+    requires { IfSome floor (λ f. Ready (lent names.old cells.old head.old sizes.old lines.old) f) }
     ensures { outcome (rolled_of result)
         (lent names.new cells.new head.new sizes.new lines.new)
         ≡ rolls (lent names.old cells.old head.old sizes.old lines.old) mark }
 {
-    if checked {
-        return rollback_sound(names, cells, head, sizes, lines, mark);
+    match floor {
+        Some(_) => rollback_sound(names, cells, head, sizes, lines, mark),
+        None => rollback(names, cells, head, sizes, lines, mark),
     }
-    rollback(names, cells, head, sizes, lines, mark)
 }

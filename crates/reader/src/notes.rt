@@ -13,6 +13,7 @@ use slots::answer::{Answers, packed};
 const VALUES: u64 = 4294967296;
 
 // 1 + the answer's word.
+// Form kept: file has this line over its own replies; one for both is no plainer, since it would owe in its clause what each says.
 fn reply_word(reply: Reply) -> u64
     ensures { result ≡ 1 + answer_word (reply_of reply) }
 {
@@ -21,6 +22,7 @@ fn reply_word(reply: Reply) -> u64
 }
 
 // The note of a refusal that has no value with it, by its number.
+// Form kept: no TryFrom, since a note is an Option of a Result: neither the trait nor the type is of this crate.
 #[tactic(auto, unfolding(crate::specs::Notes::plain_at))]
 fn plain_at(number: u64) -> Option<Note>
     ensures { note_at_of result ≡ plain_at number }
@@ -52,6 +54,7 @@ pub fn word(note: Note) -> u64
 }
 
 // The note that a word says, unless that is no answer of the reader.
+// Form kept: no TryFrom, since a note is an Option of a Result: neither the trait nor the type is of this crate.
 #[tactic(auto, unfolding(crate::specs::Notes::note_at, crate::specs::Notes::note_with))]
 pub fn of_word(word: u64) -> Option<Note>
     ensures { note_at_of result ≡ note_at word }

@@ -51,7 +51,7 @@ fn close(
         sizes,
         lines,
         r,
-        false,
+        None,
         ReadRefusal::Short,
     )
 }
@@ -108,8 +108,7 @@ impl Reader {
         }
         let mut at = Reading {
             reader: self,
-            checked: false,
-            floor: 0,
+            floor: None,
         };
         for b in chunk {
             let reader = at.reader;

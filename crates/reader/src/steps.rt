@@ -1,11 +1,11 @@
 // What one byte does to the reader and the index.
-ghost use Rattle.std.specs.Prelude.{◌≡◌, true, ◌+◌, ◌≤◌, ltb};
+ghost use Rattle.std.specs.Prelude.{◌≡◌, IfSome, ◌+◌, ◌≤◌, ltb};
 ghost use Rattle.slots.specs.Words.{null, pick};
 ghost use Rattle.index_rules.specs.Index.{lent, length_of};
 ghost use Rattle.upload_rules.specs.Reader.{FitReader};
 ghost use Rattle.upload_rules.specs.Reading.{session, turned_down, kind_came, last_came, byte_came};
 ghost use Rattle.reader.specs.Meanings.{words_of, read_refusal_of};
-ghost use Rattle.index_rules.specs.Checked.{Passes, Ready};
+ghost use Rattle.index_rules.specs.Checked.{Ready};
 ghost use Rattle.reader.specs.Trusting.{Stepped};
 
 use crate::bytes::{name_byte, owe, take_count, take_entry};
@@ -15,12 +15,11 @@ use crate::words::{Reader, noting, unsaid};
 use index::journal::length_of;
 use slots::NULL;
 
-// A reader amid a chunk: whether the check has said yes in it, and then a slot below which none is free.
+// A reader amid a chunk, and a slot below which none is free, where the check has said yes in it.
 #[derive(Clone, Copy)]
 pub(crate) struct Reading {
     pub reader: Reader,
-    pub checked: bool,
-    pub floor: u32,
+    pub floor: Option<u32>,
 }
 
 // The mark that a refusal is rolled back to: that of the start. Where the journal is shorter than mark + taken somebody else has cut it,
@@ -47,10 +46,10 @@ pub(crate) fn turn_down(
     sizes: &mut [u32],
     lines: &mut [u64],
     r: Reader,
-    checked: bool,
+    floor: Option<u32>,
     refusal: ReadRefusal,
 ) -> Reader
-    requires { checked ≡ true → Passes (lent names.old cells.old head.old sizes.old lines.old) }
+    requires { IfSome floor (λ f. Ready (lent names.old cells.old head.old sizes.old lines.old) f) }
     ensures { session (words_of result)
         (lent names.new cells.new head.new sizes.new lines.new)
         ≡ turned_down (words_of r)
@@ -58,7 +57,7 @@ pub(crate) fn turn_down(
         (read_refusal_of refusal) }
 {
     let mark = back_mark(lines, r);
-    let back = back_to(names, cells, head, sizes, lines, checked, mark);
+    let back = back_to(names, cells, head, sizes, lines, floor, mark);
     noting(r, Err(after_rollback(refusal, back)))
 }
 
@@ -74,11 +73,11 @@ fn take_kind(
     b: u8,
 ) -> Reading
     requires section_bound { at.reader.section ≤ 4 }
-    requires ready { at.checked ≡ true → Ready (lent names.old cells.old head.old sizes.old lines.old) at.floor }
+    requires ready { IfSome at.floor (λ f. Ready (lent names.old cells.old head.old sizes.old lines.old) f) }
     ensures { Stepped
         (kind_came (words_of at.reader)
         (lent names.old cells.old head.old sizes.old lines.old) b)
-        (words_of result.reader) result.checked result.floor
+        (words_of result.reader) result.floor
         (lent names.new cells.new head.new sizes.new lines.new) }
 {
     let r = at.reader;
@@ -93,13 +92,12 @@ fn take_kind(
         sizes,
         lines,
         r,
-        at.checked,
+        at.floor,
         ReadRefusal::WrongKind,
     );
     Reading {
         reader,
-        checked: false,
-        floor: 0,
+        floor: None,
     }
 }
 
@@ -115,11 +113,11 @@ fn take_last(
 ) -> Reading
     requires fit_reader { FitReader (words_of at.reader) }
     requires le_got { 3 ≤ at.reader.got }
-    requires ready { at.checked ≡ true → Ready (lent names.old cells.old head.old sizes.old lines.old) at.floor }
+    requires ready { IfSome at.floor (λ f. Ready (lent names.old cells.old head.old sizes.old lines.old) f) }
     ensures { Stepped
         (last_came (words_of at.reader)
         (lent names.old cells.old head.old sizes.old lines.old) b)
-        (words_of result.reader) result.checked result.floor
+        (words_of result.reader) result.floor
         (lent names.new cells.new head.new sizes.new lines.new) }
 {
     let r = at.reader;
@@ -131,7 +129,6 @@ fn take_last(
         head,
         sizes,
         lines,
-        at.checked,
         at.floor,
         r.hash,
         key,
@@ -140,19 +137,25 @@ fn take_last(
     match entered.inserted {
         Ok(_) => Reading {
             reader: owe(r, r.owed - 1, r.taken + 1),
-            checked: entered.checked,
             floor: entered.floor,
         },
         Err(refusal) => {
-            let reader = if entered.checked {
-                turn_down(names, cells, head, sizes, lines, r, true, refusal.into())
-            } else {
-                noting(r, Err(refusal.into()))
+            let reader = match entered.floor {
+                Some(_) => turn_down(
+                    names,
+                    cells,
+                    head,
+                    sizes,
+                    lines,
+                    r,
+                    entered.floor,
+                    refusal.into(),
+                ),
+                None => noting(r, Err(refusal.into())),
             };
             Reading {
                 reader,
-                checked: false,
-                floor: 0,
+                floor: None,
             }
         }
     }
@@ -170,21 +173,20 @@ pub(crate) fn take(
     b: u8,
 ) -> Reading
     requires fit_reader { FitReader (words_of at.reader) }
-    requires ready { at.checked ≡ true → Ready (lent names.old cells.old head.old sizes.old lines.old) at.floor }
+    requires ready { IfSome at.floor (λ f. Ready (lent names.old cells.old head.old sizes.old lines.old) f) }
     ensures { Stepped
         (byte_came (words_of at.reader)
         (lent names.old cells.old head.old sizes.old lines.old) b)
-        (words_of result.reader) result.checked result.floor
+        (words_of result.reader) result.floor
         (lent names.new cells.new head.new sizes.new lines.new) }
 {
     let r = at.reader;
     if r.section == 4 {
         let long = ReadRefusal::Long;
-        let reader = turn_down(names, cells, head, sizes, lines, r, at.checked, long);
+        let reader = turn_down(names, cells, head, sizes, lines, r, at.floor, long);
         return Reading {
             reader,
-            checked: false,
-            floor: 0,
+            floor: None,
         };
     }
     if r.got == 0 {

@@ -8,6 +8,7 @@ use crate::reply::Reply;
 // The answer that every later call gives again, once one is noted.
 pub type Note = Option<Reply>;
 
+// Form kept: numbers, since these are the eight words of the C interface, and the rules count from them.
 #[derive(Clone, Copy)]
 pub struct Reader {
     pub section: u64, // the sections that are whole
@@ -29,28 +30,13 @@ pub(crate) fn fits_reader(r: Reader) -> bool
     let section = r.section;
     let owed = r.owed;
     let taken = r.taken;
-    if 18 < got {
-        return false;
-    }
-    if 4 < section {
-        return false;
-    }
-    if 76 < 19 * section + got {
-        return false;
-    }
-    if 65535 < owed {
+    if 18 < got || 4 < section || 76 < 19 * section + got || 65535 < owed {
         return false;
     }
     if got < 3 {
         return taken <= 65535 * section;
     }
-    if owed < 1 {
-        return false;
-    }
-    if 327675 < taken {
-        return false;
-    }
-    taken + owed <= 65535 * (section + 1)
+    1 <= owed && taken <= 327675 && taken + owed <= 65535 * (section + 1)
 }
 
 // A reader of these words, with nothing noted.

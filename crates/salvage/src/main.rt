@@ -2,12 +2,16 @@
 // standard output; what was lost goes to standard error.
 #![tactic(auto)]
 
-use dump::input::{ROOM, fill};
 use dump::rescue::rescue;
 use std::io;
 use std::io::{Stderr, Stdin, Stdout};
+use trials::load::fill;
+
+// One byte more than the longest dump has, so that a longer one is seen to be longer.
+const ROOM: usize = 28 + 48 * 4096 + 48 * 1024 + 1;
 
 // Writes the first so many bytes of a buffer.
+// Form kept: finish has these lines too; a public routine for a part of a slice and a write is no plainer.
 fn put(to: &impl Print, bytes: &[u8], most: usize) -> io::Result<()> {
     match bytes.get(..most) {
         Some(front) => to.write_all(front),
@@ -32,6 +36,7 @@ fn serve(
 
 // Room for what is printed. Its length is large, and a proof that has the zeros before it counts them: here it only has that there are so
 // many.
+// Form kept: each program that needs such a room has its own, since a public one would owe a claim that counts its zeros.
 fn text_room() -> [u8; 524288] {
     [0; 524288]
 }

@@ -11,6 +11,7 @@ use std::io::{Read, Stdin, Stdout};
 const JOURNAL_WORDS: usize = 1 + 6 * 512;
 
 // Answers all of a chunk, a buffer at a time.
+// Form kept: the slices stand apart, as the library's calls take them; a struct of them would be taken apart again at each call.
 fn answer(
     stdout: Stdout,
     line: Line,
@@ -87,6 +88,7 @@ fn close(
 
 // Room for what is printed. Its length is large, and a proof that has the zeros before it counts them: here it only has that there are so
 // many.
+// Form kept: each program that needs such a room has its own, since a public one would owe a claim that counts its zeros.
 fn text_room() -> [u8; 524288] {
     [0; 524288]
 }

@@ -38,12 +38,14 @@ pub fn bin_word(lengths: &[u32], bins: &[u32], k: u32, i: u32) -> u32
     word_from(bins, bins_before(lengths, k), i)
 }
 
-// The bin words that name a list's first slot, and those that name a tree's header.
-const FIRST_LIST: u32 = 2;
+// The word of a Moved bin; those that name a list's first slot, and those that name a tree's header.
+pub const MOVED: u32 = 1;
+
+pub const FIRST_LIST: u32 = 2;
 
 const LAST_LIST: u32 = 4097;
 
-const FIRST_TREE: u32 = 4098;
+pub const FIRST_TREE: u32 = 4098;
 
 const LAST_TREE: u32 = 8193;
 
@@ -58,13 +60,14 @@ pub enum Bin {
 }
 
 // The bin that the word w is in a set of n slots and h headers.
+// Form kept: no From, since a word says a bin only by the numbers of slots and headers.
 #[tactic(auto, unfolding(set_rules::specs::Words::bin_of))]
 pub fn bin_of(n: usize, h: usize, w: u32) -> Bin
     ensures { bin_as result ≡ bin_of n h w }
 {
     match w {
         0 => Bin::Empty,
-        1 => Bin::Moved,
+        MOVED => Bin::Moved,
         FIRST_LIST..=LAST_LIST => {
             if ((w - FIRST_LIST) as usize) < n {
                 Bin::List(w - FIRST_LIST)

@@ -15,6 +15,7 @@ pub fn length_at(lengths: &[u32], k: u32) -> u32
 }
 
 // Whether a number of bins is one of the thirteen powers of two up to 4,096.
+// Form kept: thirteen numbers, since the rules' doubling counts them off.
 #[tactic(auto, using(crate::proofs::Sized::powers, crate::proofs::Sized::low_powers, crate::proofs::Sized::no_power))]
 fn is_power(x: u32) -> bool
     ensures { result ≡ doubling 13 x 1 }

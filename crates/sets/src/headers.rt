@@ -24,8 +24,7 @@ fn filled_header(heads: &[u32], h: u32) -> u32
     let root = header(heads, h, ROOT);
     let first = header(heads, h, FIRST);
     let count = header(heads, h, COUNT);
-    let blank = is_blank(root, first, count);
-    if blank { 0 } else { 1 }
+    !is_blank(root, first, count) as u32
 }
 
 // The number of the n headers that are not null with count 0.
@@ -44,10 +43,7 @@ fn filled_headers(heads: &[u32], n: u32) -> u32
 fn names_header(bin: Bin) -> usize
     ensures { result ≡ names_header (bin_as bin) }
 {
-    match bin {
-        Bin::Tree(_) => 1,
-        Bin::Empty | Bin::Moved | Bin::List(_) | Bin::Bad => 0,
-    }
+    matches!(bin, Bin::Tree(_)) as usize
 }
 
 // The number of bins that name a header, in a set of n slots and h headers.

@@ -43,6 +43,7 @@ fn by_tree(
     requires { length names.now ≤ most_names }
     ensures { rest_of result ≡ list_fine visits names.now cells.now bins i first }
 {
+    // Form kept: arrays of the most words, since the library has no heap.
     let mut links = [0u32; MOST_CELLS];
     let mut sizes = [0u32; MOST_SLOTS];
     let mut root = NULL;

@@ -117,7 +117,7 @@ pub fn lookup_fit(
 }
 
 // Why a lookup or a walk does not begin.
-#[derive(Clone, Copy)]
+#[derive(Clone, Copy, PartialEq, Eq)]
 pub enum NoTable {
     Unfit, // 1
     Unknown, // 10
@@ -135,6 +135,7 @@ impl Answers for NoTable {
 }
 
 // The slot that has the pair (hash, key), from table on.
+// Form kept: the two tests stand here and in start, since the rules' lookups and starts each ask them with an answer of its own.
 pub fn lookup(
     lengths: &[u32],
     bins: &[u32],

@@ -76,6 +76,7 @@ fn seek(
 }
 
 // Where a walk stands: the base table, the depth, the index at each level from the base down to it, and the slot last given.
+// Form kept: eight words and a depth, since a cursor is eleven words of the C interface (cursor_in).
 #[derive(Clone, Copy)]
 pub struct Cursor {
     pub base: u32,
@@ -94,7 +95,7 @@ impl Answers for Cursor {
 }
 
 // Why next gives no step.
-#[derive(Clone, Copy)]
+#[derive(Clone, Copy, PartialEq, Eq)]
 pub enum NextRefusal {
     Unfit, // 1
     BadCursor, // 11

@@ -35,9 +35,13 @@ use Rattle.figure_rules.proofs.Chunking.{more_totals, bytes_fit, by_chunk}
 use Rattle.figure_rules.proofs.Calling.{end_in as end_fit, stream_in}
 use Rattle.tally.specs.Steps.{StreamStep}
 
--- 256 to the power of three, and a number of at most four bytes.
-pub unit_last : (k : ℕ) → k < 4 → k ≢ 0 → k ≢ 1 → k ≢ 2 → 16777216 ≡ 256 ^ k
-unit_last k l a b c = let e : k ≡ 3 = omega arith in rw e
+-- 256 to the power of fewer than four, and a number of at most four bytes.
+pub unit_fits : (k : ℕ) → k < 4 → 256 ^ k < 18446744073709551616
+unit_fits zero l = omega arith
+unit_fits (suc zero) l = omega arith
+unit_fits (suc (suc zero)) l = omega arith
+unit_fits (suc (suc (suc zero))) l = omega arith
+unit_fits (suc (suc (suc (suc k)))) l = absurd (omega arith)
 
 four_bytes : (got : ℕ) → got < 4 → 256 ^ suc got ≤ 4294967296
 four_bytes zero l = omega arith

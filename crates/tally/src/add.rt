@@ -101,8 +101,8 @@ fn add_bin(totals: &mut [u64], bin: Bin)
     match bin {
         Bin::Empty => {}
         Bin::Moved => {}
-        Bin::List(first) => add_to(totals, LISTS, 1),
-        Bin::Tree(at) => add_to(totals, TREES, 1),
+        Bin::List(_) => add_to(totals, LISTS, 1),
+        Bin::Tree(_) => add_to(totals, TREES, 1),
         Bin::Bad => {}
     }
 }

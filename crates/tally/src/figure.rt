@@ -30,6 +30,7 @@ fn counted(totals: &[u64]) -> u32
 }
 
 // The bytes of a piece one after another.
+// Form kept: as in the loader; one loop for both would take the step as a closure over five slices and say its clause again.
 fn take_all(
     r: Stream,
     lengths: &mut [u32],

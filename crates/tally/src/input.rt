@@ -37,6 +37,7 @@ pub(crate) fn tally_none(totals: &mut [u64], over: bool) -> bool
 }
 
 // The set that the counts cut out of the slices.
+// Form kept: five cuts here and in listing, since a routine for both would hand out five slices at once.
 fn tally_cut(
     r: Loader,
     lengths: &[u32],
@@ -206,6 +207,7 @@ fn own_bytes(left: u64, rest: &[u8]) -> usize
 }
 
 // The stream after some bytes, and how many they are.
+// Form kept: as in the loader, whose Taking has a loader where this has a stream.
 #[derive(Clone, Copy)]
 pub(crate) struct Taking {
     pub stream: Stream,

@@ -8,6 +8,7 @@ use crate::totals::fit_totals;
 use file::load::may_go_on;
 use file::loader::Loader;
 
+// Form kept: got is a number, since the rules' stream_of and length_fits count with it; 4 stands for the set.
 #[derive(Clone, Copy)]
 pub struct Stream {
     pub got: u64, // the bytes of the length that have come, 4 while the set's own come
@@ -17,16 +18,12 @@ pub struct Stream {
 }
 
 // 256 to the power of fewer than four.
+#[tactic(auto, using(crate::proofs::Streaming::unit_fits))]
 fn unit(k: u64) -> u64
     requires { k < 4 }
     ensures { result ≡ 256 ^ k }
 {
-    match k {
-        0 => 1,
-        1 => 256,
-        2 => 65536,
-        _ => 16777216,
-    }
+    256u64.pow(k as u32)
 }
 
 // The number of so many bytes, with one more on top.

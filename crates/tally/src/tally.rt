@@ -11,7 +11,7 @@ use slots::answer::{Answer, Answers, refused};
 use slots::word;
 
 // Why a tally is refused.
-#[derive(Clone, Copy)]
+#[derive(Clone, Copy, PartialEq, Eq)]
 pub enum TallyRefusal {
     Unfit, // 1
     TooMany, // 17

@@ -12,6 +12,7 @@ use console::fill::fill;
 use slots::word;
 
 // A line of one number.
+// Form kept: no Display, since a clause says byte for byte what stands in a lent slice, and the library has no heap.
 fn tell_word(out: &mut [u8], at: usize, sentence: &[u8], totals: &[u64], j: usize) -> usize
     ensures { lent_paper out.new result
         ≡ typed (lent_paper out.old at) (blanks_filled sentence.now (total_at totals.now j ∷ [])) }

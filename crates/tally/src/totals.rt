@@ -6,6 +6,7 @@ ghost use Rattle.figure_rules.specs.Tally.{with_more, row_word};
 use slots::{put_word, word};
 
 // "sets, refused, entries, lists, trees, looks, then the rows 1 to 32 and the last row"
+// Form kept: numbers, since the totals are a slice that C lends, read by place.
 pub(crate) const SETS: usize = 0;
 
 pub(crate) const REFUSED: usize = 1;

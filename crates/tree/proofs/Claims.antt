@@ -83,5 +83,6 @@ claims =
       tree_size_one = λ names cells sizes root a b p q. rest_one_to_one a b (p ∙ sym q);
       in_range_one = λ n link a b p q. p ∙ sym q;
       links_in_one = λ n cells i a b p q. p ∙ sym q;
+      points_back_one = λ cells i f g a b p q. p ∙ sym q;
       chain_one = λ n cells first a b p q. rest_one_to_one a b (p ∙ sym q);
     }

@@ -6,7 +6,7 @@ use Rattle.tree_rules.specs.Rules.{obeyed, tree_size}
 use Rattle.tree_rules.specs.Chain.{chained}
 use Rattle.tree.specs.Rules.{rest_of, size_of}
 use Rattle.tree_rules.specs.Find.{Counted, found, with_looks, counted}
-use Rattle.tree_rules.specs.Check.{checked, in_range, links_in}
+use Rattle.tree_rules.specs.Check.{checked, in_range, links_in, points_back}
 use Rattle.tree.specs.Find.{searched_of, searched_by, counted_of, in_a_word}
 use Rattle.tree.specs.Check.{checked_of}
 use Rattle.tree.specs.declared.check.Fault.{Fault}
@@ -38,3 +38,4 @@ pub record Claims : Type 0 where
   pub chain_one : (n : ℕ) (cells : List ℕ) (first : ℕ) → OneAnswer (λ r. rest_of r ≡ chained n n cells null first)
   pub in_range_one : (n link : ℕ) → OneAnswer (λ r. r ≡ in_range n link)
   pub links_in_one : (n : ℕ) (cells : List ℕ) (i : ℕ) → OneAnswer (λ r. r ≡ links_in n cells i)
+  pub points_back_one : (cells : List ℕ) (i f g : ℕ) → OneAnswer (λ r. r ≡ points_back cells i f g)

@@ -11,7 +11,7 @@ use slots::{HASH, LEFT, NEXT, NULL, PARENT, PREV, RIGHT, get, is_red, name};
 
 // The neighbour of i along the field f, if any, points back to i along the field g.
 #[tactic(auto, unfolding(tree_rules::specs::Check::points_back))]
-fn points_back(cells: &[u32], i: u32, f: u32, g: u32) -> bool
+pub fn points_back(cells: &[u32], i: u32, f: u32, g: u32) -> bool
     ensures { result ≡ points_back cells.now i f g }
 {
     let j = get(cells, i, f);
@@ -93,6 +93,7 @@ pub fn in_range(n: usize, link: u32) -> bool
 }
 
 // The field f of slot i, whose word is there.
+// Form kept: beside slots::get it leaves a test out (docs/DECISIONS.md, 136).
 #[tactic(auto, unfolding(slots::specs::Words::cell), using(slots::proofs::Laws::get_d_any))]
 fn held(cells: &[u32], i: u32, f: u32) -> u32
     requires { 7 * i + f < length cells.now }
@@ -102,6 +103,7 @@ fn held(cells: &[u32], i: u32, f: u32) -> u32
 }
 
 // So is each of slot i's own five links, whose words are there.
+// Form kept: they differ in how a word is read: one test of the last word's place in place of five (docs/DECISIONS.md, 136).
 #[tactic(auto, unfolding(tree_rules::specs::Check::links_in))]
 fn links_held(n: usize, cells: &[u32], i: u32) -> bool
     requires { 7 * i + 6 < length cells.now }
@@ -116,6 +118,7 @@ fn links_held(n: usize, cells: &[u32], i: u32) -> bool
 }
 
 // So is each of slot i's own five links, where some of its words may not be there.
+// Form kept: links_held differs in how a word is read: one test of the last word's place in place of five (docs/DECISIONS.md, 136).
 #[tactic(auto, unfolding(tree_rules::specs::Check::links_in))]
 fn links_read(n: usize, cells: &[u32], i: u32) -> bool
     ensures { result ≡ links_in n cells.now i }

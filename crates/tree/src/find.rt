@@ -37,6 +37,7 @@ fn by_hash(at: u64, left: u32, right: u32, hash: u64) -> u32
 }
 
 // The part f of slot p's name, without the test of slots::name: find_tree_node has tested p.
+// Form kept: beside slots::name it leaves a test out (docs/DECISIONS.md, 136).
 #[tactic(auto, unfolding(slots::specs::Words::name_of), using(slots::proofs::Laws::get_d_any))]
 fn name_of(names: &[u64], p: u32, f: u32) -> u64
     requires { 2 * p + f < length names.now }
@@ -63,6 +64,7 @@ fn look(names: &[u64], cells: &[u32], p: u32, hash: u64, key: u64) -> Option<u32
 }
 
 // What a search answers, and last how many slots it looked at.
+// Form kept: no Option or Result, since a search has three ends, and the looks come with each of them.
 #[derive(Clone, Copy)]
 pub enum Found<Looks> {
     At(u32, Looks),
@@ -88,15 +90,12 @@ pub fn with_looks(looks: u32, answer: Answer) -> Counted
 fn looks_in_a_word(looks: usize) -> u32
     ensures { result ≡ pick (ltb looks 4294967296) looks null }
 {
-    if looks < 4294967296 {
-        looks as u32
-    } else {
-        NULL
-    }
+    u32::try_from(looks).unwrap_or(NULL)
 }
 
 impl Found<usize> {
     // The same, with the looks in a word.
+    // Form kept: three arms, since a routine that maps the looks would take a closure and say the same three again in its clause.
     pub fn in_a_word(self) -> Found<u32>
         ensures { searched_of result ≡ in_a_word (searched_of self) }
     {

@@ -171,7 +171,7 @@ const DEEPEST: usize = 129;
 fn deepest(n: usize) -> usize
     ensures { result ≡ deepest_of n }
 {
-    if n < DEEPEST { n } else { DEEPEST }
+    n.min(DEEPEST)
 }
 
 // T3 to T6 of the tree from root, and T8 of its slots, with so many visits; the visits left, or none where a rule is broken.

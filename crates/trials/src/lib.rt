@@ -1,4 +1,4 @@
-// What the programs that try the library share.
+// What the programs share.
 // Input through the console, held against what is expected; two indexes compared; the first words of a slice.
 #![tactic(auto)]
 

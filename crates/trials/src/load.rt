@@ -6,8 +6,8 @@ use std::rt::Files;
 use std::{fs, io};
 
 // Reads until the room is full or the input ends, and answers how many bytes it put at the start of the room.
-fn fill<R: Read>(input: &mut R, room: &mut [u8]) -> io::Result<usize>
-    ensures { IfOk result (λ n. n ≤ length room.new) }
+pub fn fill<R: Read>(input: &mut R, room: &mut [u8]) -> io::Result<usize>
+    ensures outside { IfOk result (λ n. n ≤ length room.new) }
 {
     let mut done = 0;
     while done < room.len() {

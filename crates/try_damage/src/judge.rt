@@ -9,6 +9,7 @@ use slots::{
 };
 
 // The words of the header, by their place.
+// Form kept: numbers, since the words of a header, as those of a slot, are read by their place.
 const ROOT: u32 = 0;
 
 const FIRST: u32 = 1;

@@ -25,6 +25,7 @@ fn pairs() -> [u64; 8] {
 }
 
 // The place of slot i, which is its number, and its state.
+// Form kept: try_walks has fill, hang and follow too; public ones would owe contracts and claims longer than they are.
 fn fill(cells: &mut [u32], i: u32, state: u32) {
     put(cells, i, PLACE, i);
     put(cells, i, STATE, state);

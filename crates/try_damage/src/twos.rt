@@ -13,6 +13,7 @@ use trials::print::{number, say};
 const FIRST: u32 = 1;
 
 // Slots i and j exchange word f of their names.
+// Form kept: try_why has this and others of the routines below too; public ones would owe contracts and claims longer than they are.
 fn swap_name(names: &mut [u64], i: u32, j: u32, f: u32) {
     let own = name(names, i, f);
     let other = name(names, j, f);

@@ -1,5 +1,6 @@
 // What is expected, counted apart: the blocks of an input by their lengths, and what each of the first input's files adds, from a table
 // that was counted by hand off docs/sets.
+use crate::trial::more;
 use slots::{put_word, word};
 
 pub const TOTALS: usize = 39;
@@ -14,10 +15,9 @@ pub struct Figures {
 // The files of the first input; its last block is cut short.
 pub const FILES: usize = 17;
 
-// What a file adds: 0 or 1 for sets, entries, lists, trees, and the entries found at one look and at two.
+// What a set adds: its entries, lists and trees, and the entries found at one look and at two.
 #[derive(Clone, Copy)]
 struct Share {
-    sets: u64,
     entries: u64,
     lists: u64,
     trees: u64,
@@ -25,41 +25,36 @@ struct Share {
     twos: u64,
 }
 
-fn adds(sets: u64, entries: u64, lists: u64, trees: u64, ones: u64, twos: u64) -> Share {
-    Share {
-        sets,
+fn adds(entries: u64, lists: u64, trees: u64, ones: u64, twos: u64) -> Option<Share> {
+    Some(Share {
         entries,
         lists,
         trees,
         ones,
         twos,
-    }
+    })
 }
 
 // The list of 34 slots stands apart.
 const LONG: usize = 11;
 
-// What file k adds; one that is refused adds nothing.
-fn table(k: usize) -> Share {
+// What file k adds; none for one that is refused.
+fn table(k: usize) -> Option<Share> {
     match k {
-        0 => adds(1, 3, 2, 0, 2, 1), // list
-        2 => adds(1, 3, 0, 1, 1, 2), // tree
-        4 => adds(1, 4, 3, 0, 3, 1), // forwarded
-        7 => adds(1, 0, 0, 0, 0, 0), // empty
-        8 => adds(1, 4, 1, 1, 2, 2), // sample
-        14 => adds(1, 5, 2, 1, 3, 2), // forwarded_twice
-        _ => adds(0, 0, 0, 0, 0, 0),
+        0 => adds(3, 2, 0, 2, 1), // list
+        2 => adds(3, 0, 1, 1, 2), // tree
+        4 => adds(4, 3, 0, 3, 1), // forwarded
+        7 => adds(0, 0, 0, 0, 0), // empty
+        8 => adds(4, 1, 1, 2, 2), // sample
+        14 => adds(5, 2, 1, 3, 2), // forwarded_twice
+        _ => None,
     }
-}
-
-fn sum(a: u64, b: u64) -> u64 {
-    a.wrapping_add(b)
 }
 
 // Word j with v more.
 fn add(totals: &mut [u64; TOTALS], j: usize, v: u64) {
     let total = word(totals, j, 0);
-    put_word(totals, j, sum(total, v));
+    put_word(totals, j, more(total, v));
 }
 
 // The list of 34: an entry at each number of looks from 1 to 34, which are 595 in all. The rows 1 to 32 have one each.
@@ -74,24 +69,24 @@ fn add_long(totals: &mut [u64; TOTALS]) {
     add(totals, 38, 2);
 }
 
-fn add_table(totals: &mut [u64; TOTALS], t: Share) {
-    if t.sets == 0 {
-        // A set that is refused.
-        add(totals, 1, 1);
-    } else {
-        add(totals, 0, 1);
-        add(totals, 2, t.entries);
-        add(totals, 3, t.lists);
-        add(totals, 4, t.trees);
-        add(totals, 5, sum(t.ones, sum(t.twos, t.twos)));
-        add(totals, 6, t.ones);
-        add(totals, 7, t.twos);
+fn add_table(totals: &mut [u64; TOTALS], share: Option<Share>) {
+    match share {
+        Some(t) => {
+            add(totals, 0, 1);
+            add(totals, 2, t.entries);
+            add(totals, 3, t.lists);
+            add(totals, 4, t.trees);
+            add(totals, 5, more(t.ones, more(t.twos, t.twos)));
+            add(totals, 6, t.ones);
+            add(totals, 7, t.twos);
+        }
+        None => add(totals, 1, 1),
     }
 }
 
 // File k; with a million sets it is told that one came after them.
 fn add_file(figures: &mut Figures, k: usize) {
-    if 1000000 <= sum(figures.totals[0], figures.totals[1]) {
+    if 1000000 <= more(figures.totals[0], figures.totals[1]) {
         figures.over = true;
     } else if k == LONG {
         add_long(&mut figures.totals);

@@ -9,7 +9,7 @@ mod trial;
 
 use limits::{try_ranges, try_streams};
 use std::io;
-use trial::{try_cuts, try_ends, try_million, try_order};
+use trial::{more, try_cuts, try_ends, try_million, try_order};
 use trials::load::load;
 use trials::print::{name, say};
 
@@ -17,10 +17,6 @@ use trials::print::{name, say};
 pub(crate) const WEEK: usize = 35616;
 
 pub(crate) const BACK: usize = 35518;
-
-fn more(a: u64, b: u64) -> u64 {
-    a.wrapping_add(b)
-}
 
 fn main(rt: HostRuntime) -> io::Result<()> {
     let stdout = rt.stdout();

@@ -6,7 +6,8 @@ use std::io;
 use std::io::Stdout;
 use trials::print::{name, say};
 
-fn more(count: u64, by: u64) -> u64 {
+// A count that does not come near 64 bits, with some more.
+pub fn more(count: u64, by: u64) -> u64 {
     count.wrapping_add(by)
 }
 

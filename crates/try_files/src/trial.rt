@@ -10,6 +10,7 @@ fn more(count: u64, by: u64) -> u64 {
 }
 
 // The number of what was answered, 0 where nothing was refused.
+// Form kept: the refusals are printed and counted by their numbers, from the words by which two loads are compared.
 fn number_of(all: &Loaded) -> u64 {
     all.said / 4294967296
 }

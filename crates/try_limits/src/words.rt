@@ -11,6 +11,7 @@ use trials::print::{line, name as say_name, say};
 use trials::same::same_index;
 
 // How many words of each slice are lent.
+// Form kept: the room and how much of it is lent stand side by side by the rule of no heap (nothing is allocated in the programs).
 #[derive(Clone, Copy)]
 pub struct Room {
     pub names: usize,

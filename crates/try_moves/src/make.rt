@@ -188,6 +188,7 @@ fn blank_heads(heads: &mut [u32; HEADS]) {
 }
 
 // The set of a trial, in slices whose bins are 0.
+// Form kept: the slices stand apart, as the library's calls take them; a struct of them would be taken apart again at each call.
 pub fn make(
     bins: &mut [u32; BINS],
     heads: &mut [u32; HEADS],

@@ -23,6 +23,7 @@ fn choose(row: &mut [u32; ROW], many: u32, x: u32, hash: u64, length: u64, j: u6
 }
 
 // The slots from a first one on whose hash has this remainder, in listing order; how many they are.
+// Form kept: the room and how much of it is used stand side by side by the rule of no heap (nothing is allocated in the programs).
 pub fn half(
     row: &mut [u32; ROW],
     names: &[u64; NAMES],

@@ -94,67 +94,54 @@ fn try_words(counts: &mut Counts, tree: bool) {
     }
 }
 
-// There are so many kinds of slices that do not fit.
-const FITS: u32 = 8;
-
-// Lengths of tables that break their rule, or that the bins are not the sum of.
-fn other_tables(which: u32) -> [u32; TABLES] {
-    match which {
-        0 => [2, 4, 9],
-        1 => [1, 2, 4],
-        2 => [4, 8, 16],
-        3 => [0, 0, 14],
-        _ => [2, 4, 8],
-    }
+// The slices that a move is lent: the lengths of the tables, and how many words of headers and of names.
+#[derive(Clone, Copy)]
+struct Lent {
+    tables: [u32; TABLES],
+    heads: usize,
+    names: usize,
 }
 
-// Words of headers and of names that are no headers and no slots, or fewer slots than the cells have.
-fn other_heads(which: u32) -> usize {
-    match which {
-        4 => 11,
-        5 => 10,
-        _ => HEADS,
-    }
+// Those of a set.
+const FITTING: Lent = Lent {
+    tables: [2, 4, 8],
+    heads: HEADS,
+    names: NAMES,
+};
+
+fn with_tables(tables: [u32; TABLES]) -> Lent {
+    Lent { tables, ..FITTING }
 }
 
-fn other_names(which: u32) -> usize {
-    match which {
-        6 => 31,
-        7 => 30,
-        _ => NAMES,
-    }
+fn with_heads(heads: usize) -> Lent {
+    Lent { heads, ..FITTING }
 }
 
-// What a move answers of a set whose slices do not fit; past the eight kinds of these they fit.
-fn ask_kind(
-    bins: &mut [u32; BINS],
-    heads: &mut [u32; HEADS],
-    names: &[u64; NAMES],
-    cells: &mut [u32; CELLS],
-    which: u32,
-    table: u32,
-    bin: u32,
-) -> Result<u32, MoveRefusal> {
-    let tables = other_tables(which);
-    let some = first(names, other_names(which));
-    ask_some(
-        &tables,
-        bins,
-        heads,
-        some,
-        cells,
-        other_heads(which),
-        table,
-        bin,
-    )
+fn with_names(names: usize) -> Lent {
+    Lent { names, ..FITTING }
 }
 
-// A move of the sample that is to be refused so, in slices that do not fit or, past these kinds, that do.
+// Those that do not fit: lengths of tables that break their rule, or that the bins are not the sum of; words of headers and of names that
+// are no headers and no slots, or fewer slots than the cells have.
+fn unfitting() -> [Lent; 8] {
+    [
+        with_tables([2, 4, 9]),
+        with_tables([1, 2, 4]),
+        with_tables([4, 8, 16]),
+        with_tables([0, 0, 14]),
+        with_heads(11),
+        with_heads(10),
+        with_names(31),
+        with_names(30),
+    ]
+}
+
+// A move of the sample that is to be refused so, of slices that fit or do not.
 fn try_number(
     counts: &mut Counts,
     kind: Kind,
     tree: bool,
-    which: u32,
+    lent: Lent,
     table: u32,
     bin: u32,
     refusal: MoveRefusal,
@@ -167,7 +154,16 @@ fn try_number(
     let bins0 = bins;
     let heads0 = heads;
     let cells0 = cells;
-    let told = ask_kind(&mut bins, &mut heads, &names, &mut cells, which, table, bin);
+    let told = ask_some(
+        &lent.tables,
+        &mut bins,
+        &mut heads,
+        first(&names, lent.names),
+        &mut cells,
+        lent.heads,
+        table,
+        bin,
+    );
     let same = same_set(&bins, &heads, &cells, &bins0, &heads0, &cells0);
     tried(counts, kind, told.is_err(), 0, same && told == Err(refusal));
 }
@@ -178,7 +174,7 @@ fn try_sixteen(counts: &mut Counts, tree: bool) {
         counts,
         Kind::Last,
         tree,
-        FITS,
+        FITTING,
         2,
         0,
         MoveRefusal::CannotMove,
@@ -187,18 +183,34 @@ fn try_sixteen(counts: &mut Counts, tree: bool) {
         counts,
         Kind::Last,
         tree,
-        FITS,
+        FITTING,
         2,
         8,
         MoveRefusal::CannotMove,
     );
-    try_number(counts, Kind::Bin, tree, FITS, 0, 2, MoveRefusal::CannotMove);
-    try_number(counts, Kind::Bin, tree, FITS, 1, 4, MoveRefusal::CannotMove);
+    try_number(
+        counts,
+        Kind::Bin,
+        tree,
+        FITTING,
+        0,
+        2,
+        MoveRefusal::CannotMove,
+    );
+    try_number(
+        counts,
+        Kind::Bin,
+        tree,
+        FITTING,
+        1,
+        4,
+        MoveRefusal::CannotMove,
+    );
     try_number(
         counts,
         Kind::Gone,
         tree,
-        FITS,
+        FITTING,
         0,
         1,
         MoveRefusal::CannotMove,
@@ -207,7 +219,7 @@ fn try_sixteen(counts: &mut Counts, tree: bool) {
         counts,
         Kind::Parent,
         tree,
-        FITS,
+        FITTING,
         1,
         0,
         MoveRefusal::CannotMove,
@@ -216,7 +228,7 @@ fn try_sixteen(counts: &mut Counts, tree: bool) {
         counts,
         Kind::Parent,
         tree,
-        FITS,
+        FITTING,
         1,
         2,
         MoveRefusal::CannotMove,
@@ -225,20 +237,28 @@ fn try_sixteen(counts: &mut Counts, tree: bool) {
 
 // Slices that do not fit are 1, also where there is no such table.
 fn try_unfits(counts: &mut Counts) {
-    for which in 0..FITS {
-        try_number(counts, Kind::Slices, false, which, 1, 3, MoveRefusal::Unfit);
-        try_number(counts, Kind::Slices, false, which, 3, 3, MoveRefusal::Unfit);
+    for lent in unfitting() {
+        try_number(counts, Kind::Slices, false, lent, 1, 3, MoveRefusal::Unfit);
+        try_number(counts, Kind::Slices, false, lent, 3, 3, MoveRefusal::Unfit);
     }
 }
 
 pub fn try_refusals(counts: &mut Counts) {
     try_unfits(counts);
-    try_number(counts, Kind::Table, false, FITS, 3, 0, MoveRefusal::Unknown);
+    try_number(
+        counts,
+        Kind::Table,
+        false,
+        FITTING,
+        3,
+        0,
+        MoveRefusal::Unknown,
+    );
     try_number(
         counts,
         Kind::Table,
         true,
-        FITS,
+        FITTING,
         4294967295,
         0,
         MoveRefusal::Unknown,

@@ -2,6 +2,7 @@
 use slots::{put_word, word};
 
 // A line has so many counts.
+// Form kept: the columns are numbers, since those of what is kept and lost are found from the words of the report.
 pub const COLUMNS: usize = 8;
 
 pub const TRIED: u32 = 0;

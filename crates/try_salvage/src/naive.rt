@@ -36,6 +36,7 @@ fn lowest_like(names: &[u64], cells: &[u32], i: u32) -> u32 {
 }
 
 // What the report is to say of slot i.
+// Form kept: numbers, since these are the words of the report (section 14): 0, 1, 2, and behind them a repeat with its slot.
 pub fn told(names: &[u64], cells: &[u32], i: u32) -> u32 {
     if get(cells, i, STATE) == FREE {
         return 1;

@@ -5,6 +5,28 @@ use std::io;
 use std::io::Stdout;
 use trials::print::{number, say};
 
+// The labels of the lines: the words, one at a time, two slots at a time, and what is refused.
+const LABELS: [&[u8]; 18] = [
+    b"as it is",
+    b"a hash",
+    b"a key",
+    b"a place",
+    b"a state",
+    b"a parent",
+    b"a left link",
+    b"a right link",
+    b"a prev",
+    b"a next",
+    b"two pairs exchanged",
+    b"a pair repeated",
+    b"two states exchanged",
+    b"a pair repeated, and a state unknown",
+    b"a word of the second tree",
+    b"a second tree with a name",
+    b"a second tree of another capacity",
+    b"a report of fewer words than slots",
+];
+
 // A column of a line.
 fn at(counts: &[u32], line: u32, column: u32) -> u32 {
     word(counts, line as usize * COLUMNS + column as usize, 0)
@@ -24,34 +46,9 @@ fn print(stdout: Stdout, label: &[u8], counts: &[u32], line: u32) -> io::Result<
     say(stdout, b"\n")
 }
 
-// The words, one at a time.
-fn print_words(stdout: Stdout, counts: &[u32]) -> io::Result<()> {
-    print(stdout, b"as it is", counts, 0)?;
-    print(stdout, b"a hash", counts, 1)?;
-    print(stdout, b"a key", counts, 2)?;
-    print(stdout, b"a place", counts, 3)?;
-    print(stdout, b"a state", counts, 4)?;
-    print(stdout, b"a parent", counts, 5)?;
-    print(stdout, b"a left link", counts, 6)?;
-    print(stdout, b"a right link", counts, 7)?;
-    print(stdout, b"a prev", counts, 8)?;
-    print(stdout, b"a next", counts, 9)
-}
-
-// Two slots at a time, and what is refused.
-fn print_others(stdout: Stdout, counts: &[u32]) -> io::Result<()> {
-    print(stdout, b"two pairs exchanged", counts, 10)?;
-    print(stdout, b"a pair repeated", counts, 11)?;
-    print(stdout, b"two states exchanged", counts, 12)?;
-    print(stdout, b"a pair repeated, and a state unknown", counts, 13)?;
-    print(stdout, b"a word of the second tree", counts, 14)?;
-    print(stdout, b"a second tree with a name", counts, 15)?;
-    print(stdout, b"a second tree of another capacity", counts, 16)?;
-    print(stdout, b"a report of fewer words than slots", counts, 17)
-}
-
 pub fn report(stdout: Stdout, counts: &[u32]) -> io::Result<()> {
-    print_words(stdout, counts)?;
-    print_others(stdout, counts)?;
+    for (line, label) in (0..).zip(LABELS) {
+        print(stdout, label, counts, line)?;
+    }
     print(stdout, b"all", counts, ALL)
 }

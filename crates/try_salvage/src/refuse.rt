@@ -3,13 +3,14 @@
 use crate::ask::MOST;
 use crate::counts::{DIFFERENCES, REFUSED, TRIED, count};
 use crate::judge::REST;
-use crate::words::{VALUES, damaged, damaged_name};
+use crate::words::{VALUES, name_values, values};
 use index::fresh::fresh;
 use index::insert::insert;
 use night::salvage::salvage;
 use slots::{NULL, put_word, word};
 
 // The lines of a second tree with a damaged word, with a name, of another capacity, and of a report that is too short.
+// Form kept: numbers, since a line is a place in the table of counts, and those of the words are found from the numbers of the fields.
 const UNCLEARED: u32 = 14;
 
 const NAMED: u32 = 15;
@@ -19,7 +20,8 @@ const CAPACITY: u32 = 16;
 const SHORT: u32 = 17;
 
 // Writes words over as many others.
-fn copy<T: Copy>(from: &[T], to: &mut [T]) {
+// Form kept: try_why has these lines too; a public routine would owe a contract and a claim longer than it is.
+pub fn copy<T: Copy>(from: &[T], to: &mut [T]) {
     for (to, from) in to.iter_mut().zip(from) {
         *to = *from;
     }
@@ -64,10 +66,10 @@ fn note(counts: &mut [u32], line: u32, refused: bool) {
     }
 }
 
-// Sets word k to the value of a number: whether it is another then.
+// Sets word k to the value of that number: whether it is another then.
 fn damage_word(words: &mut [u32], k: usize, m: u32, value: usize) -> bool {
     let old = word(words, k, NULL);
-    let new = damaged(old, m, value);
+    let new = word(&values(old, m), value, old);
     put_word(words, k, new);
     new != old
 }
@@ -75,7 +77,7 @@ fn damage_word(words: &mut [u32], k: usize, m: u32, value: usize) -> bool {
 // The same of names.
 fn damage_name(names: &mut [u64], k: usize, m: u32, value: usize) -> bool {
     let old = word(names, k, 0);
-    let new = damaged_name(old, m, value);
+    let new = word(&name_values(old, m), value, old);
     put_word(names, k, new);
     new != old
 }
@@ -105,31 +107,9 @@ fn damage_tree(
     damage_word(sizes, of_head - 3, m, value)
 }
 
-// The words of a tree of m slots as its line has them: with a damaged word, with one name, or cleared. Whether they are so: a word that is
-// to be damaged can have the value already.
-fn lay(
-    line: u32,
-    names: &mut [u64],
-    cells: &mut [u32],
-    head: &mut [u32],
-    sizes: &mut [u32],
-    k: usize,
-    m: u32,
-    value: usize,
-) -> bool {
-    let mut lines = [0u64; 7];
-    let _ = fresh(names, cells, head, sizes, &mut lines);
-    if line == UNCLEARED {
-        return damage_tree(names, cells, head, sizes, k, m, value);
-    }
-    if line == NAMED {
-        let _ = insert(names, cells, head, sizes, &mut lines, 4, 5, 6);
-    }
-    true
-}
-
-// Salvages into words that become a tree of m slots as its line has it, and counts whether that is refused.
-fn try_into(
+// Salvages into words that become a cleared tree and are then changed, and counts whether that is refused. The change answers whether the
+// words are then to be refused.
+fn try_into<Change: Fn(&mut [u64], &mut [u32], &mut [u32], &mut [u32], &mut [u64]) -> bool>(
     counts: &mut [u32],
     line: u32,
     names: &[u64],
@@ -139,28 +119,30 @@ fn try_into(
     head2: &mut [u32],
     sizes2: &mut [u32],
     report: &mut [u32],
-    k: usize,
-    m: u32,
-    value: usize,
-) {
-    let laid = lay(line, names2, cells2, head2, sizes2, k, m, value);
-    if laid {
+    change: Change,
+)
+    requires { Change.IsAlwaysCallable change }
+{
+    let mut lines = [0u64; 7];
+    let _ = fresh(names2, cells2, head2, sizes2, &mut lines);
+    if change(names2, cells2, head2, sizes2, &mut lines) {
         let refused = is_refused(names, cells, names2, cells2, head2, sizes2, report);
         note(counts, line, refused);
     }
 }
 
-// The same with a report of so many words.
-fn try_second(
+// The same of a second tree of m slots and a report of so many words.
+fn try_second<Change: Fn(&mut [u64], &mut [u32], &mut [u32], &mut [u32], &mut [u64]) -> bool>(
     counts: &mut [u32],
     line: u32,
     names: &[u64],
     cells: &[u32],
     m: u32,
     len: usize,
-    k: usize,
-    value: usize,
-) {
+    change: Change,
+)
+    requires { Change.IsAlwaysCallable change }
+{
     if MOST < m || 10 < len {
         return;
     }
@@ -180,33 +162,47 @@ fn try_second(
         &mut head2,
         &mut sizes2[0..slots],
         &mut report[0..len],
-        k,
-        m,
-        value,
+        change,
     );
 }
 
-// Each word of the second tree with each other value.
+// Each word of the second tree with each other value. A word that is to be damaged can have the value already.
 fn try_uncleared(counts: &mut [u32], names: &[u64], cells: &[u32], n: u32) {
-    let trials = (10 * n as usize + 3) * VALUES;
-    for trial in 0..trials {
-        try_second(
-            counts,
-            UNCLEARED,
-            names,
-            cells,
-            n,
-            10,
-            trial / VALUES,
-            trial % VALUES,
-        );
+    for k in 0..10 * n as usize + 3 {
+        for value in 0..VALUES {
+            try_second(
+                counts,
+                UNCLEARED,
+                names,
+                cells,
+                n,
+                10,
+                |names, cells, head, sizes, _| damage_tree(names, cells, head, sizes, k, n, value),
+            );
+        }
     }
+}
+
+// A second tree with one name.
+fn try_named(counts: &mut [u32], names: &[u64], cells: &[u32], n: u32) {
+    try_second(
+        counts,
+        NAMED,
+        names,
+        cells,
+        n,
+        10,
+        |names, cells, head, sizes, lines| {
+            let _ = insert(names, cells, head, sizes, lines, 4, 5, 6);
+            true
+        },
+    );
 }
 
 // A second tree of m slots, unless there are n.
 fn try_capacity(counts: &mut [u32], names: &[u64], cells: &[u32], n: u32, m: u32) {
     if m != n {
-        try_second(counts, CAPACITY, names, cells, m, 10, 0, 0);
+        try_second(counts, CAPACITY, names, cells, m, 10, |_, _, _, _, _| true);
     }
 }
 
@@ -220,14 +216,22 @@ fn try_capacities(counts: &mut [u32], names: &[u64], cells: &[u32], n: u32) {
 // Reports of fewer words than slots.
 fn try_reports(counts: &mut [u32], names: &[u64], cells: &[u32], n: u32) {
     for len in 0..n {
-        try_second(counts, SHORT, names, cells, n, len as usize, 0, 0);
+        try_second(
+            counts,
+            SHORT,
+            names,
+            cells,
+            n,
+            len as usize,
+            |_, _, _, _, _| true,
+        );
     }
 }
 
 // All that is to be refused, of a tree of n slots.
 pub fn try_refusals(counts: &mut [u32], names: &[u64], cells: &[u32], n: u32) {
     try_uncleared(counts, names, cells, n);
-    try_second(counts, NAMED, names, cells, n, 10, 0, 0);
+    try_named(counts, names, cells, n);
     try_capacities(counts, names, cells, n);
     try_reports(counts, names, cells, n);
 }

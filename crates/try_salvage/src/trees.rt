@@ -17,7 +17,9 @@ fn key_of(x: u64) -> u64 {
     5 + x % 2 * 3
 }
 
-// Puts so many names in, by their numbers in an order.
+// Puts names in, by their numbers in an order.
+// Form kept: try_why has put_in and take_out too; public ones would owe contracts and claims longer than they are.
+// Form kept: the slices stand apart, as the library's calls take them; a struct of them would be taken apart again at each call.
 fn put_in(
     names: &mut [u64],
     cells: &mut [u32],
@@ -25,9 +27,8 @@ fn put_in(
     sizes: &mut [u32],
     lines: &mut [u64],
     order: &[u64],
-    used: u32,
 ) {
-    for (k, x) in (0..used).zip(order) {
+    for (k, x) in (0..).zip(order) {
         let _ = insert(names, cells, head, sizes, lines, hash_of(*x), key_of(*x), k);
     }
 }
@@ -63,8 +64,8 @@ fn damage(
     try_refusals(counts, names0, cells0, n);
 }
 
-// A tree of four slots with so many names in an order.
-fn try_four(counts: &mut [u32], order: &[u64], used: u32) {
+// A tree of four slots with names in an order.
+fn try_four(counts: &mut [u32], order: &[u64]) {
     let mut names = [0u64; 8];
     let mut cells = [0u32; 28];
     let mut head = [0u32; 3];
@@ -72,7 +73,7 @@ fn try_four(counts: &mut [u32], order: &[u64], used: u32) {
     let mut lines = [0u64; 97];
     let _ = fresh(&mut names, &mut cells, &mut head, &mut sizes, &mut lines);
     put_in(
-        &mut names, &mut cells, &mut head, &mut sizes, &mut lines, order, used,
+        &mut names, &mut cells, &mut head, &mut sizes, &mut lines, order,
     );
     let mut other_names = names;
     let mut other_cells = cells;
@@ -86,8 +87,8 @@ fn try_four(counts: &mut [u32], order: &[u64], used: u32) {
     );
 }
 
-// A tree of eight slots with so many names in an order, less so many.
-fn try_eight(counts: &mut [u32], order: &[u64], used: u32, taken: u32) {
+// A tree of eight slots with names in an order, less so many.
+fn try_eight(counts: &mut [u32], order: &[u64], taken: u32) {
     let mut names = [0u64; 16];
     let mut cells = [0u32; 56];
     let mut head = [0u32; 3];
@@ -95,7 +96,7 @@ fn try_eight(counts: &mut [u32], order: &[u64], used: u32, taken: u32) {
     let mut lines = [0u64; 97];
     let _ = fresh(&mut names, &mut cells, &mut head, &mut sizes, &mut lines);
     put_in(
-        &mut names, &mut cells, &mut head, &mut sizes, &mut lines, order, used,
+        &mut names, &mut cells, &mut head, &mut sizes, &mut lines, order,
     );
     take_out(
         &mut names, &mut cells, &mut head, &mut sizes, &mut lines, order, taken,
@@ -114,17 +115,19 @@ fn try_eight(counts: &mut [u32], order: &[u64], used: u32, taken: u32) {
 
 // No name, one, two, three and four in four slots.
 pub fn try_small(counts: &mut [u32]) {
-    for used in 0..5 {
-        try_four(counts, &[3, 5, 1, 6], used);
-    }
+    try_four(counts, &[]);
+    try_four(counts, &[3]);
+    try_four(counts, &[3, 5]);
+    try_four(counts, &[3, 5, 1]);
+    try_four(counts, &[3, 5, 1, 6]);
 }
 
 // In eight slots: five names; eight rising, falling and in another order; and six and five that are left of eight.
 pub fn try_large(counts: &mut [u32]) {
-    try_eight(counts, &[0, 1, 2, 3, 4], 5, 0);
-    try_eight(counts, &[0, 1, 2, 3, 4, 5, 6, 7], 8, 0);
-    try_eight(counts, &[7, 6, 5, 4, 3, 2, 1, 0], 8, 0);
-    try_eight(counts, &[3, 6, 0, 5, 2, 7, 4, 1], 8, 0);
-    try_eight(counts, &[2, 4, 6, 1, 3, 7, 5, 0], 8, 2);
-    try_eight(counts, &[5, 3, 1, 6, 7, 4, 2, 0], 8, 3);
+    try_eight(counts, &[0, 1, 2, 3, 4], 0);
+    try_eight(counts, &[0, 1, 2, 3, 4, 5, 6, 7], 0);
+    try_eight(counts, &[7, 6, 5, 4, 3, 2, 1, 0], 0);
+    try_eight(counts, &[3, 6, 0, 5, 2, 7, 4, 1], 0);
+    try_eight(counts, &[2, 4, 6, 1, 3, 7, 5, 0], 2);
+    try_eight(counts, &[5, 3, 1, 6, 7, 4, 2, 0], 3);
 }

@@ -1,21 +1,18 @@
 // Every two slots of a tree damaged together.
 use crate::ask::ask;
+use crate::refuse::copy;
 use slots::{HASH, KEY, STATE, get, name, put, put_name};
 
-// The line of the first way.
-const FIRST_LINE: u32 = 10;
+// The lines of the ways: two pairs exchanged, the pair of the one repeated in the other, two states exchanged, and a pair repeated while
+// the first of the two gets an unknown state.
+// Form kept: numbers, since a line is a place in the table of counts, and those of the words are found from the numbers of the fields.
+const PAIRS: u32 = 10;
 
-// The ways: two pairs exchanged, the pair of the one repeated in the other, two states exchanged, and a pair repeated while the first of
-// the two gets an unknown state.
-const PAIRS: u32 = 0;
+const REPEATED: u32 = 11;
 
-const REPEATED: u32 = 1;
+const STATES: u32 = 12;
 
-const STATES: u32 = 2;
-
-const UNKNOWN: u32 = 3;
-
-const WAYS: u32 = 4;
+const UNKNOWN: u32 = 13;
 
 // Slot j gets the pair of slot i as it is in another tree.
 fn put_pair_of(names0: &[u64], names: &mut [u64], i: u32, j: u32) {
@@ -23,99 +20,28 @@ fn put_pair_of(names0: &[u64], names: &mut [u64], i: u32, j: u32) {
     put_name(names, j, KEY, name(names0, i, KEY));
 }
 
-// Damages slots i and j in a way, or restores them from the tree before the damage where the way is another.
-fn twist(
-    names0: &[u64],
-    cells0: &[u32],
-    names: &mut [u64],
-    cells: &mut [u32],
-    i: u32,
-    j: u32,
-    way: u32,
-) {
-    let state = get(cells0, i, STATE);
-    let other = get(cells0, j, STATE);
-    match way {
-        PAIRS => {
-            put_pair_of(names0, names, i, j);
-            put_pair_of(names0, names, j, i);
-        }
-        REPEATED => {
-            put_pair_of(names0, names, i, j);
-        }
-        STATES => {
-            put(cells, i, STATE, other);
-            put(cells, j, STATE, state);
-        }
-        UNKNOWN => {
-            put_pair_of(names0, names, i, j);
-            put(cells, i, STATE, 3);
-        }
-        _ => {
-            put_pair_of(names0, names, i, i);
-            put_pair_of(names0, names, j, j);
-            put(cells, i, STATE, state);
-            put(cells, j, STATE, other);
-        }
-    }
-}
-
-// Damages slots i and j in a way, asks, and restores them. A slot is not damaged with itself.
-fn try_two(
+// Every two slots, in both orders, damaged in a way, asked, and restored. A slot is not damaged with itself.
+fn try_way<Damage: Fn(&mut [u64], &mut [u32], u32, u32)>(
     counts: &mut [u32],
     names0: &[u64],
     cells0: &[u32],
     names: &mut [u64],
     cells: &mut [u32],
     n: u32,
-    i: u32,
-    j: u32,
-    way: u32,
-) {
-    if i == j {
-        return;
-    }
-    twist(names0, cells0, names, cells, i, j, way);
-    ask(
-        counts,
-        std::num::wrapping_add_u32(FIRST_LINE, way),
-        names0,
-        cells0,
-        names,
-        cells,
-        n,
-    );
-    twist(names0, cells0, names, cells, i, j, WAYS);
-}
-
-// Damages slot i with every other in a way.
-fn try_with(
-    counts: &mut [u32],
-    names0: &[u64],
-    cells0: &[u32],
-    names: &mut [u64],
-    cells: &mut [u32],
-    n: u32,
-    i: u32,
-    way: u32,
-) {
-    for j in 0..n {
-        try_two(counts, names0, cells0, names, cells, n, i, j, way);
-    }
-}
-
-// Every two slots, in both orders, damaged in a way.
-fn try_way(
-    counts: &mut [u32],
-    names0: &[u64],
-    cells0: &[u32],
-    names: &mut [u64],
-    cells: &mut [u32],
-    n: u32,
-    way: u32,
-) {
+    line: u32,
+    damage: Damage,
+)
+    requires { Damage.IsAlwaysCallable damage }
+{
     for i in 0..n {
-        try_with(counts, names0, cells0, names, cells, n, i, way);
+        for j in 0..n {
+            if i != j {
+                damage(names, cells, i, j);
+                ask(counts, line, names0, cells0, names, cells, n);
+                copy(names0, names);
+                copy(cells0, cells);
+            }
+        }
     }
 }
 
@@ -128,7 +54,53 @@ pub fn try_twos(
     cells: &mut [u32],
     n: u32,
 ) {
-    for way in 0..WAYS {
-        try_way(counts, names0, cells0, names, cells, n, way);
-    }
+    try_way(
+        counts,
+        names0,
+        cells0,
+        names,
+        cells,
+        n,
+        PAIRS,
+        |names, _, i, j| {
+            put_pair_of(names0, names, i, j);
+            put_pair_of(names0, names, j, i);
+        },
+    );
+    try_way(
+        counts,
+        names0,
+        cells0,
+        names,
+        cells,
+        n,
+        REPEATED,
+        |names, _, i, j| { put_pair_of(names0, names, i, j) },
+    );
+    try_way(
+        counts,
+        names0,
+        cells0,
+        names,
+        cells,
+        n,
+        STATES,
+        |_, cells, i, j| {
+            put(cells, i, STATE, get(cells0, j, STATE));
+            put(cells, j, STATE, get(cells0, i, STATE));
+        },
+    );
+    try_way(
+        counts,
+        names0,
+        cells0,
+        names,
+        cells,
+        n,
+        UNKNOWN,
+        |names, cells, i, j| {
+            put_pair_of(names0, names, i, j);
+            put(cells, i, STATE, 3);
+        },
+    );
 }

@@ -81,6 +81,7 @@ fn try_all<R: Files>(rt: &R, input: &mut [u8], expected: &mut [u8], out: &mut [u
 
 // Rooms for a script, its answers and what is printed. Their lengths are large, and a proof that has the zeros before it counts them: here
 // it only has that there are so many.
+// Form kept: each program that needs such a room has its own, since a public one would owe a claim that counts its zeros.
 fn script_room() -> [u8; 262144] {
     [0; 262144]
 }

@@ -9,6 +9,7 @@ use slots::put_word;
 use trials::same::same_index;
 
 // The words of an index; the first of each array are those of so many slots and lines.
+// Form kept: the room and how much of it is used stand side by side by the rule of no heap (nothing is allocated in the programs).
 #[derive(Clone, Copy)]
 pub(crate) struct Words {
     pub names: [u64; 16],

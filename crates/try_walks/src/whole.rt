@@ -6,6 +6,7 @@ use std::io::Stdout;
 use trials::print;
 
 // The place of slot i, which is its number, and its state.
+// Form kept: try_damage has fill, hang and follow too; public ones would owe contracts and claims longer than they are.
 pub fn fill(cells: &mut [u32], i: u32, state: u32) {
     put(cells, i, PLACE, i);
     put(cells, i, STATE, state);

@@ -7,6 +7,7 @@ use night::why::why;
 use slots::{NULL, put_word, word};
 
 // A kind of damage has a line of so many counts: tried, sound, T1 by a slot, T1 by the header, T2 to T8, differences.
+// Form kept: the columns are numbers, since that of a rule is found from its number.
 pub const COLUMNS: usize = 12;
 
 const DIFFERENCES: u32 = 11;

@@ -7,6 +7,7 @@ use crate::ways::{is_even, parts, way_by};
 use slots::{FIRST, NULL, ROOT, word};
 
 // The number told, and the eight words of shown, of a rule that a slot shows, or the header.
+// Form kept: nine words, and a rule by its number, as section 13 of the rules has them; 99, no rule's number, counts as a difference.
 fn tells(rule: u32, slot: u32) -> [u32; 9] {
     [rule, slot, NULL, NULL, NULL, NULL, NULL, NULL, NULL]
 }

@@ -5,6 +5,38 @@ use std::io;
 use std::io::Stdout;
 use trials::print::{number, say};
 
+// The labels of the lines: the words, one at a time, and then two slots at a time.
+const LABELS: [&[u8]; 28] = [
+    b"as it is",
+    b"a name",
+    b"a place",
+    b"a state",
+    b"a parent",
+    b"a left link",
+    b"a right link",
+    b"a prev",
+    b"a next",
+    b"the root",
+    b"the first",
+    b"the count",
+    b"a size",
+    b"two parents exchanged",
+    b"two left links exchanged",
+    b"two right links exchanged",
+    b"two prevs exchanged",
+    b"two nexts exchanged",
+    b"two pairs exchanged",
+    b"two states exchanged",
+    b"two colours changed",
+    b"two sizes exchanged",
+    b"two parents for one slot",
+    b"the same child twice",
+    b"a ring beside the tree",
+    b"a ring beside the chain",
+    b"a slot hung elsewhere with all below it",
+    b"a slot moved in the chain",
+];
+
 // A column of a line.
 fn at(counts: &[u32], line: u32, column: u32) -> u32 {
     word(counts, line as usize * COLUMNS + column as usize, 0)
@@ -33,57 +65,9 @@ fn print(stdout: Stdout, label: &[u8], counts: &[u32], line: u32) -> io::Result<
     print_rest(stdout, counts, line)
 }
 
-// The words, one at a time.
-fn print_words(stdout: Stdout, counts: &[u32]) -> io::Result<()> {
-    print(stdout, b"as it is", counts, 0)?;
-    print(stdout, b"a name", counts, 1)?;
-    print(stdout, b"a place", counts, 2)?;
-    print(stdout, b"a state", counts, 3)?;
-    print(stdout, b"a parent", counts, 4)?;
-    print(stdout, b"a left link", counts, 5)?;
-    print(stdout, b"a right link", counts, 6)
-}
-
-fn print_others(stdout: Stdout, counts: &[u32]) -> io::Result<()> {
-    print(stdout, b"a prev", counts, 7)?;
-    print(stdout, b"a next", counts, 8)?;
-    print(stdout, b"the root", counts, 9)?;
-    print(stdout, b"the first", counts, 10)?;
-    print(stdout, b"the count", counts, 11)?;
-    print(stdout, b"a size", counts, 12)
-}
-
-// Two slots at a time.
-fn print_exchanged(stdout: Stdout, counts: &[u32]) -> io::Result<()> {
-    print(stdout, b"two parents exchanged", counts, 13)?;
-    print(stdout, b"two left links exchanged", counts, 14)?;
-    print(stdout, b"two right links exchanged", counts, 15)?;
-    print(stdout, b"two prevs exchanged", counts, 16)?;
-    print(stdout, b"two nexts exchanged", counts, 17)?;
-    print(stdout, b"two pairs exchanged", counts, 18)?;
-    print(stdout, b"two states exchanged", counts, 19)?;
-    print(stdout, b"two colours changed", counts, 20)
-}
-
-fn print_relinked(stdout: Stdout, counts: &[u32]) -> io::Result<()> {
-    print(stdout, b"two sizes exchanged", counts, 21)?;
-    print(stdout, b"two parents for one slot", counts, 22)?;
-    print(stdout, b"the same child twice", counts, 23)?;
-    print(stdout, b"a ring beside the tree", counts, 24)?;
-    print(stdout, b"a ring beside the chain", counts, 25)?;
-    print(
-        stdout,
-        b"a slot hung elsewhere with all below it",
-        counts,
-        26,
-    )?;
-    print(stdout, b"a slot moved in the chain", counts, 27)
-}
-
 pub fn report(stdout: Stdout, counts: &[u32]) -> io::Result<()> {
-    print_words(stdout, counts)?;
-    print_others(stdout, counts)?;
-    print_exchanged(stdout, counts)?;
-    print_relinked(stdout, counts)?;
+    for (line, label) in (0..).zip(LABELS) {
+        print(stdout, label, counts, line)?;
+    }
     print(stdout, b"all", counts, ALL)
 }

@@ -1,10 +1,11 @@
 // The rows that the finder writes out before it looks at them, and marks.
-use slots::{FREE, LEFT, NEXT, NULL, RIGHT, STATE, get, put_word, word};
+use slots::{FREE, LEFT, NEXT, NULL, RIGHT, STATE, get, put_word};
 
 // The most slots that a tree here has; a way that goes by more slots than that goes by one of them twice.
 pub const MOST: u32 = 7;
 
 // Slots one after the other, and how many there are.
+// Form kept: the room and how much of it is used stand in one value by the rule of no heap (nothing is allocated in the programs).
 #[derive(Clone, Copy)]
 pub struct Row {
     pub slots: [u32; 16],
@@ -94,25 +95,30 @@ pub fn each_once(cells: &[u32], n: u32, row: &[u32]) -> bool {
     true
 }
 
+// Whether slot i is marked.
+pub fn is_marked(marks: &[bool], i: u32) -> bool {
+    marks.get(i as usize) == Some(&true)
+}
+
 // Marks slot i if the field f names a marked slot there.
-fn mark_slot(cells: &[u32], f: u32, marks: &mut [u32], i: u32) {
+fn mark_slot(cells: &[u32], f: u32, marks: &mut [bool], i: u32) {
     let to = get(cells, i, f);
-    if word(marks, to as usize, 0) == 1 {
-        put_word(marks, i as usize, 1);
+    if is_marked(marks, to) {
+        put_word(marks, i as usize, true);
     }
 }
 
 // Marks each slot at which the field f names a marked one.
-fn mark_slots(cells: &[u32], f: u32, marks: &mut [u32]) {
+fn mark_slots(cells: &[u32], f: u32, marks: &mut [bool]) {
     for i in 0..MOST {
         mark_slot(cells, f, marks, i);
     }
 }
 
-// The slots from which the field f leads to slot x, each marked 1: a round marks what is one step further away.
-pub fn leading(cells: &[u32], f: u32, x: u32) -> [u32; 7] {
-    let mut marks = [0u32; 7];
-    put_word(&mut marks, x as usize, 1);
+// The slots from which the field f leads to slot x, each marked: a round marks what is one step further away.
+pub fn leading(cells: &[u32], f: u32, x: u32) -> [bool; 7] {
+    let mut marks = [false; 7];
+    put_word(&mut marks, x as usize, true);
     for _ in 0..MOST {
         mark_slots(cells, f, &mut marks);
     }

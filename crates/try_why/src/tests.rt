@@ -1,5 +1,5 @@
 // The rules as section 2 has them, and what shows each broken at a slot as section 13 has it.
-use crate::rows::{below, chain, each_once, is_used, leading, same, sum};
+use crate::rows::{below, chain, each_once, is_marked, is_used, leading, same, sum};
 use slots::{
     COUNT, FIRST, FREE, HASH, KEY, LEFT, NEXT, NULL, PARENT, PLACE, PREV, RED, RIGHT, ROOT, STATE,
     get, name, word,
@@ -113,8 +113,7 @@ fn has_twins(cells: &[u32], i: u32) -> bool {
 
 // From slot i the field f leads to slot x.
 fn leads(cells: &[u32], f: u32, x: u32, i: u32) -> bool {
-    let marks = leading(cells, f, x);
-    word(&marks, i as usize, 0) == 1
+    is_marked(&leading(cells, f, x), i)
 }
 
 // T3 at slot i, which is used.

@@ -17,7 +17,9 @@ fn key_of(x: u64) -> u64 {
     5 + x % 2 * 3
 }
 
-// Puts so many names in, by their numbers in an order.
+// Puts names in, by their numbers in an order.
+// Form kept: try_salvage has put_in and take_out too; public ones would owe contracts and claims longer than they are.
+// Form kept: the slices stand apart, as the library's calls take them; a struct of them would be taken apart again at each call.
 fn put_in(
     names: &mut [u64],
     cells: &mut [u32],
@@ -25,9 +27,8 @@ fn put_in(
     sizes: &mut [u32],
     lines: &mut [u64],
     order: &[u64],
-    used: u32,
 ) {
-    for (k, x) in (0..used).zip(order) {
+    for (k, x) in (0..).zip(order) {
         let _ = insert(names, cells, head, sizes, lines, hash_of(*x), key_of(*x), k);
     }
 }
@@ -70,8 +71,8 @@ fn damage(counts: &mut [u32], names: &mut [u64], words: &mut [u32], n: u32) {
     try_twos(counts, names, words, n);
 }
 
-// A tree of four slots with so many names in an order.
-fn try_four(counts: &mut [u32], order: &[u64], used: u32) {
+// A tree of four slots with names in an order.
+fn try_four(counts: &mut [u32], order: &[u64]) {
     let mut names = [0u64; 8];
     let mut cells = [0u32; 28];
     let mut head = [0u32; 3];
@@ -80,14 +81,14 @@ fn try_four(counts: &mut [u32], order: &[u64], used: u32) {
     let mut words = [0u32; 35];
     let _ = fresh(&mut names, &mut cells, &mut head, &mut sizes, &mut lines);
     put_in(
-        &mut names, &mut cells, &mut head, &mut sizes, &mut lines, order, used,
+        &mut names, &mut cells, &mut head, &mut sizes, &mut lines, order,
     );
     lay_all(&cells, &head, &sizes, &mut words);
     damage(counts, &mut names, &mut words, 4);
 }
 
-// A tree of seven slots with so many names in an order, less so many.
-fn try_seven(counts: &mut [u32], order: &[u64], used: u32, taken: u32) {
+// A tree of seven slots with names in an order, less so many.
+fn try_seven(counts: &mut [u32], order: &[u64], taken: u32) {
     let mut names = [0u64; 14];
     let mut cells = [0u32; 49];
     let mut head = [0u32; 3];
@@ -96,7 +97,7 @@ fn try_seven(counts: &mut [u32], order: &[u64], used: u32, taken: u32) {
     let mut words = [0u32; 59];
     let _ = fresh(&mut names, &mut cells, &mut head, &mut sizes, &mut lines);
     put_in(
-        &mut names, &mut cells, &mut head, &mut sizes, &mut lines, order, used,
+        &mut names, &mut cells, &mut head, &mut sizes, &mut lines, order,
     );
     take_out(
         &mut names, &mut cells, &mut head, &mut sizes, &mut lines, order, taken,
@@ -107,17 +108,19 @@ fn try_seven(counts: &mut [u32], order: &[u64], used: u32, taken: u32) {
 
 // No name, one, two, three and four in four slots.
 pub fn try_small(counts: &mut [u32]) {
-    for used in 0..5 {
-        try_four(counts, &[3, 5, 1, 6], used);
-    }
+    try_four(counts, &[]);
+    try_four(counts, &[3]);
+    try_four(counts, &[3, 5]);
+    try_four(counts, &[3, 5, 1]);
+    try_four(counts, &[3, 5, 1, 6]);
 }
 
 // In seven slots: five names; seven rising, falling and in another order; and five and four that are left of seven.
 pub fn try_large(counts: &mut [u32]) {
-    try_seven(counts, &[0, 1, 2, 3, 4], 5, 0);
-    try_seven(counts, &[0, 1, 2, 3, 4, 5, 6], 7, 0);
-    try_seven(counts, &[6, 5, 4, 3, 2, 1, 0], 7, 0);
-    try_seven(counts, &[3, 6, 0, 5, 2, 4, 1], 7, 0);
-    try_seven(counts, &[2, 4, 6, 1, 3, 5, 0], 7, 2);
-    try_seven(counts, &[5, 3, 1, 6, 4, 2, 0], 7, 3);
+    try_seven(counts, &[0, 1, 2, 3, 4], 0);
+    try_seven(counts, &[0, 1, 2, 3, 4, 5, 6], 0);
+    try_seven(counts, &[6, 5, 4, 3, 2, 1, 0], 0);
+    try_seven(counts, &[3, 6, 0, 5, 2, 4, 1], 0);
+    try_seven(counts, &[2, 4, 6, 1, 3, 5, 0], 2);
+    try_seven(counts, &[5, 3, 1, 6, 4, 2, 0], 3);
 }

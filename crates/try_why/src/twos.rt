@@ -5,34 +5,32 @@ use slots::{
     put_word, word,
 };
 
-// The line of the first way, behind those of the words.
-const FIRST_LINE: u32 = 13;
+// The lines of the ways, behind those of the words: first the links exchanged, each with a line of its own.
+// Form kept: numbers, since a line is a place in the table of counts, and those of the links are found from the numbers of the fields.
+const LINKS: u32 = 13;
 
-// How many ways there are.
-const WAYS: u32 = 15;
+const PAIRS: u32 = 18;
 
-// The ways, by their number. The first five exchange a link each, and the last moves a slot in the chain.
-const LINKS: u32 = 5;
+const STATES: u32 = 19;
 
-const PAIRS: u32 = 5;
+const COLOURS: u32 = 20;
 
-const STATES: u32 = 6;
+const SIZES: u32 = 21;
 
-const COLOURS: u32 = 7;
+const PARENTS: u32 = 22;
 
-const SIZES: u32 = 8;
+const TWINS: u32 = 23;
 
-const PARENTS: u32 = 9;
+const TREE_RING: u32 = 24;
 
-const TWINS: u32 = 10;
+const CHAIN_RING: u32 = 25;
 
-const TREE_RING: u32 = 11;
+const SUBTREE: u32 = 26;
 
-const CHAIN_RING: u32 = 12;
-
-const SUBTREE: u32 = 13;
+const CHAIN: u32 = 27;
 
 // Words a and b are exchanged.
+// Form kept: try_damage has this and others of the routines below too; public ones would owe contracts and claims longer than they are.
 fn swap_words(words: &mut [u32], a: usize, b: usize) {
     let own = word(words, a, NULL);
     let other = word(words, b, NULL);
@@ -55,14 +53,6 @@ fn swap_names(names: &mut [u64], i: u32, j: u32, f: u32) {
     let other = name(names, j, f);
     put_name(names, i, f, other);
     put_name(names, j, f, own);
-}
-
-// Slots i and j exchange their pairs, where that is the way.
-fn swap_pairs(names: &mut [u64], i: u32, j: u32, way: u32) {
-    if way == PAIRS {
-        swap_names(names, i, j, HASH);
-        swap_names(names, i, j, KEY);
-    }
 }
 
 // Slot i changes its colour; a free slot has none.
@@ -151,110 +141,92 @@ fn ring_beside_chain(words: &mut [u32], n: u32, i: u32, j: u32) {
     follow(words, j, i);
 }
 
-// The ways that link slots i and j otherwise.
-fn relink(words: &mut [u32], n: u32, i: u32, j: u32, way: u32) {
-    match way {
-        PARENTS => {
-            hang(words, i, j, LEFT);
-        }
-        TWINS => {
-            hang(words, i, j, LEFT);
-            hang(words, i, j, RIGHT);
-        }
-        TREE_RING => {
-            ring_beside_tree(words, i, j);
-        }
-        CHAIN_RING => {
-            ring_beside_chain(words, n, i, j);
-        }
-        SUBTREE => {
-            unhang(words, i);
-            hang_below(words, i, j);
-        }
-        _ => {
-            unchain(words, n, i);
-            chain_behind(words, i, j);
-        }
-    }
-}
-
-// Damages slots i and j of n in a way, but for their pairs.
-fn twist(words: &mut [u32], n: u32, i: u32, j: u32, way: u32) {
-    if way < LINKS {
-        swap_fields(words, i, j, PARENT + way);
-        return;
-    }
-    match way {
-        PAIRS => {}
-        STATES => {
-            swap_fields(words, i, j, STATE);
-        }
-        COLOURS => {
-            turn(words, i);
-            turn(words, j);
-        }
-        SIZES => {
-            let begin = 7 * n as usize + 3;
-            swap_words(words, begin + i as usize, begin + j as usize);
-        }
-        _ => {
-            relink(words, n, i, j, way);
-        }
-    }
-}
-
 // Writes words over as many others.
-fn copy(from: &[u32], to: &mut [u32]) {
+// Form kept: try_salvage has these lines too; a public routine would owe a contract and a claim longer than it is.
+fn copy<T: Copy>(from: &[T], to: &mut [T]) {
     for (to, from) in to.iter_mut().zip(from) {
         *to = *from;
     }
 }
 
-// Damages slots i and j in a way, asks, and restores all words. A slot is not damaged with itself.
-fn try_two(
+// Every two slots, in both orders, damaged in a way, asked, and restored. A slot is not damaged with itself.
+fn try_way<Damage: Fn(&mut [u64], &mut [u32], u32, u32)>(
     counts: &mut [u32],
     names: &mut [u64],
     words: &mut [u32],
     n: u32,
-    i: u32,
-    j: u32,
-    way: u32,
-) {
-    if i == j {
-        return;
-    }
-    let mut kept = [NULL; 59];
-    copy(words, &mut kept);
-    twist(words, n, i, j, way);
-    swap_pairs(names, i, j, way);
-    ask(
-        counts,
-        std::num::wrapping_add_u32(FIRST_LINE, way),
-        names,
-        words,
-        n,
-    );
-    copy(&kept, words);
-    swap_pairs(names, i, j, way);
-}
-
-// Damages slot i with every other in a way.
-fn try_with(counts: &mut [u32], names: &mut [u64], words: &mut [u32], n: u32, i: u32, way: u32) {
-    for j in 0..n {
-        try_two(counts, names, words, n, i, j, way);
-    }
-}
-
-// Every two slots, in both orders, damaged in a way.
-fn try_way(counts: &mut [u32], names: &mut [u64], words: &mut [u32], n: u32, way: u32) {
+    line: u32,
+    damage: Damage,
+)
+    requires { Damage.IsAlwaysCallable damage }
+{
+    let mut kept_names = [0u64; 14];
+    let mut kept_words = [NULL; 59];
+    copy(names, &mut kept_names);
+    copy(words, &mut kept_words);
     for i in 0..n {
-        try_with(counts, names, words, n, i, way);
+        for j in 0..n {
+            if i != j {
+                damage(names, words, i, j);
+                ask(counts, line, names, words, n);
+                copy(&kept_names, names);
+                copy(&kept_words, words);
+            }
+        }
     }
+}
+
+// Fields exchanged, pairs exchanged, and colours changed.
+fn try_fields(counts: &mut [u32], names: &mut [u64], words: &mut [u32], n: u32) {
+    for (line, f) in (LINKS..).zip(PARENT..=NEXT) {
+        try_way(counts, names, words, n, line, |_, words, i, j| {
+            swap_fields(words, i, j, f)
+        });
+    }
+    try_way(counts, names, words, n, PAIRS, |names, _, i, j| {
+        swap_names(names, i, j, HASH);
+        swap_names(names, i, j, KEY);
+    });
+    try_way(counts, names, words, n, STATES, |_, words, i, j| {
+        swap_fields(words, i, j, STATE)
+    });
+    try_way(counts, names, words, n, COLOURS, |_, words, i, j| {
+        turn(words, i);
+        turn(words, j);
+    });
+    try_way(counts, names, words, n, SIZES, |_, words, i, j| {
+        let begin = 7 * n as usize + 3;
+        swap_words(words, begin + i as usize, begin + j as usize);
+    });
+}
+
+// Slots linked otherwise.
+fn try_links(counts: &mut [u32], names: &mut [u64], words: &mut [u32], n: u32) {
+    try_way(counts, names, words, n, PARENTS, |_, words, i, j| {
+        hang(words, i, j, LEFT)
+    });
+    try_way(counts, names, words, n, TWINS, |_, words, i, j| {
+        hang(words, i, j, LEFT);
+        hang(words, i, j, RIGHT);
+    });
+    try_way(counts, names, words, n, TREE_RING, |_, words, i, j| {
+        ring_beside_tree(words, i, j)
+    });
+    try_way(counts, names, words, n, CHAIN_RING, |_, words, i, j| {
+        ring_beside_chain(words, n, i, j)
+    });
+    try_way(counts, names, words, n, SUBTREE, |_, words, i, j| {
+        unhang(words, i);
+        hang_below(words, i, j);
+    });
+    try_way(counts, names, words, n, CHAIN, |_, words, i, j| {
+        unchain(words, n, i);
+        chain_behind(words, i, j);
+    });
 }
 
 // Every two slots damaged in each way.
 pub fn try_twos(counts: &mut [u32], names: &mut [u64], words: &mut [u32], n: u32) {
-    for way in 0..WAYS {
-        try_way(counts, names, words, n, way);
-    }
+    try_fields(counts, names, words, n);
+    try_links(counts, names, words, n);
 }

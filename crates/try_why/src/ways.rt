@@ -47,6 +47,7 @@ enum Going {
 
 // A way as far as it has been gone: the link where it is, the sides to go on by as the bits of a number, the last slot and the side that it
 // was left by, the black slots met, and whether it goes as it should.
+// Form kept: a side is 0 or 1, since it is added to the field LEFT, and is one of the words that are told.
 #[derive(Clone, Copy)]
 struct Trail {
     at: u32,

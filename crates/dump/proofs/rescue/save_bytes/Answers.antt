@@ -6,14 +6,14 @@ use Rattle.dump.proofs.rescue.save_bytes.Goals as goal
 
 pub save_dump-requires : goal.save_dump-requires
 save_dump-requires c =
-    let w = whole_is _ (sym c.in-Whole.ensures) in (w.most, w.lined)
+    let w = whole_is _ (sym c.in-Ok.ensures) in (w.most, w.lined)
 
-pub returns-in-Whole : goal.returns-in-Whole
-returns-in-Whole c =
+pub returns-in-Ok : goal.returns-in-Ok
+returns-in-Ok c =
     let told = c.save_dump.ensures in
-    rescued_dump _ _ _ c.in-Whole.ensures told.0 told.1
+    rescued_dump _ _ _ c.in-Ok.ensures told.0 told.1
 
-pub returns-in_default : goal.returns-in_default
-returns-in_default c =
+pub returns-in-Err : goal.returns-in-Err
+returns-in-Err c =
     let told = c.save_none.ensures in
-    rescued_none _ _ _ c.gauge.ensures (no_dump c.gauge.result c.in_default.not-Whole) told.0 told.1
+    rescued_none _ _ _ c.in-Err.ensures (no_dump _) told.0 told.1

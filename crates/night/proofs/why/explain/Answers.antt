@@ -10,8 +10,8 @@ unfolding sought shows_rule
 returns-then-not-rule1 c =
     let a = c.args in
     let t = lent_tree a.names.now a.cells.now a.head.now a.sizes.now in
-    let e = c.lowest-i.ensures (shows1 t) (λ i l b p. search rules) in
-    rw (← c.rule1.ensures a.sizes.now, c.if-not-rule1.true, ← e)
+    let e = c.lowest-i.ensures.lowest (shows1 t) (λ i l b p. search rules) in
+    rw (← c.rule1.ensures a.sizes.now, c.if-not-rule1.true, ← e, ← c.unwrap_or.ensures)
     c.tells_slot.ensures
 
 pub returns-then-not-rule2 : goal.returns-then-not-rule2

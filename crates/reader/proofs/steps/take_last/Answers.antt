@@ -15,15 +15,15 @@ returns-in-Ok c =
       ready = c.enter-entered.ensures.ready;
     }
 
-pub returns-then-entered : goal.returns-then-entered
-returns-then-entered c =
+pub returns-in-Some : goal.returns-in-Some
+returns-in-Some c =
     step_down
     (last_refused _ _ _ c.name_byte-key.ensures c.enter-entered.ensures.same (insert_refused c.in-Err.is)
     (c.into.ensures ∙ ap inserted_of (sym c.in-Err.is)) c.turn_down-reader.ensures)
 
-pub returns-else-entered : goal.returns-else-entered
-returns-else-entered c =
-    let d = c.enter-entered.ensures.denied c.if-entered.false in
+pub returns-in-None : goal.returns-in-None
+returns-in-None c =
+    let d = c.enter-entered.ensures.denied c.in-None.is in
     step_down
     (last_denied _ _ _ c.name_byte-key.ensures c.enter-entered.ensures.same d.0 d.1
-    (c.into-else-entered.ensures ∙ ap inserted_of (sym c.in-Err.is)) c.noting-reader.ensures)
+    (c.into-in-None.ensures ∙ ap inserted_of (sym c.in-Err.is)) c.noting-reader.ensures)

@@ -4,12 +4,6 @@ use Rattle.sets.specs.Bins.{bin_as}
 use Rattle.tally.proofs.Counting.{bin-empty, bin_moved, bin_bad, bin_list, bin_tree}
 use Rattle.tally.proofs.add.add_bin.Goals as goal
 
-pub add_to-requires : goal.add_to-requires
-add_to-requires c = c.requires _
-
-pub add_to-requires-in-Tree : goal.add_to-requires-in-Tree
-add_to-requires-in-Tree c = c.requires _
-
 pub returns-in-Empty : goal.returns-in-Empty
 returns-in-Empty c = bin-empty c.args.totals.now (ap bin_as c.in-Empty.is)
 

@@ -9,4 +9,4 @@ abbrev pub invariant-loop-b : goal.invariant-loop-b
 invariant-loop-b l =
     Turn (session (words_of l.initial.at.reader)
     (lent l.initial.names l.initial.cells l.initial.head l.initial.sizes l.initial.lines)) l.chunk
-    (words_of l.at.reader) l.at.checked l.at.floor (lent l.names l.cells l.head l.sizes l.lines) l.b-index
+    (words_of l.at.reader) l.at.floor (lent l.names l.cells l.head l.sizes l.lines) l.b-index
