@@ -123,7 +123,12 @@ pub fn after_call(x: &Words, source: Source, k: u32, said: usize) -> (Words, Res
 }
 
 // After n calls, of which each is the one that its turn says, and whether each answers as is expected of a list.
-pub fn after_many<F: Fn(u32) -> u32>(x: &Words, source: Source, which: F, n: u32) -> (Words, bool)
+pub(crate) fn after_many<F: Fn(u32) -> u32>(
+    x: &Words,
+    source: Source,
+    which: F,
+    n: u32,
+) -> (Words, bool)
     requires { F.IsAlwaysCallable which }
 {
     let mut out = text_room();

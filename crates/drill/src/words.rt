@@ -40,7 +40,7 @@ fn lend<T>(words: &mut [T], n: usize) -> &mut [T] {
 }
 
 // What is left of an index after a step on its slices, and what came of the step.
-pub fn after<R, F>(x: &Words, step: F) -> (Words, R)
+pub(crate) fn after<R, F>(x: &Words, step: F) -> (Words, R)
 where
     F: FnOnce(&mut [u64], &mut [u32], &mut [u32], &mut [u32], &mut [u64]) -> R,
     requires { F.IsAlwaysCallable step }

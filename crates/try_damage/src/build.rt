@@ -90,7 +90,7 @@ fn covers(p: u32, q: u32) -> bool {
 
 // How many slots, or positions, are such.
 // Form kept: try_limits has the same few lines; a public routine for both, with a clause that says the count of a closure, is no plainer.
-pub fn count<F: Fn(u32) -> bool>(is_such: F) -> u32
+pub(crate) fn count<F: Fn(u32) -> bool>(is_such: F) -> u32
     requires { F.IsAlwaysCallable is_such }
     ensures { result ≤ 64 }
 {

@@ -11,7 +11,7 @@ use tree::find::Found;
 
 // How many of the first n are as they have to be.
 // Form kept: try_damage has the same few lines; a public routine for both, with a clause that says the count of a closure, is no plainer.
-pub fn count<F: Fn(u32) -> bool>(n: u32, is_right: F) -> u32
+pub(crate) fn count<F: Fn(u32) -> bool>(n: u32, is_right: F) -> u32
     requires { F.IsAlwaysCallable is_right }
     ensures { result ≤ n }
 {

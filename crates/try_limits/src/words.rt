@@ -70,7 +70,7 @@ fn told(x: &mut Words, call: Call) -> Answer {
 }
 
 // Makes n calls, each with a journal that is emptied where it is full: how many were accepted.
-pub fn many<F: Fn(u32) -> Call>(x: &mut Words, n: u32, nth: F) -> u32
+pub(crate) fn many<F: Fn(u32) -> Call>(x: &mut Words, n: u32, nth: F) -> u32
     requires { F.IsAlwaysCallable nth }
 {
     let mut accepted: u32 = 0;
