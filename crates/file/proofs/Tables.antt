@@ -143,17 +143,17 @@ unfolding begun_long
 begun_some s zero n e = absurd (n refl)
 begun_some s (suc j) n e = let z : suc j - 1 ≡ j = omega arith in ap (λ (k : ℕ). 4 + k) (e ∙ ap (words_long s) z)
 
--- Up to seven bytes are below 2 to the power 64.
-pub power_fits : (k : ℕ) → k ≤ 7 → 256 ^ k < 18446744073709551616
-power_fits zero l = omega arith
-power_fits (suc zero) l = omega arith
-power_fits (suc (suc zero)) l = omega arith
-power_fits (suc (suc (suc zero))) l = omega arith
-power_fits (suc (suc (suc (suc zero)))) l = omega arith
-power_fits (suc (suc (suc (suc (suc zero))))) l = omega arith
-power_fits (suc (suc (suc (suc (suc (suc zero)))))) l = omega arith
-power_fits (suc (suc (suc (suc (suc (suc (suc zero))))))) l = omega arith
-power_fits (suc (suc (suc (suc (suc (suc (suc (suc k)))))))) l = absurd (omega arith)
+-- A power of 256 is a shift by so many bytes, of which none is lost.
+pub power_shifted : (k : ℕ) → k ≤ 7 → (1 * 2 ^ (8 * k)) % 18446744073709551616 ≡ 256 ^ k
+power_shifted zero l = refl
+power_shifted (suc zero) l = refl
+power_shifted (suc (suc zero)) l = refl
+power_shifted (suc (suc (suc zero))) l = refl
+power_shifted (suc (suc (suc (suc zero)))) l = refl
+power_shifted (suc (suc (suc (suc (suc zero))))) l = refl
+power_shifted (suc (suc (suc (suc (suc (suc zero)))))) l = refl
+power_shifted (suc (suc (suc (suc (suc (suc (suc zero))))))) l = refl
+power_shifted (suc (suc (suc (suc (suc (suc (suc (suc k)))))))) l = absurd (omega arith)
 
 -- How many counts have come, and whether one is in its range.
 module _ (r : Loader) where

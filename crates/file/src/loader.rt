@@ -88,12 +88,12 @@ pub(crate) fn next_width(s: u64, f: u64) -> u64
 }
 
 // 256 to the power k.
-#[tactic(auto, using(crate::proofs::Tables::power_fits))]
+#[tactic(auto, using(crate::proofs::Tables::power_shifted))]
 pub(crate) fn power(k: u64) -> u64
     requires { k ≤ 7 }
     ensures { result ≡ 256 ^ k }
 {
-    256u64.pow(k as u32)
+    1 << (8 * k)
 }
 
 // How many counts have come.

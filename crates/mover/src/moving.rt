@@ -12,7 +12,7 @@ use crate::headers::header_for;
 use crate::laying::{lay, take_bin};
 use sets::accept::accept;
 use sets::bin::{MOVED, bin_word};
-use sets::fit::length_at;
+use sets::fit::{fit_set, length_at};
 use slots::answer::{Answer, Answers, Unfit, refused};
 
 // What refuses a move.
@@ -216,10 +216,14 @@ pub fn move_bin(
         ≡ moves
         (lent_set lengths.now bins.old heads.old names.now cells.old) table bin }
 {
-    let accepted = accept(lengths, bins, heads, names, cells)?;
+    let fit = fit_set(lengths, bins, heads, names, cells);
+    if !fit {
+        return Err(MoveRefusal::Unfit);
+    }
     if lengths.len() <= table as usize {
         return Err(MoveRefusal::Unknown);
     }
+    let accepted = accept(lengths, bins, heads, names, cells)?;
     if !accepted {
         return Err(MoveRefusal::Damaged);
     }

@@ -55,6 +55,10 @@ module _ (s : Set) (t hash key : ℕ) where
   unfolding lookups_fit
   many_tables l = simp (lt-leb (tables_of s) 8 l)
 
+  pub no_table : tables_of s ≤ 8 → tables_of s ≤ t → with_looks 0 (refused 9) ≡ counted (lookups_fit s t hash key)
+  unfolding lookups_fit
+  no_table l m = simp (le-leb (tables_of s) 8 l, past_last s hash key t m)
+
   pub looped : tables_of s ≤ 8 → {a : Counted} → a ≡ counted (forwarded (tables_of s - t) s t hash key)
       → a ≡ counted (lookups_fit s t hash key)
   unfolding lookups_fit

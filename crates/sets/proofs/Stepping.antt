@@ -59,6 +59,7 @@ pub stepping : Stepping
 stepping =
     record {
       started_one_to_one = told_apart started_of (λ a. started_back tt a.number) started_back_lem;
+      start_one_to_one = told_apart start_of start_back start_back_lem;
       blank_one = λ a b p q. cursor_one_to_one a b (p ∙ sym q);
       start_one = λ s t a b p q. told_apart start_of start_back start_back_lem a b (p ∙ sym q);
       given_one_to_one = told_apart given_of (λ a. given_back a.number a.value) given_back_lem;

@@ -69,7 +69,7 @@ fn search(
     hash: u64,
     key: u64,
 ) -> Found<usize>
-    requires { length lengths.now ≤ 8 }
+    requires { (length lengths.now ≤ 8) × (table < length lengths.now) }
     ensures { searched_of result
         ≡ countedLooks (forwarded (length lengths.now - table)
         (lent_set lengths.now bins.now heads.now names.now
@@ -95,7 +95,8 @@ fn search(
     Found::Lost(0)
 }
 
-// The loop alone, for slices that are known to fit: nothing is asked of their lengths but that there are at most eight tables.
+// The loop alone, for slices that are known to fit: nothing is asked of their lengths but that there are at most eight tables, and
+// the one to begin with.
 pub fn lookup_fit(
     lengths: &[u32],
     bins: &[u32],
@@ -111,6 +112,9 @@ pub fn lookup_fit(
         cells.now) table hash key) }
 {
     if 8 < lengths.len() {
+        return Found::Lost(0);
+    }
+    if lengths.len() <= table as usize {
         return Found::Lost(0);
     }
     search(lengths, bins, heads, names, cells, table, hash, key)

@@ -5,8 +5,7 @@ use crate::sample::{
     put_byte, put_pair, short, there, twice, wrong_kind,
 };
 use crate::words::{Upload, begun, chunk, ended, inserted, same, started, told, with_name};
-use reader::reply::Reply;
-use slots::answer::{Answers, answer_word};
+use slots::answer::answer_word;
 use std::io;
 use std::io::Stdout;
 use trials::part::first;
@@ -22,9 +21,9 @@ struct Seen {
 // The key of the planted name.
 const PLANTED: u64 = 10;
 
-// 1 where the last call answered otherwise.
-fn other_than(wanted: Reply, x: Upload) -> u32 {
-    one(answer_word(told(x)) != answer_word(wanted.answer()))
+// 1 where the last call did not answer the word.
+fn other_than(word: u64, x: Upload) -> u32 {
+    one(answer_word(told(x)) != word)
 }
 
 // The index of so many slots and lines with the name of the start, and the first entries by plain inserts.
@@ -42,7 +41,7 @@ fn is_left(x: Upload, trial: Trial) -> bool {
     same(x, entered(trial.slots, trial.lines, trial.stay))
 }
 
-// The end call and a chunk after it: how many answer otherwise. 1 more where the index is left another than it has to be.
+// The end call and a chunk after it: how many do not answer the word. 1 more where the index is left another than it has to be.
 fn wrong_after(x: Upload, trial: Trial) -> u32 {
     let end = ended(x);
     let later = chunk(end, b"\x01");

@@ -1,6 +1,6 @@
 // A sample upload, with sections of 2, 1, 0 and 3 entries, and its trials: how it is changed, and what has to come of it.
 use crate::cuts::more;
-use reader::reply::{ReadRefusal, Reply};
+use slots::answer::packed;
 
 // The bytes of the sample, and with four more.
 pub(crate) const LENGTH: usize = 108;
@@ -124,17 +124,17 @@ pub(crate) struct Trial {
     pub length: usize, // so many bytes are read
     pub slots: u32, // into an index of so many slots and lines
     pub lines: u32,
-    pub at: usize, // from this byte on, and by the end call, this is answered
-    pub told: Reply,
+    pub at: usize, // from this byte on, and by the end call, it is answered this word
+    pub told: u64,
     pub stay: u32, // so many entries stay
 }
 
 // What is told once so many bytes have come: up to the byte at, the entries taken.
-pub(crate) fn due(trial: Trial, count: usize) -> Reply {
+pub(crate) fn due(trial: Trial, count: usize) -> u64 {
     if trial.at < count {
         return trial.told;
     }
-    Ok(whole_within(count))
+    whole_within(count) as u64
 }
 
 // The sample as it is.
@@ -148,36 +148,36 @@ pub(crate) fn accepted() -> Trial {
         slots: MOST,
         lines: MOST,
         at: LENGTH,
-        told: Ok(6),
+        told: 6,
         stay: 6,
     }
 }
 
 // It is refused at a byte.
-fn refused_at(at: usize, refusal: ReadRefusal) -> Trial {
+// Form kept: the number of each refusal is written here, so that the library's answers are held against it.
+fn refused_at(at: usize, number: u32, value: u32) -> Trial {
     Trial {
         at,
-        told: Err(refusal),
+        told: packed(number, value),
         stay: 0,
         ..accepted()
     }
 }
 
 // It is refused at an entry's last byte.
-fn refused_in(entry: u32, refusal: ReadRefusal) -> Trial {
+fn refused_in(entry: u32, number: u32, value: u32) -> Trial {
     let at = more(place_of(entry), REST);
-    refused_at(at as usize, refusal)
+    refused_at(at as usize, number, value)
 }
 
 // An entry gets the pair of another: 3 at the later of the two, with the slot of the other.
 pub(crate) fn twice(k: u32) -> Trial {
     let entry = k / 5 % 6;
     let other = (entry + 1 + k % 5) % 6;
-    let present = ReadRefusal::Present(more(entry.min(other), 1));
     Trial {
         entry,
         slot: other + 1,
-        ..refused_in(entry.max(other), present)
+        ..refused_in(entry.max(other), 3, more(entry.min(other), 1))
     }
 }
 
@@ -186,7 +186,7 @@ pub(crate) fn there(entry: u32) -> Trial {
     Trial {
         entry,
         slot: 0,
-        ..refused_in(entry, ReadRefusal::Present(0))
+        ..refused_in(entry, 3, 0)
     }
 }
 
@@ -194,7 +194,7 @@ pub(crate) fn there(entry: u32) -> Trial {
 pub(crate) fn full(entry: u32) -> Trial {
     Trial {
         slots: more(entry, 1),
-        ..refused_in(entry, ReadRefusal::Full)
+        ..refused_in(entry, 5, 0)
     }
 }
 
@@ -202,7 +202,7 @@ pub(crate) fn full(entry: u32) -> Trial {
 pub(crate) fn journal_full(entry: u32) -> Trial {
     Trial {
         lines: more(entry, 1),
-        ..refused_in(entry, ReadRefusal::JournalFull)
+        ..refused_in(entry, 6, 0)
     }
 }
 
@@ -210,7 +210,7 @@ pub(crate) fn journal_full(entry: u32) -> Trial {
 pub(crate) fn short(length: u32) -> Trial {
     Trial {
         length: length as usize,
-        ..refused_at(length as usize, ReadRefusal::Short)
+        ..refused_at(length as usize, 12, 0)
     }
 }
 
@@ -220,7 +220,7 @@ pub(crate) fn long(k: u32) -> Trial {
         spot: LENGTH as u32,
         byte: (k % 256) as u8,
         length: LENGTH + 1 + (k % 4) as usize,
-        ..refused_at(LENGTH, ReadRefusal::Long)
+        ..refused_at(LENGTH, 13, 0)
     }
 }
 
@@ -231,6 +231,6 @@ pub(crate) fn wrong_kind(k: u32) -> Trial {
     Trial {
         spot,
         byte: ((kind + 1 + k % 255) % 256) as u8,
-        ..refused_at(spot as usize, ReadRefusal::WrongKind)
+        ..refused_at(spot as usize, 18, 0)
     }
 }

@@ -19,7 +19,7 @@ returns-then-lengths-table c =
 
 pub search-found-requires : goal.search-found-requires
 search-found-requires c =
-    fits_few _ (sym c.fit_set-fits.ensures ∙ not-false c.fit_set-fits.result c.if-not-fits.false-raw)
+    (fits_few _ (sym c.fit_set-fits.ensures ∙ not-false c.fit_set-fits.result c.if-not-fits.false-raw), c.if-lengths-table.false)
 
 pub returns : goal.returns
 returns c =
